@@ -1,0 +1,11 @@
+pub mod Basics
+pub mod Terms
+pub mod Places
+pub mod Format
+pub mod Tables
+pub mod Active
+pub mod Moves
+pub mod Step
+pub mod Load
+pub mod Run
+pub mod Papers

@@ -1,0 +1,276 @@
+-- The six moves (01, Moves): what each asks, with refusals 11 to 18 in their order, and the successor.
+-- Names of the calculus stand for the paper's: kill (stop fires), communicate (meeting), timeout (expiry), elapse (time), unfold (unfolding), extrude (floating).
+use mathlib.Core.Bool.{Bool, true, false, cond, not, _&&_, _||_}
+use mathlib.Core.List.{List, [], _∷_, map}
+use mathlib.Core.Option.{Option, none, some}
+use Prim.Native.Nat.{ℕ, zero, suc, _-_}
+use lib.Dec.{ltb, eqb}
+use lib.ListN.{length, getElem?}
+use Rattle.cows.specs.Basics.{any, every, member, holds, found, only, placeIf, Result, refuse, accept, _>>=_, _>>_, forbid, need}
+use Rattle.cows.specs.Terms.{Basic, nil, kill, invoke, Prefix, receive, wait, protection, delimitation, replication, Join, choice, parallel, Term, leaf, under, both, Ends, value, variable, label, size, atoms, binders, kills, invokes, prefixed, receives, waits, delimits, replicates, delimitsAtom, below}
+use Rattle.cows.specs.Places.{Frame, inside, leftOf, rightOf, plug, Way, fill, Spot, wayTo, sub, first, encloses, frameDelimits, enclosed, frameChooses}
+use Rattle.cows.specs.Active.{passesLive, live, ready, wanted}
+
+-- Kill. Halting (001) makes nil of kills, invokes and whole choices, receives and waits; it goes down both sides of a parallel,
+-- through each delimitation and each replication, and keeps a protection whole.
+unfoldable pub haltUnder : Prefix → Term → Term → Term
+haltUnder (receive p o ws) t h = leaf nil
+haltUnder (wait n) t h = leaf nil
+haltUnder protection t h = under protection t
+haltUnder (delimitation d) t h = under (delimitation d) h
+haltUnder replication t h = under replication h
+
+unfoldable pub haltBoth : Join → Term → Term → Term
+haltBoth choice s t = leaf nil
+haltBoth parallel s t = both parallel s t
+
+unfoldable pub halt : Term → Term
+halt (leaf x) = leaf nil
+halt (under u t) = haltUnder u t (halt t)
+halt (both j s t) = haltBoth j (halt s) (halt t)
+
+-- at a parallel on the way, the other side is halted
+unfoldable pub haltBeside : Frame → Frame
+haltBeside (inside u) = inside u
+haltBeside (leftOf choice t) = leftOf choice t
+haltBeside (leftOf parallel t) = leftOf parallel (halt t)
+haltBeside (rightOf choice s) = rightOf choice s
+haltBeside (rightOf parallel s) = rightOf parallel (halt s)
+
+-- the same at each record of the way that stands inside [k]
+unfoldable pub haltInside : ℕ → Way → Way
+haltInside k [] = []
+haltInside k (f ∷ w) = cond (frameDelimits k f) (f ∷ w) (haltBeside f ∷ haltInside k w)
+
+-- The kill at place a becomes nil, and inside [k] what is parallel to it is halted.
+unfoldable pub afterKill : ℕ → Term → ℕ → Term
+afterKill k t a = fill (haltInside k (wayTo t a)) (leaf nil)
+
+unfoldable pub killAt : Term → ℕ → Result Term
+killAt t a = do
+  k ← wanted kills t a
+  accept (afterKill k t a)
+
+-- Communicate. A substitution is pairs of a variable and the value that it takes.
+abbrev pub Substitution : Type 0
+Substitution = List (ℕ × ℕ)
+
+-- What matching says: the tuples match and bind these variables, or something differs.
+pub data Matching : Type 0 where
+  binds : Substitution → Matching
+  differs : Matching
+
+-- a variable takes the value at its place; a value equals it
+unfoldable pub extend : ℕ → ℕ → Matching → Matching
+extend w v differs = differs
+extend w v (binds σ) = cond (variable w) (binds ((w, v) ∷ σ)) (cond (eqb w v) (binds σ) differs)
+
+unfoldable pub match : List ℕ → List ℕ → Matching
+match [] [] = binds []
+match [] (v ∷ vs) = differs
+match (w ∷ ws) [] = differs
+match (w ∷ ws) (v ∷ vs) = extend w v (match ws vs)
+
+-- The receive r fits the invoke m: m holds no variable, endpoints are equal, and so are the tuples' counts and values.
+unfoldable pub closedEnds : Ends → Bool
+closedEnds m = not (any variable (m .partner ∷ m .operation ∷ m .tuple))
+
+unfoldable pub fit : Ends → Ends → Matching
+fit r m =
+    cond (closedEnds m && eqb (r .partner) (m .partner) && eqb (r .operation) (m .operation))
+    (match (r .tuple) (m .tuple)) differs
+
+-- 12: endpoint, count, value or unset variable.
+unfoldable pub matched : ℕ → Matching → Result Substitution
+matched a (binds σ) = accept σ
+matched a differs = refuse 12 a
+
+-- 13: the delimitation of a variable encloses both parties, and that of its value, if there is one, the variable's.
+-- (A delimitation of x that stands outside every one of v.)
+unfoldable pub outside : ℕ → ℕ → ℕ → Spot → Bool
+outside v x n z = holds (eqb x) (prefixed delimits (z .here)) && not (enclosed v (z .way))
+
+unfoldable pub inScope : Term → ℕ → ℕ → (ℕ × ℕ) → Bool
+inScope t a b p =
+    enclosed (p .0) (wayTo t a) && enclosed (p .0) (wayTo t b)
+    && (not (member (p .1) (binders t)) || not (found (first (outside (p .1) (p .0)) t)))
+
+-- 14: a [k] that encloses either party and holds a ready kill of k.
+unfoldable pub readyKill : ℕ → ℕ → Spot → Bool
+readyKill k n z = ready (z .way) && holds (eqb k) (kills (z .here))
+
+unfoldable pub heldBack : ℕ → ℕ → ℕ → Spot → Bool
+heldBack a b n z =
+    (encloses n (z .here) a || encloses n (z .here) b)
+    && holds (λ k. found (first (readyKill k) (z .here))) (prefixed delimits (z .here))
+
+-- 15: a ready receive that fits the same invoke and has fewer pattern variables.
+unfoldable pub fewer : ℕ → Matching → Bool
+fewer l (binds σ) = ltb (length σ) l
+fewer l differs = false
+
+unfoldable pub tighter : Ends → ℕ → ℕ → Spot → Bool
+tighter m l n z = ready (z .way) && holds (λ r. fewer l (fit r m)) (prefixed receives (z .here))
+
+-- the record at place b becomes nil; the one at place a, with the whole choice around it, becomes its continuation
+unfoldable pub silence : Term → ℕ → Term
+silence t b = fill (wayTo t b) (leaf nil)
+
+unfoldable pub aroundChoice : Way → Way
+aroundChoice [] = []
+aroundChoice (f ∷ w) = cond (frameChooses f) (aroundChoice w) (f ∷ w)
+
+unfoldable pub continue : Term → ℕ → Term
+continue t a = fill (aroundChoice (wayTo t a)) (below (sub t a))
+
+-- f of every atom
+unfoldable pub mapBasic : (ℕ → ℕ) → Basic → Basic
+mapBasic f nil = nil
+mapBasic f (kill k) = kill (f k)
+mapBasic f (invoke p o ws) = invoke (f p) (f o) (map f ws)
+
+unfoldable pub mapPrefix : (ℕ → ℕ) → Prefix → Prefix
+mapPrefix f (receive p o ws) = receive (f p) (f o) (map f ws)
+mapPrefix f (wait n) = wait n
+mapPrefix f protection = protection
+mapPrefix f (delimitation d) = delimitation (f d)
+mapPrefix f replication = replication
+
+unfoldable pub mapAtoms : (ℕ → ℕ) → Term → Term
+mapAtoms f (leaf x) = leaf (mapBasic f x)
+mapAtoms f (under u t) = under (mapPrefix f u) (mapAtoms f t)
+mapAtoms f (both j s t) = both j (mapAtoms f s) (mapAtoms f t)
+
+unfoldable pub image : Substitution → ℕ → ℕ
+image [] a = a
+image (p ∷ ps) a = cond (eqb a (p .0)) (p .1) (image ps a)
+
+-- The delimitation of x goes, and throughout it, protected, replicated and dormant parts included, x becomes v.
+unfoldable pub instantiate : ℕ → ℕ → Term → Term
+instantiate x v (leaf b) = leaf b
+instantiate x v (under u t) = cond (delimitsAtom x u) (mapAtoms (image ((x, v) ∷ [])) t) (under u (instantiate x v t))
+instantiate x v (both j s t) = both j (instantiate x v s) (instantiate x v t)
+
+unfoldable pub bind : Substitution → Term → Term
+bind [] t = t
+bind (p ∷ ps) t = bind ps (instantiate (p .0) (p .1) t)
+
+unfoldable pub communicateAt : Term → ℕ → ℕ → Result Term
+communicateAt t a b = do
+  r ← wanted (prefixed receives) t a
+  m ← wanted invokes t b
+  σ ← matched a (fit r m)
+  forbid 13 (placeIf (not (every (inScope t a b) σ)) a)
+  forbid 14 (first (heldBack a b) t)
+  forbid 15 (first (tighter m (length σ)) t)
+  accept (bind σ (continue (silence t b) a))
+
+-- Timeout. 16: interval not 0.
+unfoldable pub timeoutAt : Term → ℕ → Result Term
+timeoutAt t a = do
+  i ← wanted (prefixed waits) t a
+  forbid 16 (placeIf (not (eqb i 0)) a)
+  accept (continue t a)
+
+-- Elapse. Each live wait falls by d; waits under replication keep theirs.
+unfoldable pub lower : ℕ → Prefix → Prefix
+lower d (receive p o ws) = receive p o ws
+lower d (wait n) = wait (n - d)
+lower d protection = protection
+lower d (delimitation a) = delimitation a
+lower d replication = replication
+
+unfoldable pub elapse : ℕ → Term → Term
+elapse d (leaf x) = leaf x
+elapse d (under u t) = under (lower d u) (cond (passesLive u) (elapse d t) t)
+elapse d (both j s t) = both j (elapse d s) (elapse d t)
+
+-- 17: a time of 0, or above a live wait.
+unfoldable pub shorter : ℕ → ℕ → Spot → Bool
+shorter d n z = live (z .way) && holds (λ i. ltb i d) (prefixed waits (z .here))
+
+unfoldable pub elapseBy : Term → ℕ → Result Term
+elapseBy t d = do
+  forbid 17 (placeIf (eqb d 0) 0)
+  forbid 17 (first (shorter d) t)
+  accept (elapse d t)
+
+-- Unfold. The smallest atom from n on that is not taken, within so many tries; the first atom of an atom's set.
+unfoldable pub smallest : ℕ → ℕ → List ℕ → ℕ
+smallest zero n taken = n
+smallest (suc tries) n taken = let r = smallest tries (suc n) taken in cond (member n taken) r n
+
+unfoldable pub least : ℕ → ℕ
+least a = cond (value a) 1 (cond (variable a) 32768 49152)
+
+-- a new atom of d's set; new atoms for a list of atoms in its order, none of them taken and no two the same
+unfoldable pub fresh : List ℕ → ℕ → ℕ
+fresh taken d = smallest (suc (length taken)) (least d) taken
+
+unfoldable pub renaming : List ℕ → List ℕ → Substitution
+renaming taken [] = []
+renaming taken (d ∷ ds) = (d, fresh taken d) ∷ renaming (fresh taken d ∷ taken) ds
+
+-- A copy of a body in the table t: the atoms delimited in it are renamed in record order, to atoms that do not occur in t.
+unfoldable pub copy : Term → Term → Term
+copy t body = mapAtoms (image (renaming (atoms t) (binders body))) body
+
+-- the replication becomes a parallel of a copy of its body (left) and itself
+unfoldable pub afterUnfold : Term → ℕ → Term
+afterUnfold t a = fill (wayTo t a) (both parallel (copy t (below (sub t a))) (sub t a))
+
+unfoldable pub unfoldAt : Term → ℕ → Result Term
+unfoldAt t a = do
+  r ← wanted (prefixed replicates) t a
+  accept (afterUnfold t a)
+
+-- Extrude. The parent fits: it is a parallel, a protection or a delimitation.
+unfoldable pub fitsPrefix : Prefix → Bool
+fitsPrefix (receive p o ws) = false
+fitsPrefix (wait n) = false
+fitsPrefix protection = true
+fitsPrefix (delimitation d) = true
+fitsPrefix replication = false
+
+unfoldable pub fitting : Way → Bool
+fitting [] = false
+fitting (inside u ∷ w) = fitsPrefix u
+fitting (leftOf j t ∷ w) = not (frameChooses (leftOf j t))
+fitting (rightOf j s ∷ w) = not (frameChooses (rightOf j s))
+
+-- the delimitation of d around s changes places with its parent
+unfoldable pub exchange : ℕ → Term → Way → Term
+exchange d s [] = under (delimitation d) s
+exchange d s (f ∷ w) = fill w (under (delimitation d) (plug f s))
+
+unfoldable pub afterExtrude : ℕ → Term → ℕ → Term
+afterExtrude d t a = exchange d (below (sub t a)) (wayTo t a)
+
+-- 18: a label, or no fitting parent, or the root.
+unfoldable pub extrudeAt : Term → ℕ → Result Term
+extrudeAt t a = do
+  d ← wanted (prefixed delimits) t a
+  forbid 18 (placeIf (label d || not (fitting (wayTo t a))) a)
+  accept (afterExtrude d t a)
+
+-- The moves, and the successor that a move gives, or its refusal.
+pub data Move : Type 0 where
+  Kill : ℕ → Move
+  Communicate : ℕ → ℕ → Move
+  Timeout : ℕ → Move
+  Elapse : ℕ → Move
+  Unfold : ℕ → Move
+  Extrude : ℕ → Move
+
+unfoldable pub successor : Term → Move → Result Term
+successor t (Kill a) = killAt t a
+successor t (Communicate a b) = communicateAt t a b
+successor t (Timeout a) = timeoutAt t a
+successor t (Elapse d) = elapseBy t d
+successor t (Unfold a) = unfoldAt t a
+successor t (Extrude a) = extrudeAt t a
+
+-- (for computed checks) to unfold this is to unfold every definition of this file
+unfoldable pub open-moves : Unit {0}
+unfolding haltUnder haltBoth halt haltBeside haltInside afterKill killAt extend match closedEnds fit matched outside inScope readyKill heldBack fewer tighter silence aroundChoice continue mapBasic mapPrefix mapAtoms image instantiate bind communicateAt timeoutAt lower elapse shorter elapseBy smallest least fresh renaming copy afterUnfold unfoldAt fitsPrefix fitting exchange afterExtrude extrudeAt successor
+open-moves = tt

@@ -1,0 +1,120 @@
+-- A list of moves (01, A night played): the run, which is the paper's night book, and play's replies, outputs and tally.
+use mathlib.Core.Bool.{_||_}
+use mathlib.Core.List.{List, [], _∷_, _++_}
+use mathlib.Core.Option.{Option, none, some}
+use Prim.Native.Nat.{ℕ, _+_, _-_, _*_, _/_}
+use lib.Dec.{ltb}
+use lib.ListN.{length, drop, replicate}
+use Rattle.cows.specs.Basics.{placeIf, Result, refuse, accept, _>>=_, _>>_, forbid}
+use Rattle.cows.specs.Terms.{Term, size, below}
+use Rattle.cows.specs.Places.{sub}
+use Rattle.cows.specs.Format.{bytes2, encode, pieces}
+use Rattle.cows.specs.Tables.{judge}
+use Rattle.cows.specs.Moves.{Move, Kill, Communicate, Timeout, Elapse, Unfold, Extrude}
+use Rattle.cows.specs.Step.{Reply, readMove, stepTerm}
+use Rattle.cows.specs.Load.{load}
+
+-- The tally: communications (meetings), kills (stops), timeouts (expiries), and the load copied by unfoldings.
+pub record Tally : Type 0 where
+  pub communications : ℕ
+  pub kills : ℕ
+  pub timeouts : ℕ
+  pub copied : ℕ
+
+unfoldable pub noTally : Tally
+noTally = record { communications = 0; kills = 0; timeouts = 0; copied = 0 }
+
+-- What an accepted move on the table t adds: a kill, a communication or a timeout 1 to its count, an unfolding the load of the body
+-- as it stood before; time and floating nothing.
+unfoldable pub count : Tally → Term → Move → Tally
+count c t (Kill a) = record { communications = c .communications; kills = c .kills + 1; timeouts = c .timeouts; copied = c .copied }
+count c t (Communicate a b) = record { communications = c .communications + 1; kills = c .kills; timeouts = c .timeouts; copied = c .copied }
+count c t (Timeout a) = record { communications = c .communications; kills = c .kills; timeouts = c .timeouts + 1; copied = c .copied }
+count c t (Elapse d) = c
+count c t (Unfold a) =
+    record { communications = c .communications; kills = c .kills; timeouts = c .timeouts; copied = c .copied + load (below (sub t a)) }
+count c t (Extrude a) = c
+
+-- The run keeps a table, at first the start table, and the tally, at first zeros.
+pub record Run : Type 0 where
+  pub table : Term
+  pub tally : Tally
+
+unfoldable pub start : Term → Run
+start t = record { table = t; tally = noTally }
+
+-- It judges each move singly on that table, with 32,768 bytes of output. Refused: table and tally stay. Accepted: the successor is kept and counted.
+unfoldable pub judgement : Run → List ℕ → Result Term
+judgement r m = stepTerm (r .table) m 32768
+
+unfoldable pub enter : Run → Option Move → Result Term → Run
+enter r move (refuse n p) = r
+enter r none (accept s) = r
+enter r (some move) (accept s) = record { table = s; tally = count (r .tally) (r .table) move }
+
+unfoldable pub turn : Run → List ℕ → Run
+turn r m = enter r (readMove m) (judgement r m)
+
+unfoldable pub run : Run → List (List ℕ) → Run
+run r [] = r
+run r (m ∷ ms) = run (turn r m) ms
+
+-- Its reply to each: answer, place and the number of records then kept.
+unfoldable pub kept : Run → Result Term → Reply
+kept r (refuse n p) = record { answer = n; place = p; records = size (r .table) }
+kept r (accept s) = record { answer = 0; place = 0; records = size s }
+
+unfoldable pub replies : Run → List (List ℕ) → List Reply
+replies r [] = []
+replies r (m ∷ ms) = kept r (judgement r m) ∷ replies (turn r m) ms
+
+-- Move n of a list is its n-th six bytes, whatever they hold; a tail of 1 to 5 bytes is no move.
+unfoldable pub movesOf : List ℕ → List (List ℕ)
+movesOf l = pieces 6 (length l / 6) l
+
+-- in play's 6 bytes
+unfoldable pub replyBytes : List Reply → List ℕ
+replyBytes [] = []
+replyBytes (r ∷ rs) = bytes2 (r .answer) ++ bytes2 (r .place) ++ bytes2 (r .records) ++ replyBytes rs
+
+-- Play: the run and its replies, or a refusal of the whole: 1 to 7; 19, a list over 60,000 bytes; 21, an output of less than 32,768 bytes
+-- or a reply buffer of less than 6 for each move.
+pub record Played : Type 0 where
+  pub last : Run
+  pub answers : List Reply
+
+unfoldable pub played : Term → List (List ℕ) → Played
+played t ms = record { last = run (start t) ms; answers = replies (start t) ms }
+
+unfoldable pub judgePlay : (table moves : List ℕ) → (room slots : ℕ) → Result Played
+judgePlay table moves room slots = do
+  t ← judge table
+  forbid 19 (placeIf (ltb 60000 (length moves)) 0)
+  forbid 21 (placeIf (ltb room 32768 || ltb slots (6 * (length moves / 6))) 0)
+  accept (played t (movesOf moves))
+
+unfoldable pub playedReply : Result Played → Reply
+playedReply (refuse n p) = record { answer = n; place = p; records = 0 }
+playedReply (accept r) = record { answer = 0; place = 0; records = size (r .last .table) }
+
+unfoldable pub playedTally : Result Played → Tally
+playedTally (refuse n p) = noTally
+playedTally (accept r) = r .last .tally
+
+-- The output: the last table, zeros up to byte 32,768, and the rest untouched. The reply buffer: 6 bytes a move, and the rest untouched.
+unfoldable pub playedOutput : Result Played → List ℕ → List ℕ
+playedOutput (refuse n p) out = out
+playedOutput (accept r) out =
+    encode (r .last .table) ++ replicate (32768 - 16 * size (r .last .table)) 0 ++ drop 32768 out
+
+unfoldable pub playedReplies : Result Played → List ℕ → List ℕ
+playedReplies (refuse n p) slots = slots
+playedReplies (accept r) slots = replyBytes (r .answers) ++ drop (6 * length (r .answers)) slots
+
+unfoldable pub play : (table moves out slots : List ℕ) → Result Played
+play table moves out slots = judgePlay table moves (length out) (length slots)
+
+-- (for computed checks) to unfold this is to unfold every definition of this file
+unfoldable pub open-run : Unit {0}
+unfolding noTally count start judgement enter turn run kept replies movesOf replyBytes played judgePlay playedReply playedTally playedOutput playedReplies play
+open-run = tt

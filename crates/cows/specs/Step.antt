@@ -1,0 +1,79 @@
+-- One move on any bytes: refusals 10, 20 and 21, the reply and every output byte (01, Moves and Who can cause which refusal).
+use mathlib.Core.Bool.{Bool, not, cond, _&&_, _||_}
+use mathlib.Core.List.{List, [], _∷_, _++_}
+use mathlib.Core.Option.{Option, none}
+use Prim.Native.Nat.{ℕ, _*_}
+use lib.Dec.{ltb, eqb}
+use lib.ListN.{length, drop, getElem?}
+use Rattle.cows.specs.Basics.{placeIf, only, Result, refuse, accept, _>>=_, _>>_, forbid, need}
+use Rattle.cows.specs.Terms.{Term, size, depth}
+use Rattle.cows.specs.Format.{byte, word, encode}
+use Rattle.cows.specs.Tables.{judge}
+use Rattle.cows.specs.Moves.{Move, Kill, Communicate, Timeout, Elapse, Unfold, Extrude, successor}
+
+-- A move is 6 bytes: kind, a zero byte, number a, number b. Only a communication uses b; elsewhere b is zero.
+unfoldable pub rightMove : List ℕ → Bool
+rightMove m = eqb (length m) 6 && eqb (byte m 1) 0 && (eqb (byte m 0) 1 || eqb (word m 4) 0)
+
+unfoldable pub readMove : List ℕ → Option Move
+readMove m =
+    only (rightMove m)
+    (getElem?
+    (Kill (word m 2)
+    ∷ Communicate (word m 2) (word m 4)
+    ∷ Timeout (word m 2)
+    ∷ Elapse (word m 2)
+    ∷ Unfold (word m 2)
+    ∷ Extrude (word m 2)
+    ∷ [])
+    (byte m 0))
+
+-- 20: successor over 2,048 records or depth 256.
+unfoldable pub overLimits : Term → Bool
+overLimits s = ltb 2048 (size s) || ltb 256 (depth s)
+
+-- A move on a term, with no word of an output: refusals 10 to 20.
+unfoldable pub allowed : Term → List ℕ → Result Term
+allowed t m = do
+  move ← need 10 0 (readMove m)
+  s ← successor t move
+  forbid 20 (placeIf (overLimits s) 0)
+  accept s
+
+-- 21: output shorter than the successor. A move on a term with room for so many bytes.
+unfoldable pub stepTerm : Term → List ℕ → ℕ → Result Term
+stepTerm t m room = do
+  s ← allowed t m
+  forbid 21 (placeIf (ltb room (16 * size s)) 0)
+  accept s
+
+-- A move on a table.
+unfoldable pub judgeStep : List ℕ → List ℕ → ℕ → Result Term
+judgeStep table m room = do
+  t ← judge table
+  stepTerm t m room
+
+-- The reply; the output as it then is: the successor from its start and the rest untouched, or all untouched.
+pub record Reply : Type 0 where
+  pub answer : ℕ
+  pub place : ℕ
+  pub records : ℕ
+
+unfoldable pub reply : Result Term → Reply
+reply (refuse n p) = record { answer = n; place = p; records = 0 }
+reply (accept s) = record { answer = 0; place = 0; records = size s }
+
+unfoldable pub written : Result Term → List ℕ → List ℕ
+written (refuse n p) out = out
+written (accept s) out = encode s ++ drop (16 * size s) out
+
+unfoldable pub stepReply : (table m out : List ℕ) → Reply
+stepReply table m out = reply (judgeStep table m (length out))
+
+unfoldable pub stepOutput : (table m out : List ℕ) → List ℕ
+stepOutput table m out = written (judgeStep table m (length out)) out
+
+-- (for computed checks) to unfold this is to unfold every definition of this file
+unfoldable pub open-step : Unit {0}
+unfolding rightMove readMove overLimits allowed stepTerm judgeStep reply written stepReply stepOutput
+open-step = tt

@@ -1,0 +1,78 @@
+-- Which bytes are a well-formed table: refusals 1 to 7 in their order, each at its first place (01, Who can cause which refusal).
+use mathlib.Core.Bool.{Bool, false, not, _&&_, _||_}
+use mathlib.Core.List.{List, [], _∷_, map}
+use mathlib.Core.Option.{Option, none, some}
+use Prim.Native.Nat.{ℕ, zero, suc, _+_, _%_}
+use lib.Dec.{ltb, eqb}
+use lib.ListN.{length}
+use Rattle.cows.specs.Basics.{any, member, holds, found, placeIf, orElse, firstFrom, Result, accept, _>>=_, _>>_, forbid}
+use Rattle.cows.specs.Terms.{Term, value, variable, label, guard, uses, binders, delimits, prefixed, delimitsAtom}
+use Rattle.cows.specs.Places.{Way, Frame, Spot, spot, sub, first, enclosed, frameChooses}
+use Rattle.cows.specs.Format.{Node, rightRecord, node, records, children, decode}
+
+-- 1: zero bytes, over 32,768, or not a multiple of 16.
+unfoldable pub wrongLength : List ℕ → Bool
+wrongLength b = eqb (length b) 0 || ltb 32768 (length b) || not (eqb (length b % 16) 0)
+
+-- 2: the first record, of all that there are, that is not right.
+unfoldable pub firstWrong : ℕ → List (List ℕ) → Option ℕ
+firstWrong n [] = none
+firstWrong n (b ∷ bs) = orElse (placeIf (not (rightRecord b)) n) (firstWrong (suc n) bs)
+
+-- 3: the term ends before the records do (the first one over), or the records first (their number). `wanted` terms are still to come at record n.
+unfoldable pub misshapen : ℕ → ℕ → List Node → Option ℕ
+misshapen zero n [] = none
+misshapen zero n (r ∷ rs) = some n
+misshapen (suc wanted) n [] = some n
+misshapen (suc wanted) n (r ∷ rs) = misshapen (children r + wanted) (suc n) rs
+
+-- 4: depth over 256; the root has depth 1.
+unfoldable pub tooDeep : ℕ → Spot → Bool
+tooDeep n z = ltb 256 (suc (length (z .way)))
+
+-- 5: a choice's child that is no guard.
+unfoldable pub inChoice : Way → Bool
+inChoice [] = false
+inChoice (f ∷ w) = frameChooses f
+
+unfoldable pub noGuard : ℕ → Spot → Bool
+noGuard n z = inChoice (z .way) && not (guard (z .here))
+
+-- 6: a variable or label used outside every delimitation of it.
+unfoldable pub unbound : ℕ → Spot → Bool
+unbound n z = any (λ a. (variable a || label a) && not (enclosed a (z .way))) (uses (z .here))
+
+-- 7: a second delimitation of an atom (an earlier record of the table t delimits it) ..
+unfoldable pub delimitedBefore : Term → ℕ → ℕ → Bool
+delimitedBefore t n d = found (firstFrom (λ m. holds (eqb d) (prefixed delimits (sub t m))) 0 n)
+
+unfoldable pub again : Term → ℕ → Spot → Bool
+again t n z = holds (delimitedBefore t n) (prefixed delimits (z .here))
+
+-- .. or a value that t delimits, before or behind, used outside every delimitation of it.
+unfoldable pub escaped : Term → ℕ → Spot → Bool
+escaped t n z = any (λ v. (value v && member v (binders t)) && not (enclosed v (z .way))) (uses (z .here))
+
+unfoldable pub clash : Term → ℕ → Spot → Bool
+clash t n z = again t n z || escaped t n z
+
+unfoldable pub judgeTerm : Term → Result Term
+judgeTerm t = do
+  forbid 4 (first tooDeep t)
+  forbid 5 (first noGuard t)
+  forbid 6 (first unbound t)
+  forbid 7 (first (clash t) t)
+  accept t
+
+-- The term that a well-formed table stands for, or the table's refusal.
+unfoldable pub judge : List ℕ → Result Term
+judge b = do
+  forbid 1 (placeIf (wrongLength b) 0)
+  forbid 2 (firstWrong 0 (records b))
+  forbid 3 (misshapen 1 0 (map node (records b)))
+  judgeTerm (decode (map node (records b)))
+
+-- (for computed checks) to unfold this is to unfold every definition of this file
+unfoldable pub open-tables : Unit {0}
+unfolding wrongLength firstWrong misshapen tooDeep inChoice noGuard unbound delimitedBefore again escaped clash judgeTerm judge
+open-tables = tt
