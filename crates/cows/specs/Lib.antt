@@ -3,8 +3,10 @@ pub mod Terms
 pub mod Places
 pub mod Format
 pub mod Tables
+pub mod Within
 pub mod Active
 pub mod Moves
+pub mod Allows
 pub mod Step
 pub mod Load
 pub mod Run
