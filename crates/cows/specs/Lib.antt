@@ -11,3 +11,4 @@ pub mod Step
 pub mod Load
 pub mod Run
 pub mod Papers
+pub mod Misreadings

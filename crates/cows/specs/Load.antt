@@ -3,7 +3,7 @@ use mathlib.Core.Bool.{cond}
 use mathlib.Core.List.{[], _∷_}
 use mathlib.Core.Option.{Option, none, some}
 use Prim.Native.Nat.{ℕ, _+_, _-_}
-use Rattle.cows.specs.Terms.{Basic, nil, kill, invoke, Prefix, receive, wait, protection, delimitation, replication, Join, choice, parallel, Term, leaf, under, both, kills}
+use Rattle.cows.specs.Terms.{Basic, nil, kill, invoke, Prefix, receive, wait, protection, delimitation, replication, Join, choice, parallel, Term, leaf, under, both, kills, below}
 use Rattle.cows.specs.Places.{Frame, inside, leftOf, rightOf, Way, wayTo, sub, frameDelimits, frameChooses}
 use Rattle.cows.specs.Moves.{Move, Kill, Communicate, Timeout, Elapse, Unfold, Extrude, silence}
 
@@ -76,7 +76,24 @@ lost t (Elapse d) = 0
 lost t (Unfold a) = 0
 lost t (Extrude a) = 0
 
+-- What the records that move weigh, and the load that a move copies: the body's, of an unfolding.
+unfoldable pub spent : Move → ℕ
+spent (Kill a) = 1
+spent (Communicate a b) = 2
+spent (Timeout a) = 1
+spent (Elapse d) = 0
+spent (Unfold a) = 0
+spent (Extrude a) = 0
+
+unfoldable pub copies : Term → Move → ℕ
+copies t (Kill a) = 0
+copies t (Communicate a b) = 0
+copies t (Timeout a) = 0
+copies t (Elapse d) = 0
+copies t (Unfold a) = load (below (sub t a))
+copies t (Extrude a) = 0
+
 -- (for computed checks) to unfold this is to unfold every definition of this file
 unfoldable pub open-load : Unit {0}
-unfolding weightBasic weight load shieldedUnder shieldedBoth shielded endedBeside ended endedBy arm dropped lost
+unfolding weightBasic weight load shieldedUnder shieldedBoth shielded endedBeside ended endedBy arm dropped lost spent copies
 open-load = tt

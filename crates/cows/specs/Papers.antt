@@ -1,5 +1,5 @@
 -- The nights on paper, N1 to N12 (01, Nights on paper): one list, and one check of it.
-use mathlib.Core.Bool.{Bool, false, _&&_}
+use mathlib.Core.Bool.{Bool, true, _&&_}
 use mathlib.Core.List.{List, [], _∷_, _++_}
 use Prim.Native.Nat.{ℕ}
 use lib.Dec.{T}
@@ -12,7 +12,7 @@ use Rattle.cows.specs.Active.{open-active}
 use Rattle.cows.specs.Moves.{open-moves}
 use Rattle.cows.specs.Step.{Reply, open-step}
 use Rattle.cows.specs.Load.{load, open-load}
-use Rattle.cows.specs.Run.{Run, Played, judgePlay, replyBytes, open-run}
+use Rattle.cows.specs.Run.{Run, Played, judgePlay, playedReply, replyBytes, open-run}
 
 -- The notation of the calculus. Values p o q n v are 1 2 3 4 5, the variable x is 32768, the label k is 49152.
 abbrev pub n : ℕ
@@ -94,10 +94,11 @@ float a = move 5 a 0
 abbrev pub says : ℕ → ℕ → ℕ → Reply
 says a p r = record { answer = a; place = p; records = r }
 
--- A night: the start table, its moves, the reply to each, the table that is left, and the total:
+-- A night: the start table, play's own reply, its moves, the reply to each, the table that is left, and the total:
 -- meetings, stops, expiries, load left.
 pub record Night : Type 0 where
   pub begins : Term
+  pub own : Reply
   pub moves : List (List ℕ)
   pub replies : List Reply
   pub ends : Term
@@ -106,13 +107,17 @@ pub record Night : Type 0 where
 abbrev totals : Run → List ℕ
 totals r = r .tally .communications ∷ r .tally .kills ∷ r .tally .timeouts ∷ load (r .table) ∷ []
 
--- play of the start table, read from its bytes, gives these replies and ends at this table with this total
-abbrev agrees : Night → Result Played → Bool
-agrees c (refuse a p) = false
-agrees c (accept r) =
+-- play of the start table, read from its bytes, replies so; if it is not refused whole, its moves have these replies, and it ends
+-- at this table with this total
+abbrev ends-so : Night → Result Played → Bool
+ends-so c (refuse a p) = true
+ends-so c (accept r) =
     same (replyBytes (r .answers)) (replyBytes (c .replies))
     && same (encode (r .last .table)) (encode (c .ends))
     && same (totals (r .last)) (c .total)
+
+abbrev agrees : Night → Result Played → Bool
+agrees c r = same (replyBytes (playedReply r ∷ [])) (replyBytes (c .own ∷ [])) && ends-so c r
 
 abbrev joined : List (List ℕ) → List ℕ
 joined [] = []
@@ -135,29 +140,29 @@ N10 = new x (po! v ∣ po? x ∣ new k (stop ∣ po? v))
 pub papers : List Night
 papers =
     -- N1
-    record { begins = new x (po! v ∣ po? x); moves = meeting 3 2 ∷ []; replies = says 0 0 3 ∷ []; ends = 𝟘 ∣ 𝟘; total = 1 ∷ 0 ∷ 0 ∷ 0 ∷ [] }
+    record { begins = new x (po! v ∣ po? x); own = says 0 0 3; moves = meeting 3 2 ∷ []; replies = says 0 0 3 ∷ []; ends = 𝟘 ∣ 𝟘; total = 1 ∷ 0 ∷ 0 ∷ 0 ∷ [] }
     -- N2
-    ∷ record { begins = new x (po! v ∣ po? x ∣ po? v); moves = meeting 4 2 ∷ meeting 6 2 ∷ []; replies = says 15 6 8 ∷ says 0 0 7 ∷ []; ends = new x (𝟘 ∣ po? x ∣ 𝟘); total = 1 ∷ 0 ∷ 0 ∷ 1 ∷ [] }
+    ∷ record { begins = new x (po! v ∣ po? x ∣ po? v); own = says 0 0 7; moves = meeting 4 2 ∷ meeting 6 2 ∷ []; replies = says 15 6 8 ∷ says 0 0 7 ∷ []; ends = new x (𝟘 ∣ po? x ∣ 𝟘); total = 1 ∷ 0 ∷ 0 ∷ 1 ∷ [] }
     -- N3
-    ∷ record { begins = new x (po! v ∣ po? x ∣ rep (po? v)); moves = meeting 4 2 ∷ meeting 7 2 ∷ []; replies = says 15 7 9 ∷ says 11 7 9 ∷ []; ends = new x (po! v ∣ po? x ∣ rep (po? v)); total = 0 ∷ 0 ∷ 0 ∷ 3 ∷ [] }
+    ∷ record { begins = new x (po! v ∣ po? x ∣ rep (po? v)); own = says 0 0 9; moves = meeting 4 2 ∷ meeting 7 2 ∷ []; replies = says 15 7 9 ∷ says 11 7 9 ∷ []; ends = new x (po! v ∣ po? x ∣ rep (po? v)); total = 0 ∷ 0 ∷ 0 ∷ 3 ∷ [] }
     -- N4
-    ∷ record { begins = new k (stop ∣ ⟦ po! v ⟧ ∣ qo! v); moves = killing 2 ∷ []; replies = says 0 0 7 ∷ []; ends = new k (𝟘 ∣ ⟦ po! v ⟧ ∣ 𝟘); total = 0 ∷ 1 ∷ 0 ∷ 1 ∷ [] }
+    ∷ record { begins = new k (stop ∣ ⟦ po! v ⟧ ∣ qo! v); own = says 0 0 7; moves = killing 2 ∷ []; replies = says 0 0 7 ∷ []; ends = new k (𝟘 ∣ ⟦ po! v ⟧ ∣ 𝟘); total = 0 ∷ 1 ∷ 0 ∷ 1 ∷ [] }
     -- N5
-    ∷ record { begins = new k ⟦ stop ∣ po! v ⟧; moves = killing 3 ∷ []; replies = says 0 0 5 ∷ []; ends = new k ⟦ 𝟘 ∣ 𝟘 ⟧; total = 0 ∷ 1 ∷ 0 ∷ 0 ∷ [] }
+    ∷ record { begins = new k ⟦ stop ∣ po! v ⟧; own = says 0 0 5; moves = killing 3 ∷ []; replies = says 0 0 5 ∷ []; ends = new k ⟦ 𝟘 ∣ 𝟘 ⟧; total = 0 ∷ 1 ∷ 0 ∷ 0 ∷ [] }
     -- N6
-    ∷ record { begins = new k (stop ∣ po? v) ∣ po! v; moves = meeting 4 6 ∷ []; replies = says 14 1 7 ∷ []; ends = new k (stop ∣ po? v) ∣ po! v; total = 0 ∷ 0 ∷ 0 ∷ 3 ∷ [] }
+    ∷ record { begins = new k (stop ∣ po? v) ∣ po! v; own = says 0 0 7; moves = meeting 4 6 ∷ []; replies = says 14 1 7 ∷ []; ends = new k (stop ∣ po? v) ∣ po! v; total = 0 ∷ 0 ∷ 0 ∷ 3 ∷ [] }
     -- N7
-    ∷ record { begins = new k stop ∣ po? v ∣ po! v; moves = meeting 4 6 ∷ []; replies = says 0 0 6 ∷ []; ends = new k stop ∣ 𝟘 ∣ 𝟘; total = 1 ∷ 0 ∷ 0 ∷ 1 ∷ [] }
+    ∷ record { begins = new k stop ∣ po? v ∣ po! v; own = says 0 0 6; moves = meeting 4 6 ∷ []; replies = says 0 0 6 ∷ []; ends = new k stop ∣ 𝟘 ∣ 𝟘; total = 1 ∷ 0 ∷ 0 ∷ 1 ∷ [] }
     -- N8
-    ∷ record { begins = N8; moves = meeting 2 4 ∷ float 1 ∷ meeting 2 4 ∷ []; replies = says 13 2 5 ∷ says 0 0 5 ∷ says 0 0 3 ∷ []; ends = 𝟘 ∣ 𝟘; total = 1 ∷ 0 ∷ 0 ∷ 0 ∷ [] }
+    ∷ record { begins = N8; own = says 0 0 3; moves = meeting 2 4 ∷ float 1 ∷ meeting 2 4 ∷ []; replies = says 13 2 5 ∷ says 0 0 5 ∷ says 0 0 3 ∷ []; ends = 𝟘 ∣ 𝟘; total = 1 ∷ 0 ∷ 0 ∷ 0 ∷ [] }
     -- N9
-    ∷ record { begins = after 4 𝟘; moves = expiry 0 ∷ time 5 ∷ time 4 ∷ time 1 ∷ expiry 0 ∷ []; replies = says 16 0 2 ∷ says 17 0 2 ∷ says 0 0 2 ∷ says 17 0 2 ∷ says 0 0 1 ∷ []; ends = 𝟘; total = 0 ∷ 0 ∷ 1 ∷ 0 ∷ [] }
+    ∷ record { begins = after 4 𝟘; own = says 0 0 1; moves = expiry 0 ∷ time 5 ∷ time 4 ∷ time 1 ∷ expiry 0 ∷ []; replies = says 16 0 2 ∷ says 17 0 2 ∷ says 0 0 2 ∷ says 17 0 2 ∷ says 0 0 1 ∷ []; ends = 𝟘; total = 0 ∷ 0 ∷ 1 ∷ 0 ∷ [] }
     -- N10
-    ∷ record { begins = N10; moves = meeting 4 2 ∷ meeting 9 2 ∷ []; replies = says 15 9 11 ∷ says 14 6 11 ∷ []; ends = N10; total = 0 ∷ 0 ∷ 0 ∷ 4 ∷ [] }
+    ∷ record { begins = N10; own = says 0 0 11; moves = meeting 4 2 ∷ meeting 9 2 ∷ []; replies = says 15 9 11 ∷ says 14 6 11 ∷ []; ends = N10; total = 0 ∷ 0 ∷ 0 ∷ 4 ∷ [] }
     -- N11
-    ∷ record { begins = rep (new 3 (po! 3)); moves = unfold-at 0 ∷ []; replies = says 0 0 6 ∷ []; ends = new 4 (po! 4) ∣ rep (new 3 (po! 3)); total = 0 ∷ 0 ∷ 0 ∷ 2 ∷ [] }
+    ∷ record { begins = rep (new 3 (po! 3)); own = says 0 0 6; moves = unfold-at 0 ∷ []; replies = says 0 0 6 ∷ []; ends = new 4 (po! 4) ∣ rep (new 3 (po! 3)); total = 0 ∷ 0 ∷ 0 ∷ 2 ∷ [] }
     -- N12
-    ∷ record { begins = new x (new n (po? x ∣ po! n)); moves = meeting 3 5 ∷ float 1 ∷ meeting 3 5 ∷ []; replies = says 13 3 6 ∷ says 0 0 6 ∷ says 0 0 4 ∷ []; ends = new n (𝟘 ∣ 𝟘); total = 1 ∷ 0 ∷ 0 ∷ 0 ∷ [] }
+    ∷ record { begins = new x (new n (po? x ∣ po! n)); own = says 0 0 4; moves = meeting 3 5 ∷ float 1 ∷ meeting 3 5 ∷ []; replies = says 13 3 6 ∷ says 0 0 6 ∷ says 0 0 4 ∷ []; ends = new n (𝟘 ∣ 𝟘); total = 1 ∷ 0 ∷ 0 ∷ 0 ∷ [] }
     ∷ []
 
 -- The definitions play all twelve as the paper does.

@@ -12,7 +12,7 @@ use Rattle.cows.specs.Format.{bytes2, encode, pieces}
 use Rattle.cows.specs.Tables.{judge}
 use Rattle.cows.specs.Moves.{Move, Kill, Communicate, Timeout, Elapse, Unfold, Extrude}
 use Rattle.cows.specs.Step.{Reply, readMove, stepTerm}
-use Rattle.cows.specs.Load.{load}
+use Rattle.cows.specs.Load.{load, lost}
 
 -- The tally: communications (meetings), kills (stops), timeouts (expiries), and the load copied by unfoldings.
 pub record Tally : Type 0 where
@@ -68,6 +68,16 @@ unfoldable pub replies : Run → List (List ℕ) → List Reply
 replies r [] = []
 replies r (m ∷ ms) = kept r (judgement r m) ∷ replies (turn r m) ms
 
+-- The load that a list's accepted moves lost, each on the table that it was judged on.
+unfoldable pub lostBy : Term → Option Move → Result Term → ℕ
+lostBy t move (refuse n p) = 0
+lostBy t none (accept s) = 0
+lostBy t (some move) (accept s) = lost t move
+
+unfoldable pub losses : Run → List (List ℕ) → ℕ
+losses r [] = 0
+losses r (m ∷ ms) = lostBy (r .table) (readMove m) (judgement r m) + losses (turn r m) ms
+
 -- Move n of a list is its n-th six bytes, whatever they hold; a tail of 1 to 5 bytes is no move.
 unfoldable pub movesOf : List ℕ → List (List ℕ)
 movesOf l = pieces 6 (length l / 6) l
@@ -116,5 +126,5 @@ play table moves out slots = judgePlay table moves (length out) (length slots)
 
 -- (for computed checks) to unfold this is to unfold every definition of this file
 unfoldable pub open-run : Unit {0}
-unfolding noTally count start judgement enter turn run kept replies movesOf replyBytes played judgePlay playedReply playedTally playedOutput playedReplies play
+unfolding noTally count start judgement enter turn run kept replies lostBy losses movesOf replyBytes played judgePlay playedReply playedTally playedOutput playedReplies play
 open-run = tt

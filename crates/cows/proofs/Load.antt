@@ -1,0 +1,264 @@
+-- The load law of each move: the load before is the load after, what the moving records weigh, and what was lost. And what halting leaves.
+use mathlib.Core.Path.{_≡_, refl, sym, ap, _∙_}
+use mathlib.Core.Bool.{Bool, true, false, cond}
+use mathlib.Core.Option.{Option, none, some}
+use mathlib.Core.List.{[], _∷_}
+use Prim.Native.Nat.{ℕ, zero, suc, _+_, _-_, _≤_}
+use native.Mathlib.Nat.{add-comm}
+use native.Mathlib.Omega.{arith}
+use lib.Dec.{eqb}
+use Rattle.cows.specs.Basics.{holds, Result, accept}
+use Rattle.cows.specs.Terms.{Basic, nil, kill, invoke, Prefix, receive, wait, protection, delimitation, replication, Join, choice, parallel, Term, leaf, under, both, Ends, size, kills, invokes, prefixed, receives, waits, delimits, replicates, delimitsAtom, below}
+use Rattle.cows.specs.Places.{Frame, inside, leftOf, rightOf, plug, Way, fill, wayTo, sub, spot, frameDelimits, frameChooses}
+use Rattle.cows.specs.Active.{passesLive}
+use Rattle.cows.specs.Moves.{halt, haltUnder, haltBoth, haltBeside, haltInside, afterKill, Substitution, silence, aroundChoice, continue, mapBasic, mapPrefix, mapAtoms, image, instantiate, bind, lower, elapse, copy, afterUnfold, exchange, afterExtrude}
+use Rattle.cows.specs.Load.{weightBasic, weight, load, shieldedUnder, shieldedBoth, shielded, endedBeside, ended, arm, dropped}
+use Rattle.cows.proofs.Basics.{cond-case, cond-case₂}
+use Rattle.cows.proofs.Places.{fill-spot, put, put-spot, prefix-put}
+
+-- Halting: what it keeps is the load of the protections reached; halting twice is halting once.
+pub load-halt : (t : Term) → load (halt t) ≡ shielded t
+unfolding load halt haltUnder haltBoth weight weightBasic shielded shieldedUnder shieldedBoth
+load-halt (leaf x) = refl
+load-halt (under (receive p o ws) t) = refl
+load-halt (under (wait n) t) = refl
+load-halt (under protection t) = omega arith
+load-halt (under (delimitation d) t) = omega (arith, load-halt t)
+load-halt (under replication t) = omega (arith, load-halt t)
+load-halt (both choice s t) = refl
+load-halt (both parallel s t) = omega (arith, load-halt s, load-halt t)
+
+pub halt-halt : (t : Term) → halt (halt t) ≡ halt t
+unfolding halt haltUnder haltBoth
+halt-halt (leaf x) = refl
+halt-halt (under (receive p o ws) t) = refl
+halt-halt (under (wait n) t) = refl
+halt-halt (under protection t) = refl
+halt-halt (under (delimitation d) t) = ap (under (delimitation d)) (halt-halt t)
+halt-halt (under replication t) = ap (under replication) (halt-halt t)
+halt-halt (both choice s t) = refl
+halt-halt (both parallel s t) = rw (halt-halt s, halt-halt t)
+
+pub shielded-le : (t : Term) → shielded t ≤ load t
+unfolding load weight weightBasic shielded shieldedUnder shieldedBoth
+shielded-le (leaf x) = omega arith
+shielded-le (under (receive p o ws) t) = omega arith
+shielded-le (under (wait n) t) = omega arith
+shielded-le (under protection t) = omega arith
+shielded-le (under (delimitation d) t) = omega (arith, shielded-le t)
+shielded-le (under replication t) = omega (arith, shielded-le t)
+shielded-le (both choice s t) = omega arith
+shielded-le (both parallel s t) = omega (arith, shielded-le s, shielded-le t)
+
+-- The load of a term is that of the way to a place and that of what stands there.
+unfoldable pub loadFrame : Frame → ℕ
+loadFrame (inside u) = weight u
+loadFrame (leftOf j t) = load t
+loadFrame (rightOf j s) = load s
+
+unfoldable pub loadWay : Way → ℕ
+loadWay [] = 0
+loadWay (f ∷ w) = loadFrame f + loadWay w
+
+load-plug : (f : Frame) (s : Term) → load (plug f s) ≡ loadFrame f + load s
+unfolding load plug loadFrame
+load-plug (inside u) s = refl
+load-plug (leftOf j t) s = add-comm (load s) (load t)
+load-plug (rightOf j s) t = refl
+
+pub load-fill : (w : Way) (s : Term) → load (fill w s) ≡ loadWay w + load s
+unfolding fill loadWay
+load-fill [] s = omega arith
+load-fill (f ∷ w) s = load-fill w (plug f s) ∙ omega (arith, load-plug f s)
+
+pub load-spot : (t : Term) (n : ℕ) → load t ≡ loadWay (wayTo t n) + load (sub t n)
+load-spot t n = ap load (sym (fill-spot t n)) ∙ load-fill (wayTo t n) (sub t n)
+
+-- what the records that move weigh
+weighs-kill : (s : Term) (k : ℕ) → kills s ≡ some k → load s ≡ 1
+unfolding kills load weightBasic
+weighs-kill (leaf nil) k e = cc
+weighs-kill (leaf (kill l)) k e = refl
+weighs-kill (leaf (invoke p o ws)) k e = refl
+weighs-kill (under u t) k e = cc
+weighs-kill (both j s t) k e = cc
+
+weighs-invoke : (s : Term) (m : Ends) → invokes s ≡ some m → (load s ≡ 1) × (size s ≡ 1)
+unfolding invokes load weightBasic size
+weighs-invoke (leaf nil) m e = (cc, refl)
+weighs-invoke (leaf (kill l)) m e = (refl, refl)
+weighs-invoke (leaf (invoke p o ws)) m e = (refl, refl)
+weighs-invoke (under u t) m e = (cc, cc)
+weighs-invoke (both j s t) m e = (cc, cc)
+
+-- a record before a continuation weighs 1
+abbrev pub Weighty : {A : Type 0} → (Prefix → Option A) → Type 0
+Weighty {A} f = (u : Prefix) (x : A) → f u ≡ some x → weight u ≡ 1
+
+weighty-receive : Weighty receives
+unfolding receives weight
+weighty-receive (receive p o ws) x e = refl
+weighty-receive (wait n) x e = refl
+weighty-receive protection x e = cc
+weighty-receive (delimitation d) x e = cc
+weighty-receive replication x e = cc
+
+weighty-wait : Weighty waits
+unfolding waits weight
+weighty-wait (receive p o ws) x e = refl
+weighty-wait (wait n) x e = refl
+weighty-wait protection x e = cc
+weighty-wait (delimitation d) x e = cc
+weighty-wait replication x e = cc
+
+weighs-guard : {A : Type 0} (f : Prefix → Option A) → Weighty f → (s : Term) (x : A) → prefixed f s ≡ some x → load s ≡ suc (load (below s))
+unfolding prefixed load below
+weighs-guard f g (leaf y) x e = cc
+weighs-guard f g (under u t) x e = omega (arith, g u x e)
+weighs-guard f g (both j s t) x e = cc
+
+-- Kill: before = after + 1 + what was halted.
+load-beside : (f : Frame) → loadFrame f ≡ loadFrame (haltBeside f) + endedBeside f
+unfolding haltBeside loadFrame endedBeside
+load-beside (inside u) = omega arith
+load-beside (leftOf choice t) = omega arith
+load-beside (leftOf parallel t) = omega (arith, load-halt t, shielded-le t)
+load-beside (rightOf choice s) = omega arith
+load-beside (rightOf parallel s) = omega (arith, load-halt s, shielded-le s)
+
+load-inside : (k : ℕ) (w : Way) → loadWay w ≡ loadWay (haltInside k w) + ended k w
+unfolding loadWay haltInside ended
+load-inside k [] = refl
+load-inside k (f ∷ w) =
+    cond-case₂ (λ v n. loadFrame f + loadWay w ≡ loadWay v + n) (frameDelimits k f)
+    (λ e. unfold loadWay in omega arith) (λ e. unfold loadWay in omega (arith, load-beside f, load-inside k w))
+
+pub load-kill : (t : Term) (a k : ℕ) → kills (sub t a) ≡ some k → load t ≡ load (afterKill k t a) + 1 + ended k (wayTo t a)
+unfolding afterKill load weightBasic
+load-kill t a k e =
+    omega (arith, load-spot t a, weighs-kill (sub t a) k e, load-inside k (wayTo t a), load-fill (haltInside k (wayTo t a)) (leaf nil))
+
+-- A guard that continues: before = after + 1 + what the arms not taken held.
+load-around : (w : Way) → loadWay w ≡ loadWay (aroundChoice w) + dropped w
+unfolding loadWay aroundChoice dropped frameChooses loadFrame arm
+load-around [] = refl
+load-around (inside u ∷ w) = omega arith
+load-around (leftOf choice t ∷ w) = omega (arith, load-around w)
+load-around (leftOf parallel t ∷ w) = omega arith
+load-around (rightOf choice s ∷ w) = omega (arith, load-around w)
+load-around (rightOf parallel s ∷ w) = omega arith
+
+pub load-continue : {A : Type 0} (f : Prefix → Option A) → Weighty f → (t : Term) (a : ℕ) (x : A) → prefixed f (sub t a) ≡ some x → load t ≡ load (continue t a) + 1 + dropped (wayTo t a)
+unfolding continue
+load-continue f g t a x e =
+    omega (arith, load-spot t a, weighs-guard f g (sub t a) x e, load-around (wayTo t a), load-fill (aroundChoice (wayTo t a)) (below (sub t a)))
+
+-- Communicate: before = after + 2 + what the arms not taken held.
+load-silence : (t : Term) (b : ℕ) (m : Ends) → invokes (sub t b) ≡ some m → load t ≡ load (silence t b) + 1
+unfolding silence load weightBasic
+load-silence t b m e = omega (arith, load-spot t b, weighs-invoke (sub t b) m e .0, load-fill (wayTo t b) (leaf nil))
+
+-- a prefix stands where it stood before the invoke went
+pub prefix-silence : {A : Type 0} (f : Prefix → Option A) (t : Term) (a b : ℕ) (m : Ends) → invokes (sub t b) ≡ some m → prefixed f (sub (silence t b) a) ≡ prefixed f (sub t a)
+unfolding silence sub spot
+prefix-silence f t a b m e = rw put-spot (prefix-put f nil [] [] t b (weighs-invoke (sub t b) m e .1) a)
+
+weight-mapBasic : (f : ℕ → ℕ) (x : Basic) → weightBasic (mapBasic f x) ≡ weightBasic x
+unfolding mapBasic weightBasic
+weight-mapBasic f nil = refl
+weight-mapBasic f (kill k) = refl
+weight-mapBasic f (invoke p o ws) = refl
+
+weight-mapPrefix : (f : ℕ → ℕ) (u : Prefix) → weight (mapPrefix f u) ≡ weight u
+unfolding mapPrefix weight
+weight-mapPrefix f (receive p o ws) = refl
+weight-mapPrefix f (wait n) = refl
+weight-mapPrefix f protection = refl
+weight-mapPrefix f (delimitation d) = refl
+weight-mapPrefix f replication = refl
+
+load-mapAtoms : (f : ℕ → ℕ) (t : Term) → load (mapAtoms f t) ≡ load t
+unfolding load mapAtoms
+load-mapAtoms f (leaf x) = weight-mapBasic f x
+load-mapAtoms f (under u t) = rw (weight-mapPrefix f u, load-mapAtoms f t)
+load-mapAtoms f (both j s t) = rw (load-mapAtoms f s, load-mapAtoms f t)
+
+weight-delimits : (d : ℕ) (u : Prefix) → delimitsAtom d u ≡ true → weight u ≡ 0
+unfolding delimitsAtom delimits holds weight
+weight-delimits d (receive p o ws) e = cc
+weight-delimits d (wait n) e = cc
+weight-delimits d protection e = refl
+weight-delimits d (delimitation c) e = refl
+weight-delimits d replication e = refl
+
+load-instantiate : (x v : ℕ) (t : Term) → load (instantiate x v t) ≡ load t
+unfolding load instantiate
+load-instantiate x v (leaf b) = refl
+load-instantiate x v (under u t) =
+    cond-case (λ r. load r ≡ weight u + load t) (delimitsAtom x u)
+    (λ e. omega (arith, load-mapAtoms (image ((x, v) ∷ [])) t, weight-delimits x u e))
+    (λ e. unfold load in omega (arith, load-instantiate x v t))
+load-instantiate x v (both j s t) = rw (load-instantiate x v s, load-instantiate x v t)
+
+load-bind : (σ : Substitution) (t : Term) → load (bind σ t) ≡ load t
+unfolding bind
+load-bind [] t = refl
+load-bind (p ∷ ps) t = load-bind ps _ ∙ load-instantiate (p .0) (p .1) t
+
+pub load-communicate : (σ : Substitution) (t : Term) (a b : ℕ) (r m : Ends) → prefixed receives (sub t a) ≡ some r → invokes (sub t b) ≡ some m
+    → load t ≡ load (bind σ (continue (silence t b) a)) + 2 + dropped (wayTo (silence t b) a)
+load-communicate σ t a b r m er em =
+    rw load-bind
+    (omega (arith, load-silence t b m em, load-continue receives weighty-receive (silence t b) a r (prefix-silence receives t a b m em ∙ er)))
+
+-- Timeout: before = after + 1 + what the arms not taken held.
+pub load-timeout : (t : Term) (a i : ℕ) → prefixed waits (sub t a) ≡ some i → load t ≡ load (continue t a) + 1 + dropped (wayTo t a)
+load-timeout t a i e = load-continue waits weighty-wait t a i e
+
+-- Elapse: nothing changes.
+weight-lower : (d : ℕ) (u : Prefix) → weight (lower d u) ≡ weight u
+unfolding lower weight
+weight-lower d (receive p o ws) = refl
+weight-lower d (wait n) = refl
+weight-lower d protection = refl
+weight-lower d (delimitation a) = refl
+weight-lower d replication = refl
+
+pub load-elapse : (d : ℕ) (t : Term) → load (elapse d t) ≡ load t
+unfolding load elapse
+load-elapse d (leaf x) = refl
+load-elapse d (under u t) =
+    rw weight-lower
+    (cond-case (λ r. weight u + load r ≡ weight u + load t) (passesLive u) (λ e. rw (load-elapse d t)) (λ e. refl))
+load-elapse d (both j s t) = rw (load-elapse d s, load-elapse d t)
+
+-- Unfold: the load of the body is added.
+load-copy : (t body : Term) → load (copy t body) ≡ load body
+unfolding copy
+load-copy t body = load-mapAtoms _ body
+
+pub load-unfold : (t : Term) (a : ℕ) → load (afterUnfold t a) ≡ load t + load (below (sub t a))
+unfolding afterUnfold load
+load-unfold t a =
+    load-fill (wayTo t a) (both parallel (copy t (below (sub t a))) (sub t a))
+    ∙ omega (arith, load-spot t a, load-copy t (below (sub t a)))
+
+-- Extrude: nothing changes.
+weighs-delimitation : (s : Term) (d : ℕ) → prefixed delimits s ≡ some d → load s ≡ load (below s)
+unfolding prefixed delimits load weight below
+weighs-delimitation (leaf x) d e = cc
+weighs-delimitation (under (receive p o ws) t) d e = cc
+weighs-delimitation (under (wait n) t) d e = cc
+weighs-delimitation (under protection t) d e = omega arith
+weighs-delimitation (under (delimitation c) t) d e = omega arith
+weighs-delimitation (under replication t) d e = omega arith
+weighs-delimitation (both j s t) d e = cc
+
+load-exchange : (d : ℕ) (s : Term) (w : Way) → load (exchange d s w) ≡ loadWay w + load s
+unfolding exchange load weight loadWay
+load-exchange d s [] = omega arith
+load-exchange d s (f ∷ w) = load-fill w (under (delimitation d) (plug f s)) ∙ omega (arith, load-plug f s)
+
+pub load-extrude : (d : ℕ) (t : Term) (a : ℕ) → prefixed delimits (sub t a) ≡ some d → load (afterExtrude d t a) ≡ load t
+unfolding afterExtrude
+load-extrude d t a e = load-exchange d (below (sub t a)) (wayTo t a) ∙ omega (arith, load-spot t a, weighs-delimitation (sub t a) d e)

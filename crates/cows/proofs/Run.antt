@@ -1,0 +1,127 @@
+-- A list of moves: the load law of an accepted move, whichever it is, and from it the balance of a run (demand 3).
+use mathlib.Core.Path.{_≡_, refl, sym, ap, subst, _∙_}
+use mathlib.Core.Bool.{true, _&&_}
+use mathlib.Core.Option.{Option, none, some}
+use mathlib.Core.List.{List, [], _∷_}
+use Prim.Native.Nat.{ℕ, _+_, _*_, _≤_}
+use native.Mathlib.Omega.{arith}
+use lib.Dec.{ltb}
+use Rattle.cows.specs.Basics.{only, Result, refuse, accept, need}
+use Rattle.cows.specs.Terms.{Term, Ends, size, kills, invokes, prefixed, receives, waits, delimits, replicates, below}
+use Rattle.cows.specs.Places.{wayTo, sub}
+use Rattle.cows.specs.Active.{live, wanted}
+use Rattle.cows.specs.Moves.{Move, Kill, Communicate, Timeout, Elapse, Unfold, Extrude, killAt, communicateAt, timeoutAt, elapseBy, unfoldAt, extrudeAt, successor, fit, matched}
+use Rattle.cows.specs.Load.{load, endedBy, lost, spent, copies}
+use Rattle.cows.specs.Step.{readMove, allowed, stepTerm}
+use Rattle.cows.specs.Run.{Tally, noTally, count, Run, start, judgement, enter, turn, run, lostBy, losses}
+use Rattle.cows.proofs.Basics.{bind-accept, forbid-accept, need-accept, only-some, same-accept}
+use Rattle.cows.proofs.Load.{load-kill, load-communicate, load-timeout, load-elapse, load-unfold, load-extrude}
+
+-- what stands at the place that a move names
+wanted-is : {A : Type 0} (kind : Term → Option A) (t : Term) (n : ℕ) (x : A) → wanted kind t n ≡ accept x → kind (sub t n) ≡ some x
+unfolding wanted
+wanted-is kind t n x e = only-some (ltb n (size t) && live (wayTo t n)) (kind (sub t n)) x (need-accept 11 n _ x e) .1
+
+-- One law for the six: before and what was copied = after, what moved and what was lost.
+abbrev pub Law : Term → Move → Term → Type 0
+Law t m s = load t + copies t m ≡ load s + spent m + lost t m
+
+law-kill : (t s : Term) (a : ℕ) → killAt t a ≡ accept s → Law t (Kill a) s
+unfolding killAt copies spent lost endedBy
+law-kill t s a e =
+    let (k, ek, es) = bind-accept (wanted kills t a) _ s e in
+    let h = wanted-is kills t a k ek in
+    subst (Law t (Kill a)) (same-accept es) (rw h (omega (arith, load-kill t a k h)))
+
+law-communicate : (t s : Term) (a b : ℕ) → communicateAt t a b ≡ accept s → Law t (Communicate a b) s
+unfolding communicateAt copies spent lost
+law-communicate t s a b e =
+    let (r, er, e₁) = bind-accept (wanted (prefixed receives) t a) _ s e in
+    let (m, em, e₂) = bind-accept (wanted invokes t b) _ s e₁ in
+    let (σ, eσ, e₃) = bind-accept (matched a (fit r m)) _ s e₂ in
+    let e₆ = forbid-accept 15 _ _ s (forbid-accept 14 _ _ s (forbid-accept 13 _ _ s e₃ .1) .1) .1 in
+    subst (Law t (Communicate a b)) (same-accept e₆)
+    (omega (arith, load-communicate σ t a b r m (wanted-is (prefixed receives) t a r er) (wanted-is invokes t b m em)))
+
+law-timeout : (t s : Term) (a : ℕ) → timeoutAt t a ≡ accept s → Law t (Timeout a) s
+unfolding timeoutAt copies spent lost
+law-timeout t s a e =
+    let (i, ei, e₁) = bind-accept (wanted (prefixed waits) t a) _ s e in
+    subst (Law t (Timeout a)) (same-accept (forbid-accept 16 _ _ s e₁ .1)) (omega (arith, load-timeout t a i (wanted-is (prefixed waits) t a i ei)))
+
+law-elapse : (t s : Term) (d : ℕ) → elapseBy t d ≡ accept s → Law t (Elapse d) s
+unfolding elapseBy copies spent lost
+law-elapse t s d e = subst (Law t (Elapse d)) (same-accept (forbid-accept 17 _ _ s (forbid-accept 17 _ _ s e .1) .1)) (omega (arith, load-elapse d t))
+
+law-unfold : (t s : Term) (a : ℕ) → unfoldAt t a ≡ accept s → Law t (Unfold a) s
+unfolding unfoldAt copies spent lost
+law-unfold t s a e =
+    let (x, ex, es) = bind-accept (wanted (prefixed replicates) t a) _ s e in
+    subst (Law t (Unfold a)) (same-accept es) (omega (arith, load-unfold t a))
+
+law-extrude : (t s : Term) (a : ℕ) → extrudeAt t a ≡ accept s → Law t (Extrude a) s
+unfolding extrudeAt copies spent lost
+law-extrude t s a e =
+    let (d, ed, e₁) = bind-accept (wanted (prefixed delimits) t a) _ s e in
+    subst (Law t (Extrude a)) (same-accept (forbid-accept 18 _ _ s e₁ .1)) (omega (arith, load-extrude d t a (wanted-is (prefixed delimits) t a d ed)))
+
+pub load-law : (t s : Term) (m : Move) → successor t m ≡ accept s → load t + copies t m ≡ load s + spent m + lost t m
+unfolding successor
+load-law t s (Kill a) e = law-kill t s a e
+load-law t s (Communicate a b) e = law-communicate t s a b e
+load-law t s (Timeout a) e = law-timeout t s a e
+load-law t s (Elapse d) e = law-elapse t s d e
+load-law t s (Unfold a) e = law-unfold t s a e
+load-law t s (Extrude a) e = law-extrude t s a e
+
+-- an accepted step reads a move, and its successor is that move's
+pub step-successor : (t s : Term) (m : List ℕ) (room : ℕ) → stepTerm t m room ≡ accept s → (move : Move) × (readMove m ≡ some move) × (successor t move ≡ accept s)
+unfolding stepTerm allowed
+step-successor t s m room e =
+    let (r, er, e₁) = bind-accept (allowed t m) _ s e in
+    let (move, em, e₂) = bind-accept (need 10 0 (readMove m)) _ r er in
+    let (q, eq, e₃) = bind-accept (successor t move) _ r e₂ in
+    let same = same-accept (forbid-accept 20 _ _ r e₃ .1) ∙ same-accept (forbid-accept 21 _ _ s e₁ .1) in
+    (move, need-accept 10 0 (readMove m) move em, eq ∙ ap accept same)
+
+-- The balance of a run that began with the load x, after moves that lost l.
+abbrev pub Balanced : ℕ → ℕ → Run → Type 0
+Balanced x l r = x + r .tally .copied ≡ 2 * r .tally .communications + r .tally .kills + r .tally .timeouts + load (r .table) + l
+
+balanced-count : (x l : ℕ) (c : Tally) (t s : Term) (m : Move) → successor t m ≡ accept s → Balanced x l (record { table = t; tally = c }) → Balanced x (l + lost t m) (record { table = s; tally = count c t m })
+unfolding count copies spent
+balanced-count x l c t s m e h = go m (load-law t s m e)
+  where
+    go : (m : Move) → Law t m s → Balanced x (l + lost t m) (record { table = s; tally = count c t m })
+    go (Kill a) k = omega arith
+    go (Communicate a b) k = omega arith
+    go (Timeout a) k = omega arith
+    go (Elapse d) k = omega arith
+    go (Unfold a) k = omega arith
+    go (Extrude a) k = omega arith
+
+balanced-turn : (x l : ℕ) (r : Run) (m : List ℕ) → Balanced x l r → Balanced x (l + lostBy (r .table) (readMove m) (judgement r m)) (turn r m)
+unfolding turn judgement enter lostBy
+balanced-turn x l r m h = go (readMove m) refl (stepTerm (r .table) m 32768) refl
+  where
+    go : (o : Option Move) → readMove m ≡ o → (q : Result Term) → stepTerm (r .table) m 32768 ≡ q → Balanced x (l + lostBy (r .table) o q) (enter r o q)
+    go o eo (refuse n p) eq = omega arith
+    go none eo (accept s) eq = omega arith
+    go (some move) eo (accept s) eq =
+        let (move′, em, es) = step-successor (r .table) s m 32768 eq in
+        let same : move′ ≡ move = cc in
+        balanced-count x l (r .tally) (r .table) s move (subst (λ v. successor (r .table) v ≡ accept s) same es) h
+
+balanced-run : (x l : ℕ) (r : Run) (ms : List (List ℕ)) → Balanced x l r → Balanced x (l + losses r ms) (run r ms)
+unfolding run losses
+balanced-run x l r [] h = omega arith
+balanced-run x l r (m ∷ ms) h = omega (arith, balanced-run x (l + lostBy (r .table) (readMove m) (judgement r m)) (turn r m) ms (balanced-turn x l r m h))
+
+-- Demand 3: the balance of every list of moves, refused ones included, and the inequality.
+pub run-balance : (t : Term) (ms : List (List ℕ)) → Balanced (load t) (losses (start t) ms) (run (start t) ms)
+unfolding start noTally
+run-balance t ms = omega (arith, balanced-run (load t) 0 (start t) ms (omega arith))
+
+pub run-bound : (t : Term) (ms : List (List ℕ)) → let r = run (start t) ms in
+    2 * r .tally .communications + r .tally .kills + r .tally .timeouts + load (r .table) ≤ load t + r .tally .copied
+run-bound t ms = omega (arith, run-balance t ms)
