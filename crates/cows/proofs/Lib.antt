@@ -1,3 +1,5 @@
 pub mod Basics
 pub mod Places
 pub mod Renaming
+pub mod Records
+pub mod Format
