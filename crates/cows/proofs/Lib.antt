@@ -3,3 +3,4 @@ pub mod Places
 pub mod Renaming
 pub mod Records
 pub mod Format
+pub mod Scopes
