@@ -88,20 +88,26 @@ abbrev pub RightNodes : List Node → Type 0
 RightNodes [] = Unit {0}
 RightNodes (n ∷ ns) = RightNode n × RightNodes ns
 
-pub right-nodes : (t : Term) (ns : List Node) → Right t → RightNodes ns → RightNodes (nodes t ++ ns)
+right-append : (t : Term) (ns : List Node) → Right t → RightNodes ns → RightNodes (nodes t ++ ns)
 unfolding nodes
-right-nodes (leaf x) ns h k = (h, k)
-right-nodes (under u t) ns h k = (h .0, right-nodes t ns (h .1) k)
-right-nodes (both j s t) ns h k = (tt, rw (append-assoc (nodes s) (nodes t) ns) (right-nodes s (nodes t ++ ns) (h .0) (right-nodes t ns (h .1) k)))
+right-append (leaf x) ns h k = (h, k)
+right-append (under u t) ns h k = (h .0, right-append t ns (h .1) k)
+right-append (both j s t) ns h k = (tt, rw (append-assoc (nodes s) (nodes t) ns) (right-append s (nodes t ++ ns) (h .0) (right-append t ns (h .1) k)))
 
-pub nodes-right : (t : Term) (ns : List Node) → RightNodes (nodes t ++ ns) → Right t × RightNodes ns
+append-right : (t : Term) (ns : List Node) → RightNodes (nodes t ++ ns) → Right t × RightNodes ns
 unfolding nodes
-nodes-right (leaf x) ns h = h
-nodes-right (under u t) ns h = let (k, l) = nodes-right t ns (h .1) in ((h .0, k), l)
-nodes-right (both j s t) ns h =
-    let (k, l) = nodes-right s (nodes t ++ ns) (rw (append-assoc (nodes s) (nodes t) ns) at (h .1)) in
-    let (m, r) = nodes-right t ns l in
+append-right (leaf x) ns h = h
+append-right (under u t) ns h = let (k, l) = append-right t ns (h .1) in ((h .0, k), l)
+append-right (both j s t) ns h =
+    let (k, l) = append-right s (nodes t ++ ns) (rw (append-assoc (nodes s) (nodes t) ns) at (h .1)) in
+    let (m, r) = append-right t ns l in
     ((k, m), r)
+
+pub right-nodes : (t : Term) → Right t → RightNodes (nodes t)
+right-nodes t h = rw append-nil at (right-append t [] h tt)
+
+pub nodes-right : (t : Term) → RightNodes (nodes t) → Right t
+nodes-right t h = append-right t [] (rw append-nil h) .0
 
 -- Records and their bytes: cut into 16s, the bytes are the records' again.
 pub length-bytes : (ns : List Node) → length (bytes ns) ≡ 16 * length ns
@@ -126,13 +132,10 @@ map-node : (ns : List Node) → RightNodes ns → map node (map record16 ns) ≡
 map-node [] h = refl
 map-node (n ∷ ns) h = rw (node-record16 n (h .0), map-node ns (h .1))
 
-term-right : (t : Term) → Right t → RightNodes (nodes t)
-term-right t h = rw append-nil at (right-nodes t [] h tt)
-
 -- the records of a right term, read off its bytes
 pub nodes-encode : (t : Term) → Right t → map node (records (encode t)) ≡ nodes t
 unfolding encode
-nodes-encode t h = ap (map node) (records-bytes (nodes t)) ∙ map-node (nodes t) (term-right t h)
+nodes-encode t h = ap (map node) (records-bytes (nodes t)) ∙ map-node (nodes t) (right-nodes t h)
 
 pub encode-injective : (s t : Term) → Right s → Right t → encode s ≡ encode t → s ≡ t
 encode-injective s t h k e = sym (back s h) ∙ (ap (λ b. decode (map node (records b))) e ∙ back t k)
@@ -152,4 +155,4 @@ nodes-bytes (n ∷ ns) h = bytes-append (record16 n) (bytes ns) (record-bytes n 
 
 pub encode-bytes : (t : Term) → Right t → Bytes (encode t)
 unfolding encode
-encode-bytes t h = nodes-bytes (nodes t) (term-right t h)
+encode-bytes t h = nodes-bytes (nodes t) (right-nodes t h)

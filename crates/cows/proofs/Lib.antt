@@ -4,3 +4,4 @@ pub mod Renaming
 pub mod Records
 pub mod Format
 pub mod Scopes
+pub mod Tables
