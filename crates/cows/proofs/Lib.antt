@@ -1,5 +1,9 @@
 pub mod Basics
 pub mod Places
 pub mod Renaming
+pub mod Records
+pub mod Format
+pub mod Refusals
+pub mod Tables
 pub mod Load
 pub mod Run

@@ -1,0 +1,113 @@
+-- Laws of specs/Tables: the table of a term within the limits is accepted as that term, and every accepted table is such a table.
+use mathlib.Core.Path.{_≡_, refl, sym, ap, subst, _∙_}
+use mathlib.Core.Bool.{true, false, not, _||_}
+use mathlib.Core.Option.{none}
+use mathlib.Core.List.{List, [], _∷_, _++_, map, append-nil}
+use Prim.Native.Nat.{ℕ, zero, suc, _+_, _*_, _/_, _%_, _≤_}
+use native.Mathlib.Omega.{arith}
+use lib.Dec.{ltb, eqb}
+use lib.ListN.{length, take, drop, length-take, length-drop, take-append-drop}
+use borrow.Author.Tests.{eqb-true, ltb-false, eq-eqb, ne-eqb, le-ltb, not-false}
+use Rattle.cows.specs.Basics.{accept, placeIf, orElse, _>>_, forbid}
+use Rattle.cows.specs.Terms.{Term, size, depth}
+use Rattle.cows.specs.Places.{first}
+use Rattle.cows.specs.Format.{Bytes, Node, nodes, record16, bytes, encode, rightRecord, node, pieces, records, decode}
+use Rattle.cows.specs.Tables.{wrongLength, firstWrong, misshapen, tooDeep, noGuard, unbound, clash, judgeTerm, judge}
+use Rattle.cows.specs.Within.{Right, Formed, Within}
+use Rattle.cows.proofs.Basics.{or-false, orElse-none, placeIf-none, none-placeIf, forbid-accept, forbid-none, same-accept}
+use Rattle.cows.proofs.Places.{size-pos}
+use Rattle.cows.proofs.Records.{RightNode, right-record, record-right}
+use Rattle.cows.proofs.Format.{RightNodes, right-nodes, nodes-right, decode-nodes, shape-nodes, nodes-decode, records-bytes, length-encode, nodes-encode, encode-bytes}
+use Rattle.cows.proofs.Refusals.{shallow-first, first-shallow, formed-first, first-formed}
+
+-- 1: the length.
+right-length : (b : List ℕ) → wrongLength b ≡ false → (length b ≤ 32768) × (length b % 16 ≡ 0)
+unfolding wrongLength
+right-length b e =
+    let (e₁, e₂) = or-false (eqb (length b) 0 || ltb 32768 (length b)) (not (eqb (length b % 16) 0)) e in
+    let (e₃, e₄) = or-false (eqb (length b) 0) (ltb 32768 (length b)) e₁ in
+    (ltb-false 32768 (length b) e₄, eqb-true (length b % 16) 0 (not-false _ e₂))
+
+encode-length : (t : Term) → size t ≤ 2048 → wrongLength (encode t) ≡ false
+unfolding wrongLength
+encode-length t h =
+    let p = size-pos t in
+    rw (length-encode t, ne-eqb (16 * size t) 0 (λ e. omega arith), le-ltb 32768 (16 * size t) (omega arith), eq-eqb (16 * size t % 16) 0 (omega arith))
+
+-- 2: the records, each of 16 bytes.
+bytes-take : (n : ℕ) (b : List ℕ) → Bytes b → Bytes (take n b) × Bytes (drop n b)
+bytes-take zero b h = (tt, h)
+bytes-take (suc n) [] h = (tt, tt)
+bytes-take (suc n) (x ∷ b) h = let (k, l) = bytes-take n b (h .1) in ((h .0, k), l)
+
+-- what is read off right records is right, and writes them again
+right-pieces : (m n : ℕ) (b : List ℕ) → length b ≡ 16 * n → Bytes b → firstWrong m (pieces 16 n b) ≡ none
+    → (bytes (map node (pieces 16 n b)) ≡ b) × RightNodes (map node (pieces 16 n b))
+unfolding firstWrong pieces bytes
+right-pieces m zero [] h k e = (refl, tt)
+right-pieces m zero (x ∷ b) h k e = absurd (omega arith)
+right-pieces m (suc n) b h k e =
+    let (e₁, e₂) = orElse-none (placeIf (not (rightRecord (take 16 b))) m) _ e in
+    let (k₁, k₂) = bytes-take 16 b k in
+    let (r, p) = right-record (take 16 b) (length-take 16 b ∙ omega arith) k₁ (not-false _ (placeIf-none _ m e₁)) in
+    let (q, l) = right-pieces (suc m) n (drop 16 b) (length-drop 16 b ∙ omega arith) k₂ e₂ in
+    (rw (r, q) (take-append-drop 16 b), (p, l))
+
+nodes-wrong : (m : ℕ) (ns : List Node) → RightNodes ns → firstWrong m (map record16 ns) ≡ none
+unfolding firstWrong placeIf orElse
+nodes-wrong m [] h = refl
+nodes-wrong m (n ∷ ns) h = rw (record-right n (h .0)) (nodes-wrong (suc m) ns (h .1))
+
+encode-right : (t : Term) → Right t → firstWrong 0 (records (encode t)) ≡ none
+unfolding encode
+encode-right t h = rw (records-bytes (nodes t)) (nodes-wrong 0 (nodes t) (right-nodes t h))
+
+-- 3: the shape.
+nodes-shaped : (t : Term) → misshapen 1 0 (nodes t) ≡ none
+unfolding misshapen
+nodes-shaped t = rw append-nil at (shape-nodes t 0 0 [])
+
+-- 4 to 7: the term.
+judgeTerm-accept : (t s : Term) → judgeTerm t ≡ accept s → (t ≡ s) × Formed t × (depth t ≤ 256)
+unfolding judgeTerm
+judgeTerm-accept t s e =
+    let (e₄, k₄) = forbid-accept 4 (first tooDeep t) _ s e in
+    let (e₅, k₅) = forbid-accept 5 (first noGuard t) _ s k₄ in
+    let (e₆, k₆) = forbid-accept 6 (first unbound t) _ s k₅ in
+    let (e₇, k₇) = forbid-accept 7 (first (clash t) t) _ s k₆ in
+    (same-accept k₇, first-formed t e₅ e₆ e₇, first-shallow t e₄)
+
+accept-judgeTerm : (t : Term) → Formed t → depth t ≤ 256 → judgeTerm t ≡ accept t
+unfolding judgeTerm _>>_ forbid
+accept-judgeTerm t f h = let (e₅, e₆, e₇) = formed-first t f in rw (shallow-first t h, e₅, e₆, e₇)
+
+-- An accepted table is the encoding of its term, which is within the limits.
+shaped : (ns : List Node) → misshapen 1 0 ns ≡ none → RightNodes ns → (encode (decode ns) ≡ bytes ns) × Right (decode ns)
+unfolding encode
+shaped ns e h = let n = nodes-decode ns e in (ap bytes n, nodes-right (decode ns) (rw n h))
+
+judged : (b : List ℕ) (t : Term) → Bytes b → judge b ≡ accept t → (length b ≤ 32768) × ((encode t ≡ b) × Right t) × (Formed t × (depth t ≤ 256))
+unfolding judge records
+judged b t k e =
+    let (e₁, k₁) = forbid-accept 1 (placeIf (wrongLength b) 0) _ t e in
+    let (e₂, k₂) = forbid-accept 2 (firstWrong 0 (records b)) _ t k₁ in
+    let (e₃, k₃) = forbid-accept 3 (misshapen 1 0 (map node (records b))) _ t k₂ in
+    let (q, f, d) = judgeTerm-accept (decode (map node (records b))) t k₃ in
+    let (l, z) = right-length b (placeIf-none (wrongLength b) 0 e₁) in
+    let (w, r) = right-pieces 0 (length b / 16) b (omega arith) k e₂ in
+    let (y, g) = shaped (map node (records b)) e₃ r in
+    rw (← q) (l, (y ∙ w, g), (f, d))
+
+pub judge-encode : (b : List ℕ) (t : Term) → Bytes b → judge b ≡ accept t → encode t ≡ b
+judge-encode b t k e = judged b t k e .1 .0
+
+pub judge-within : (b : List ℕ) (t : Term) → Bytes b → judge b ≡ accept t → Within t
+judge-within b t k e =
+    let (l, (y, g), (f, d)) = judged b t k e in
+    record { right = g; formed = f; small = omega (arith, length-encode t, ap length y); shallow = d }
+
+-- The encoding of a term within the limits is accepted.
+pub within-judge : (t : Term) → Within t → judge (encode t) ≡ accept t
+unfolding judge encode placeIf _>>_ forbid
+within-judge t h =
+    rw (encode-length t (h .small), nodes-encode t (h .right), encode-right t (h .right), nodes-shaped t, decode-nodes t) (accept-judgeTerm t (h .formed) (h .shallow))
