@@ -5,8 +5,8 @@ use mathlib.Core.Option.{Option, none, some}
 use mathlib.Core.List.{List, [], _∷_, _++_}
 use Prim.Native.Nat.{ℕ, zero, suc, _+_, _≤_, _<_}
 use native.Mathlib.Omega.{arith}
-use lib.Dec.{eqb}
-use borrow.Author.Tests.{eqb-true, eq-eqb, ne-eqb}
+use lib.Dec.{ltb, eqb}
+use borrow.Author.Tests.{ltb-true, ltb-false, eqb-true, eq-eqb, ne-eqb}
 use Rattle.cows.specs.Basics.{any, every, member, same, holds, found, only, placeIf, orElse, firstFrom, Result, refuse, accept, _>>=_, _>>_, forbid, need}
 
 -- a false test proves anything
@@ -25,6 +25,9 @@ cond-case₂ P false f g = g refl
 pub bool-case : (P : Type 0) (b : Bool) → (b ≡ true → P) → (b ≡ false → P) → P
 bool-case P true f g = f refl
 bool-case P false f g = g refl
+
+pub lt-case : (P : Type 0) (a b : ℕ) → (a < b → P) → (b ≤ a → P) → P
+lt-case P a b f g = bool-case P (ltb a b) (λ e. f (ltb-true a b e)) (λ e. g (ltb-false a b e))
 
 -- tests
 pub and-true : (a b : Bool) → (a && b) ≡ true → (a ≡ true) × (b ≡ true)
