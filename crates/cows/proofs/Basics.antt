@@ -13,6 +13,9 @@ use Rattle.cows.specs.Basics.{any, every, member, same, holds, found, on
 pub never : {A : Type 0} → false ≡ true → A
 never e = absurd (let z : _≡_ {A = ℕ} 0 1 = cc in omega arith)
 
+pub clash : {A : Type 0} {b : Bool} → b ≡ true → b ≡ false → A
+clash e f = never (sym f ∙ e)
+
 pub cond-case : {A : Type 0} (P : A → Type 0) (b : Bool) {x y : A} → (b ≡ true → P x) → (b ≡ false → P y) → P (cond b x y)
 cond-case P true f g = f refl
 cond-case P false f g = g refl
@@ -91,6 +94,9 @@ accept-bind m k a e = rw e
 pub same-accept : {A : Type 0} {x y : A} → _≡_ {A = Result A} (accept x) (accept y) → x ≡ y
 same-accept e = cc
 
+pub same-some : {A : Type 0} {x y : A} → _≡_ {A = Option A} (some x) (some y) → x ≡ y
+same-some e = cc
+
 pub need-accept : {A : Type 0} (n p : ℕ) (o : Option A) (x : A) → need n p o ≡ accept x → o ≡ some x
 unfolding need
 need-accept n p none x e = cc
@@ -138,6 +144,10 @@ pub found-none : {A : Type 0} (o : Option A) → found o ≡ false → o ≡ non
 unfolding found
 found-none none e = refl
 found-none (some a) e = never (sym e)
+
+pub none-found : {A : Type 0} (o : Option A) → o ≡ none → found o ≡ false
+unfolding found
+none-found o e = rw e
 
 pub found-some : {A : Type 0} (o : Option A) → found o ≡ true → (a : A) × (o ≡ some a)
 unfolding found
