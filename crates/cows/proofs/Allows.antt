@@ -1,25 +1,25 @@
 -- The successor that the moves compute (specs/Moves) is the one that the rules allow (specs/Allows), on every term within the limits:
 -- successor-allows and allows-successor; so the rules allow at most one successor of a move, allows-unique.
 use mathlib.Core.Path.{_≡_, refl, sym, ap, subst, _∙_}
-use mathlib.Core.Bool.{Bool, true, false, not, _&&_, _||_}
+use mathlib.Core.Bool.{true, false, not, _||_}
 use mathlib.Core.Option.{Option, none, some}
-use mathlib.Core.List.{List, [], _∷_, _++_}
-use Prim.Native.Nat.{ℕ, zero, suc, _+_, _*_, _≤_, _<_}
+use mathlib.Core.List.{[], _∷_, _++_}
+use Prim.Native.Nat.{ℕ, _*_, _≤_}
 use native.Mathlib.Omega.{arith}
 use lib.Dec.{ltb, eqb}
 use lib.ListN.{length, length-append}
-use borrow.Author.Tests.{ltb-true, ltb-false, le-ltb, eqb-true, eq-eqb, ne-eqb, eqb-false, not-true, not-false}
-use Rattle.cows.specs.Basics.{every, holds, Result, accept, _>>=_, _>>_, forbid, placeIf}
-use Rattle.cows.specs.Terms.{nil, kill, invoke, Prefix, receive, wait, protection, delimitation, replication, Join, choice, parallel, Term, leaf, under, both, Ends, label, atom, size, kills, invokes, prefixed, receives, waits, delimits, replicates, below, usesBasic, usesPrefix, optional, binders, atoms}
+use borrow.Author.Tests.{ltb-true, ltb-false, eqb-true, ne-eqb, eqb-false, not-false}
+use Rattle.cows.specs.Basics.{every, holds, accept, _>>=_, _>>_, forbid, placeIf}
+use Rattle.cows.specs.Terms.{nil, kill, invoke, Prefix, receive, wait, protection, delimitation, replication, choice, parallel, Term, leaf, under, both, Ends, label, atom, size, kills, invokes, prefixed, receives, waits, delimits, replicates, below, usesBasic, usesPrefix, optional, binders, atoms}
 use Rattle.cows.specs.Places.{Frame, inside, leftOf, rightOf, plug, Way, fill, wayTo, sub, first, frameChooses}
 use Rattle.cows.specs.Within.{Right, Within}
 use Rattle.cows.specs.Active.{live, wanted}
 use Rattle.cows.specs.Moves.{Substitution, binds, Matching, differs, afterKill, killAt, fit, matched, inScope, heldBack, tighter, silence, continue, mapAtoms, image, bind, communicateAt, timeoutAt, elapse, shorter, elapseBy, renaming, copy, afterUnfold, unfoldAt, fitsPrefix, fitting, exchange, afterExtrude, extrudeAt, Move, Kill, Communicate, Timeout, Elapse, Unfold, Extrude, successor}
-use Rattle.cows.specs.Allows.{Stands, Live, Meets, Renames, Parent, onLeft, onRight, protected, delimited, Allows, by-kill, by-communicate, by-timeout, by-elapse, by-unfold, by-extrude}
-use Rattle.cows.proofs.Basics.{never, clash, and-true, true-and, or-false, not-so, bind-accept, accept-bind, same-accept, forbid-accept, forbid-none, placeIf-none, none-placeIf, every-append}
+use Rattle.cows.specs.Allows.{Live, Meets, Renames, Parent, onLeft, onRight, protected, delimited, Allows, by-kill, by-communicate, by-timeout, by-elapse, by-unfold, by-extrude}
+use Rattle.cows.proofs.Basics.{never, and-true, true-and, or-false, bind-accept, same-accept, forbid-accept, placeIf-none, every-append}
 use Rattle.cows.proofs.Renaming.{renaming-renames, renames-unique}
 use Rattle.cows.proofs.Stands.{sub-ind, right-at, kills-is, invokeOf, invokes-is, receiveOf, receives-is, waits-is, delimits-is, replicates-is, prefixed-is, wanted-live, live-wanted, first-fails, fails-first, prefixed-stands}
-use Rattle.cows.proofs.Meeting.{Fits, fit-fits, fits-fit, inScope-reaches, reaches-inScope, heldBack-unheld, unheld-heldBack, tighter-tightest, tightest-tighter}
+use Rattle.cows.proofs.Meeting.{fit-fits, fits-fit, inScope-reaches, reaches-inScope, heldBack-unheld, unheld-heldBack, tighter-tightest, tightest-tighter}
 
 -- a live prefix of the kind looked for
 wanted-under : {A : Type 0} (f : Prefix → Option A) (g : A → Prefix) → ((u : Prefix) (x : A) → f u ≡ some x → u ≡ g x) → (t : Term) (n : ℕ) (x : A) → wanted (prefixed f) t n ≡ accept x
@@ -60,7 +60,8 @@ meets t a b r m σ er em eσ sc hb tg =
       scoped = inScope-reaches t a b σ sc;
       receiverFree = heldBack-unheld t a b hb .0;
       senderFree = heldBack-unheld t a b hb .1;
-      tightest = tighter-tightest t m (length σ) (f .closed) tg }
+      tightest = tighter-tightest t m (length σ) (f .closed) tg;
+    }
 
 pub communicate-meets : (t s : Term) (a b : ℕ) → communicateAt t a b ≡ accept s → (σ : Substitution) × Meets t a b σ × (bind σ (continue (silence t b) a) ≡ s)
 unfolding communicateAt

@@ -1,7 +1,7 @@
--- What demand 2 of the request means in an accepted move: no party of a meeting stood inside a [k] with a ready kill of k, the receive that met was a tightest one,
--- and a kill halts what is parallel to it inside its [k], keeps what halting keeps, and changes nothing outside.
+-- Demand 2 in accepted moves: a ready kill holds back the meetings in its scope, the receive that binds fewest variables goes first,
+-- and a kill spares, inside its scope, only what halting keeps.
 use mathlib.Core.Path.{_≡_, refl, sym, ap, subst, _∙_}
-use mathlib.Core.Bool.{Bool, true, false, cond, _||_}
+use mathlib.Core.Bool.{Bool, true, false, _||_}
 use mathlib.Core.Option.{some}
 use mathlib.Core.List.{List, [], _∷_, _++_, map}
 use Prim.Native.Nat.{ℕ}
@@ -9,12 +9,12 @@ use lib.Dec.{eqb}
 use lib.ListN.{length}
 use borrow.Author.Tests.{eqb-true}
 use Rattle.cows.specs.Basics.{any, accept}
-use Rattle.cows.specs.Terms.{nil, kill, invoke, receive, delimitation, Term, leaf, under, variable, label, kills, delimitsAtom, delimits, uses, usesBasic}
+use Rattle.cows.specs.Terms.{nil, kill, invoke, receive, delimitation, Term, leaf, under, variable, label, delimitsAtom, delimits, uses, usesBasic}
 use Rattle.cows.specs.Places.{Frame, inside, leftOf, rightOf, plug, Way, fill, wayTo, sub, frameDelimits, enclosed}
-use Rattle.cows.specs.Within.{Right, Bound, Within}
+use Rattle.cows.specs.Within.{Right, Within}
 use Rattle.cows.specs.Moves.{Substitution, haltBeside, haltInside, afterKill, Kill, Communicate, successor}
 use Rattle.cows.specs.Allows.{Stands, Meets, Matches, Unheld, Tightest}
-use Rattle.cows.proofs.Basics.{never, or-right, holds-some, same-accept}
+use Rattle.cows.proofs.Basics.{never, or-right, holds-some}
 use Rattle.cows.proofs.Places.{fill-spot, fill-append}
 use Rattle.cows.proofs.Stands.{right-at, delimits-is, scoped-at}
 use Rattle.cows.proofs.Meeting.{matches-unique}
@@ -48,7 +48,7 @@ meeting-tightest t s a b p o ws vs r σ w e ra ib m =
 
 -- the way from a kill(k), cut at the nearest [k]
 abbrev Cut : ℕ → Way → Type 0
-Cut k w = (u : Way) × (v : Way) × (w ≡ u ++ (inside (delimitation k) ∷ v)) × (enclosed k u ≡ false) × (haltInside k w ≡ map haltBeside u ++ (inside (delimitation k) ∷ v))
+Cut k z = (v : Way) × (w : Way) × (z ≡ v ++ (inside (delimitation k) ∷ w)) × (enclosed k v ≡ false) × (haltInside k z ≡ map haltBeside v ++ (inside (delimitation k) ∷ w))
 
 frame-is : (k : ℕ) (f : Frame) → frameDelimits k f ≡ true → f ≡ inside (delimitation k)
 unfolding frameDelimits delimitsAtom
@@ -58,20 +58,20 @@ frame-is k (inside u) e =
 frame-is k (leftOf j t) e = never e
 frame-is k (rightOf j s) e = never e
 
-cut : (k : ℕ) (w : Way) → enclosed k w ≡ true → Cut k w
+cut : (k : ℕ) (z : Way) → enclosed k z ≡ true → Cut k z
 unfolding enclosed any haltInside
 cut k [] e = never e
-cut k (f ∷ w) e = go (frameDelimits k f) refl e (cut k w)
+cut k (f ∷ z) e = go (frameDelimits k f) refl e (cut k z)
   where
-    go : (b : Bool) → frameDelimits k f ≡ b → (b || enclosed k w) ≡ true → (enclosed k w ≡ true → Cut k w) → Cut k (f ∷ w)
-    go true p h r = ([], w, ap (λ g. g ∷ w) (frame-is k f p), refl, rw p (ap (λ g. g ∷ w) (frame-is k f p)))
+    go : (b : Bool) → frameDelimits k f ≡ b → (b || enclosed k z) ≡ true → (enclosed k z ≡ true → Cut k z) → Cut k (f ∷ z)
+    go true p h r = ([], z, ap (λ g. g ∷ z) (frame-is k f p), refl, rw p (ap (λ g. g ∷ z) (frame-is k f p)))
     go false p h r =
-        let (u, v, e, n, q) = r h in
-        (f ∷ u, v, ap (λ l. f ∷ l) e, rw p n, rw p (ap (λ l. haltBeside f ∷ l) q))
+        let (v, w, e, n, q) = r h in
+        (f ∷ v, w, ap (λ l. f ∷ l) e, rw p n, rw p (ap (λ l. haltBeside f ∷ l) q))
 
-fill-cut : (k : ℕ) (u v w : Way) → w ≡ u ++ (inside (delimitation k) ∷ v) → (s : Term) → fill w s ≡ fill v (under (delimitation k) (fill u s))
+fill-cut : (k : ℕ) (v w z : Way) → z ≡ v ++ (inside (delimitation k) ∷ w) → (s : Term) → fill z s ≡ fill w (under (delimitation k) (fill v s))
 unfolding fill plug
-fill-cut k u v w e s = ap (λ z. fill z s) e ∙ fill-append u (inside (delimitation k) ∷ v) s
+fill-cut k v w z e s = ap (λ l. fill l s) e ∙ fill-append v (inside (delimitation k) ∷ w) s
 
 -- a kill stands inside the [k] of its label
 kill-enclosed : (t : Term) (a k : ℕ) → Within t → Stands t a (leaf (kill k)) → enclosed k (wayTo t a) ≡ true
@@ -80,13 +80,16 @@ kill-enclosed t a k w h =
     rw (h .stands) at (scoped-at (λ c. variable c || label c) t a (w .formed .closed)) .0
     (or-right (variable k) (label k) (subst Right (h .stands) (right-at t a (w .right))))
 
--- The kill of k at a: what stands outside its [k] stays; inside, of what is parallel to the kill only what halting keeps is left, whatever protects the kill itself.
+-- An accepted kill of k: the way to it is v inside its [k] and w outside. Outside nothing changes; inside, of what stands parallel to the kill only
+-- what halting keeps is left, also where a protection on the way holds the kill.
 pub kill-spares : (t s : Term) (a k : ℕ) → Within t → successor t (Kill a) ≡ accept s → Stands t a (leaf (kill k))
     → (v : Way) × (w : Way) × (wayTo t a ≡ v ++ (inside (delimitation k) ∷ w)) × (enclosed k v ≡ false)
     × (t ≡ fill w (under (delimitation k) (fill v (leaf (kill k))))) × (s ≡ fill w (under (delimitation k) (fill (map haltBeside v) (leaf nil))))
 unfolding successor afterKill
-kill-spares t s a k w e h =
+kill-spares t s a k h e st =
     let (i, l, q) = kill-fires t s a e in
-    let (u, v, c, n, p) = cut k (wayTo t a) (kill-enclosed t a k w h) in
-    let same : i ≡ k = cc (l .at .stands, h .stands) in
-    (u, v, c, n, sym (fill-spot t a) ∙ (ap (fill (wayTo t a)) (h .stands) ∙ fill-cut k u v _ c (leaf (kill k))), sym q ∙ (ap (λ d. afterKill d t a) same ∙ fill-cut k (map haltBeside u) v _ p (leaf nil)))
+    let same : i ≡ k = cc (l .at .stands, st .stands) in
+    let (v, w, c, n, p) = cut k (wayTo t a) (kill-enclosed t a k h st) in
+    let before = sym (fill-spot t a) ∙ (ap (fill (wayTo t a)) (st .stands) ∙ fill-cut k v w _ c (leaf (kill k))) in
+    let after = sym q ∙ (ap (λ d. afterKill d t a) same ∙ fill-cut k (map haltBeside v) w _ p (leaf nil)) in
+    (v, w, c, n, before, after)

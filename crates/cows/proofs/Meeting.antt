@@ -1,9 +1,9 @@
 -- What a meeting asks (specs/Moves, communicateAt) is what its rule asks (specs/Allows, Meets): matching, scopes, held back and tightest, each in both directions.
 use mathlib.Core.Path.{_≡_, refl, sym, ap, subst, _∙_}
 use mathlib.Core.Bool.{Bool, true, false, cond, not, _&&_, _||_}
-use mathlib.Core.Option.{Option, none, some}
+use mathlib.Core.Option.{none, some}
 use mathlib.Core.List.{List, [], _∷_}
-use Prim.Native.Nat.{ℕ, _+_, _≤_, _<_}
+use Prim.Native.Nat.{ℕ, _+_, _<_}
 use native.Mathlib.Omega.{arith}
 use lib.Dec.{ltb, eqb}
 use lib.ListN.{length}
@@ -13,8 +13,8 @@ use Rattle.cows.specs.Terms.{kill, receive, delimitation, Term, leaf, un
 use Rattle.cows.specs.Places.{Spot, wayTo, sub, first, encloses, enclosed}
 use Rattle.cows.specs.Active.{ready}
 use Rattle.cows.specs.Moves.{Substitution, Matching, binds, differs, extend, match, closedEnds, fit, outside, inScope, readyKill, heldBack, fewer, tighter}
-use Rattle.cows.specs.Allows.{Stands, Ready, Matches, empty, takes, equals, Reaches, AllReach, Unheld, Tightest}
-use Rattle.cows.proofs.Basics.{never, clash, bool-case, and-true, true-and, or-left, or-right, or-second, or-case, not-so, found-none, none-found, holds-some}
+use Rattle.cows.specs.Allows.{Stands, Matches, empty, takes, equals, Reaches, AllReach, Unheld, Tightest}
+use Rattle.cows.proofs.Basics.{never, clash, bool-case, and-true, true-and, or-left, or-right, or-second, or-case, found-none, none-found, holds-some}
 use Rattle.cows.proofs.Stands.{kills-is, receiveOf, receives-is, delimits-is, prefixed-stands, first-fails, fails-first, first-found, member-delimited, delimited-member}
 
 -- matching
@@ -129,7 +129,8 @@ pub heldBack-unheld : (t : Term) (a b : ℕ) → first (heldBack a b) t ≡ none
 unfolding heldBack held
 heldBack-unheld t a b e = (
   fails-unheld t (heldBack a b) a (λ n z i k. true-and (or-left (encloses n (z .here) a) _ i) k) e,
-  fails-unheld t (heldBack a b) b (λ n z i k. true-and (or-right (encloses n (z .here) a) _ i) k) e)
+  fails-unheld t (heldBack a b) b (λ n z i k. true-and (or-right (encloses n (z .here) a) _ i) k) e,
+)
 
 unheld-none : (t : Term) (c n k : ℕ) (s : Term) → Unheld t c → Stands t n (under (delimitation k) s) → encloses n (sub t n) c ≡ true → first (readyKill k) (sub t n) ≡ none
 unfolding encloses readyKill

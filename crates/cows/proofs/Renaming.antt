@@ -221,7 +221,8 @@ fresh-smallest taken d h k = record {
   set = fresh-alike taken d h k;
   free = fresh-free taken d;
   least = λ c s m. lt-case (fresh taken d ≤ c) c (fresh taken d)
-      (λ l. never (sym m ∙ smallest-least (suc (length taken)) (least d) taken c (least-below c d h s) l)) (λ l. l) }
+      (λ l. never (sym m ∙ smallest-least (suc (length taken)) (least d) taken c (least-below c d h s) l)) (λ l. l);
+}
 
 -- the atoms chosen are those that the rule of unfolding names, and it names no others
 pub renaming-renames : (taken ds : List ℕ) → every atom ds ≡ true → length taken + length ds < 16383 → Renames taken ds (renaming taken ds)

@@ -1,17 +1,17 @@
 -- What stands at a place: a property that children inherit holds at every place; a record wanted at a place is one that is live there and of the
 -- kind; a search that finds nothing has failed at each record; the delimitations of a term; a used atom is enclosed on the way to its use.
 use mathlib.Core.Path.{_≡_, refl, sym, ap, subst, _∙_}
-use mathlib.Core.Bool.{Bool, true, false, _&&_, _||_}
+use mathlib.Core.Bool.{Bool, true, false, _&&_}
 use mathlib.Core.Option.{Option, none, some}
-use mathlib.Core.List.{List, [], _∷_, _++_}
-use Prim.Native.Nat.{ℕ, zero, suc, _+_, _-_, _≤_, _<_}
+use mathlib.Core.List.{[], _∷_}
+use Prim.Native.Nat.{ℕ, zero, suc, _+_, _-_, _<_}
 use native.Mathlib.Omega.{arith}
 use native.Mathlib.Nat.{zero-add}
 use lib.Dec.{ltb, eqb}
 use borrow.Author.Tests.{ltb-true, lt-ltb, eqb-true, eq-eqb}
-use Rattle.cows.specs.Basics.{any, member, holds, found, only, Result, accept, need}
-use Rattle.cows.specs.Terms.{Basic, nil, kill, invoke, Prefix, receive, wait, protection, delimitation, replication, Join, Term, leaf, under, both, Ends, size, kills, invokes, prefixed, receives, waits, delimits, replicates, delimitsAtom, below, uses, usesBasic, usesPrefix, optional, binders}
-use Rattle.cows.specs.Places.{Frame, inside, leftOf, rightOf, Way, Spot, descend, spot, wayTo, sub, first, frameDelimits, enclosed}
+use Rattle.cows.specs.Basics.{any, member, holds, found, accept}
+use Rattle.cows.specs.Terms.{Basic, nil, kill, invoke, Prefix, receive, wait, protection, delimitation, replication, Join, Term, leaf, under, both, Ends, size, kills, invokes, prefixed, receives, waits, delimits, replicates, below, uses, optional, binders}
+use Rattle.cows.specs.Places.{inside, leftOf, rightOf, Way, Spot, descend, spot, wayTo, sub, first, frameDelimits, enclosed}
 use Rattle.cows.specs.Within.{Right, Bound, Scoped, nowhere}
 use Rattle.cows.specs.Active.{live, wanted}
 use Rattle.cows.specs.Allows.{Stands, Live}
@@ -149,13 +149,15 @@ stands-left : (j : Join) (s t : Term) (n : ℕ) (r : Term) → Stands s n r → 
 unfolding sub spot size
 stands-left j s t n r h = record {
   placed = omega (arith, h .placed);
-  stands = ap (λ (z : Spot). z .here) (descend-left [] j s t n (h .placed)) ∙ (descend-here (leftOf j t ∷ []) [] s n ∙ h .stands) }
+  stands = ap (λ (z : Spot). z .here) (descend-left [] j s t n (h .placed)) ∙ (descend-here (leftOf j t ∷ []) [] s n ∙ h .stands);
+}
 
 stands-right : (j : Join) (s t : Term) (n : ℕ) (r : Term) → Stands t n r → Stands (both j s t) (suc (size s + n)) r
 unfolding sub spot size
 stands-right j s t n r h = record {
   placed = omega (arith, h .placed);
-  stands = ap (λ (z : Spot). z .here) (descend-right [] j s t n) ∙ (descend-here (rightOf j s ∷ []) [] t n ∙ h .stands) }
+  stands = ap (λ (z : Spot). z .here) (descend-right [] j s t n) ∙ (descend-here (rightOf j s ∷ []) [] t n ∙ h .stands);
+}
 
 -- an atom is among the binders exactly if its delimitation stands somewhere
 abbrev Delimited : ℕ → Term → Type 0
@@ -185,7 +187,8 @@ delimited-member v t m r h =
     (λ u s f e. f (rw member-append (or-right (member v (optional (delimits u))) (member v (binders s)) e)))
     (λ j s q f. (
       λ e. f (rw member-append (or-left (member v (binders s)) (member v (binders q)) e)),
-      λ e. f (rw member-append (or-right (member v (binders s)) (member v (binders q)) e))))
+      λ e. f (rw member-append (or-right (member v (binders s)) (member v (binders q)) e)),
+    ))
     t m (λ e. e) (rw (h .stands) (unfold member any optional delimits in or-left (eqb v v) _ (eq-eqb v v refl)))
 
 -- an atom used at a place, if it is of those that must be enclosed, is enclosed on the way there
