@@ -15,7 +15,7 @@ use Rattle.cows.specs.Active.{ready}
 use Rattle.cows.specs.Moves.{Substitution, Matching, binds, differs, extend, match, closedEnds, fit, outside, inScope, readyKill, heldBack, fewer, tighter}
 use Rattle.cows.specs.Allows.{Stands, Matches, empty, takes, equals, Reaches, AllReach, Unheld, Tightest}
 use Rattle.cows.proofs.Basics.{never, clash, bool-case, and-true, true-and, or-left, or-right, or-second, or-case, found-none, none-found, holds-some}
-use Rattle.cows.proofs.Stands.{kills-is, receiveOf, receives-is, delimits-is, prefixed-stands, first-fails, fails-first, first-found, member-delimited, delimited-member}
+use Rattle.cows.proofs.Stands.{kills-is, receiveOf, receives-is, delimits-is, prefixed-stands, first-fails, fails-first, first-found, Delimited, member-delimited, delimited-member}
 
 -- matching
 same-binds : {σ τ : Substitution} → binds σ ≡ binds τ → σ ≡ τ
@@ -86,7 +86,7 @@ nested-outside t v x h =
     (λ e. or-right (not (member v (binders t))) _ (none-outside (member-delimited v t e)))
     (λ e. or-left (not (member v (binders t))) _ (ap not e))
   where
-    none-outside : (m : ℕ) × (r : Term) × Stands t m (under (delimitation v) r) → not (found (first (outside v x) t)) ≡ true
+    none-outside : Delimited v t → not (found (first (outside v x) t)) ≡ true
     none-outside (m, r, k) = ap not (none-found _ (fails-first (outside v x) t (λ n p e.
         let (e₁, e₂) = and-true (holds (eqb x) (prefixed delimits (sub t n))) (not (enclosed v (wayTo t n))) e in
         let (d, st, q) = prefixed-stands delimits delimitation delimits-is (eqb x) t n p e₁ in

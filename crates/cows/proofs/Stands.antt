@@ -160,7 +160,7 @@ stands-right j s t n r h = record {
 }
 
 -- an atom is among the binders exactly if its delimitation stands somewhere
-abbrev Delimited : ℕ → Term → Type 0
+abbrev pub Delimited : ℕ → Term → Type 0
 Delimited v t = (m : ℕ) × (r : Term) × Stands t m (under (delimitation v) r)
 
 optional-is : (v : ℕ) (o : Option ℕ) → member v (optional o) ≡ true → o ≡ some v
