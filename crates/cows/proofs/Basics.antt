@@ -5,13 +5,16 @@ use mathlib.Core.Option.{Option, none, some}
 use mathlib.Core.List.{List, [], _∷_, _++_}
 use Prim.Native.Nat.{ℕ, zero, suc, _+_, _≤_, _<_}
 use native.Mathlib.Omega.{arith}
-use lib.Dec.{eqb}
-use borrow.Author.Tests.{eqb-true, eq-eqb, ne-eqb}
+use lib.Dec.{ltb, eqb}
+use borrow.Author.Tests.{ltb-true, ltb-false, eqb-true, eq-eqb, ne-eqb}
 use Rattle.cows.specs.Basics.{any, every, member, same, holds, found, only, placeIf, orElse, firstFrom, Result, refuse, accept, _>>=_, _>>_, forbid, need}
 
 -- a false test proves anything
 pub never : {A : Type 0} → false ≡ true → A
 never e = absurd (let z : _≡_ {A = ℕ} 0 1 = cc in omega arith)
+
+pub clash : {A : Type 0} {b : Bool} → b ≡ true → b ≡ false → A
+clash e f = never (sym f ∙ e)
 
 pub cond-case : {A : Type 0} (P : A → Type 0) (b : Bool) {x y : A} → (b ≡ true → P x) → (b ≡ false → P y) → P (cond b x y)
 cond-case P true f g = f refl
@@ -25,6 +28,9 @@ cond-case₂ P false f g = g refl
 pub bool-case : (P : Type 0) (b : Bool) → (b ≡ true → P) → (b ≡ false → P) → P
 bool-case P true f g = f refl
 bool-case P false f g = g refl
+
+pub lt-case : (P : Type 0) (a b : ℕ) → (a < b → P) → (b ≤ a → P) → P
+lt-case P a b f g = bool-case P (ltb a b) (λ e. f (ltb-true a b e)) (λ e. g (ltb-false a b e))
 
 -- tests
 pub and-true : (a b : Bool) → (a && b) ≡ true → (a ≡ true) × (b ≡ true)
@@ -88,6 +94,9 @@ accept-bind m k a e = rw e
 pub same-accept : {A : Type 0} {x y : A} → _≡_ {A = Result A} (accept x) (accept y) → x ≡ y
 same-accept e = cc
 
+pub same-some : {A : Type 0} {x y : A} → _≡_ {A = Option A} (some x) (some y) → x ≡ y
+same-some e = cc
+
 pub need-accept : {A : Type 0} (n p : ℕ) (o : Option A) (x : A) → need n p o ≡ accept x → o ≡ some x
 unfolding need
 need-accept n p none x e = cc
@@ -135,6 +144,10 @@ pub found-none : {A : Type 0} (o : Option A) → found o ≡ false → o ≡ non
 unfolding found
 found-none none e = refl
 found-none (some a) e = never (sym e)
+
+pub none-found : {A : Type 0} (o : Option A) → o ≡ none → found o ≡ false
+unfolding found
+none-found o e = rw e
 
 pub found-some : {A : Type 0} (o : Option A) → found o ≡ true → (a : A) × (o ≡ some a)
 unfolding found

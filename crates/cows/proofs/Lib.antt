@@ -5,5 +5,9 @@ pub mod Records
 pub mod Format
 pub mod Refusals
 pub mod Tables
+pub mod Stands
+pub mod Meeting
+pub mod Allows
+pub mod Corollaries
 pub mod Load
 pub mod Run

@@ -12,7 +12,7 @@ use Rattle.cows.specs.Terms.{value, variable, label, datum, atom}
 use Rattle.cows.specs.Within.{one}
 use Rattle.cows.specs.Moves.{Substitution, image, smallest, least, fresh, renaming}
 use Rattle.cows.specs.Allows.{SameSet, Smallest, Renames, finished, renames}
-use Rattle.cows.proofs.Basics.{never, cond-case, and-true, or-false, or-right, or-second, eqb-swap}
+use Rattle.cows.proofs.Basics.{never, cond-case, lt-case, and-true, or-false, or-right, or-second, eqb-swap}
 
 -- how many of n, n + 1, .. (k of them) are taken
 hits : ℕ → ℕ → List ℕ → ℕ
@@ -204,3 +204,39 @@ image-inj taken (d ∷ ds) a b ha hb e =
     go true p false q e h = never (sym (image-not taken ds f b (fresh-free taken d) hb) ∙ e)
     go false p true q e h = never (sym (eqb-swap f _ (image-not taken ds f a (fresh-free taken d) ha)) ∙ e)
     go false p false q e h = h e
+
+-- the first atom of a set is the least of the set
+least-below : (c d : ℕ) → atom d ≡ true → SameSet c d → least d ≤ c
+unfolding least
+least-below c d h s = set-case (least d ≤ c) d h
+    (λ e. rw e (value-range c (s .values ∙ e) .0))
+    (λ e. let (l, u) = variable-range d e in
+    rw (in-variables d l u .0, e) (variable-range c (s .variables ∙ e) .0))
+    (λ e. let (l, u) = label-range d e in
+    rw (in-labels d l u .0, in-labels d l u .1) (label-range c (s .labels ∙ e) .0))
+
+fresh-smallest : (taken : List ℕ) (d : ℕ) → atom d ≡ true → length taken < 16383 → Smallest taken d (fresh taken d)
+unfolding fresh
+fresh-smallest taken d h k = record {
+  set = fresh-alike taken d h k;
+  free = fresh-free taken d;
+  least = λ c s m. lt-case (fresh taken d ≤ c) c (fresh taken d)
+      (λ l. never (sym m ∙ smallest-least (suc (length taken)) (least d) taken c (least-below c d h s) l)) (λ l. l);
+}
+
+-- the atoms chosen are those that the rule of unfolding names, and it names no others
+pub renaming-renames : (taken ds : List ℕ) → every atom ds ≡ true → length taken + length ds < 16383 → Renames taken ds (renaming taken ds)
+unfolding renaming every
+renaming-renames taken [] h k = finished
+renaming-renames taken (d ∷ ds) h k =
+    let (h₁, h₂) = and-true (atom d) (every atom ds) h in
+    renames (fresh-smallest taken d h₁ (omega arith)) (renaming-renames (fresh taken d ∷ taken) ds h₂ (omega arith))
+
+smallest-unique : {taken : List ℕ} {d e f : ℕ} → Smallest taken d e → Smallest taken d f → e ≡ f
+smallest-unique {e = e} {f = f} h k = omega (arith, h .least f (k .set) (k .free), k .least e (h .set) (h .free))
+
+pub renames-unique : {taken ds : List ℕ} {σ τ : Substitution} → Renames taken ds σ → Renames taken ds τ → σ ≡ τ
+renames-unique finished finished = refl
+renames-unique {taken = taken} (renames {ds = ds} {d = d} h r) (renames {σ = τ} k q) =
+    let e = smallest-unique h k in
+    cc (e, renames-unique r (subst (λ c. Renames (c ∷ taken) ds τ) (sym e) q))
