@@ -1,24 +1,19 @@
 -- Laws of specs/Format: a term is read back from its records and from its bytes, and records of the right shape are their term's; the encoding
 -- of a right term is made of bytes, and no other right term has it.
 use mathlib.Core.Path.{_≡_, refl, sym, ap, _∙_}
-use mathlib.Core.Bool.{Bool, true, false, _&&_}
 use mathlib.Core.Option.{none}
 use mathlib.Core.List.{List, [], _∷_, _++_, map, append-assoc, append-nil}
-use Prim.Native.Nat.{ℕ, zero, suc, _+_, _*_, _/_, _%_, _≤_, _<_}
+use Prim.Native.Nat.{ℕ, zero, suc, _+_, _*_}
 use native.Mathlib.Omega.{arith}
 use native.Mathlib.Nat.{zero-add}
 use native.Mathlib.Numerals.{add-one}
-use lib.Dec.{leb, ltb, eqb}
-use lib.ListN.{length, getD, take, drop, length-append, drop-of-length-le}
-use lib.Seq.{take-at, drop-at, drop-cons}
-use borrow.Author.Tests.{eqb-true, leb-true, ltb-true, le-leb, lt-ltb}
-use Rattle.cows.specs.Basics.{every}
-use Rattle.cows.specs.Terms.{nil, kill, invoke, Prefix, receive, wait, protection, delimitation, replication, choice, parallel, Term, leaf, under, both, size, value, label, datum, atom}
-use Rattle.cows.specs.Format.{Bytes, bytes2, byte, word, Node, basic, prefix, join, nodes, layout, record16, bytes, encode, unused, interval, distinct, data4, pattern4, empty4, Row, kinds, slots, rightRow, rightRecord, tuple, node, pieces, records, children, push, build, decode}
+use lib.ListN.{length, getD, length-append}
+use lib.Seq.{take-at, drop-at}
+use Rattle.cows.specs.Terms.{nil, Term, leaf, under, both, size}
+use Rattle.cows.specs.Format.{Bytes, Node, basic, prefix, join, nodes, record16, bytes, encode, node, pieces, records, children, push, build, decode}
 use Rattle.cows.specs.Tables.{misshapen}
-use Rattle.cows.specs.Within.{RightTuple, RightBasic, RightPrefix, Right}
-use Rattle.cows.proofs.Basics.{never, and-true, true-and}
-use Rattle.cows.proofs.Records.{RightNode, right-record, record-right, node-record16, length-record16, record-bytes}
+use Rattle.cows.specs.Within.{Right}
+use Rattle.cows.proofs.Records.{RightNode, node-record16, length-record16, record-bytes}
 
 -- Terms and their records: read back, whatever follows.
 pub length-nodes : (t : Term) → length (nodes t) ≡ size t
@@ -137,11 +132,11 @@ pub nodes-encode : (t : Term) → Right t → map node (records (encode t)) ≡ 
 unfolding encode
 nodes-encode t h = ap (map node) (records-bytes (nodes t)) ∙ map-node (nodes t) (right-nodes t h)
 
+pub decode-encode : (t : Term) → Right t → decode (map node (records (encode t))) ≡ t
+decode-encode t h = ap decode (nodes-encode t h) ∙ decode-nodes t
+
 pub encode-injective : (s t : Term) → Right s → Right t → encode s ≡ encode t → s ≡ t
-encode-injective s t h k e = sym (back s h) ∙ (ap (λ b. decode (map node (records b))) e ∙ back t k)
-  where
-    back : (r : Term) → Right r → decode (map node (records (encode r))) ≡ r
-    back r l = ap decode (nodes-encode r l) ∙ decode-nodes r
+encode-injective s t h k e = sym (decode-encode s h) ∙ (ap (λ b. decode (map node (records b))) e ∙ decode-encode t k)
 
 -- made of bytes
 bytes-append : (xs ys : List ℕ) → Bytes xs → Bytes ys → Bytes (xs ++ ys)

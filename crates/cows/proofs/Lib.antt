@@ -9,5 +9,6 @@ pub mod Stands
 pub mod Meeting
 pub mod Allows
 pub mod Corollaries
+pub mod Step
 pub mod Load
 pub mod Run

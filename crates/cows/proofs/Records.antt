@@ -9,8 +9,8 @@ use lib.ListN.{length, getD, take, drop, drop-of-length-le}
 use lib.Seq.{drop-cons}
 use borrow.Author.Tests.{eqb-true, leb-true, ltb-true, le-leb, lt-ltb}
 use Rattle.cows.specs.Basics.{every}
-use Rattle.cows.specs.Terms.{nil, kill, invoke, receive, wait, protection, delimitation, replication, choice, parallel, value, label, datum, atom}
-use Rattle.cows.specs.Format.{Bytes, bytes2, byte, word, Node, basic, prefix, join, layout, record16, unused, interval, distinct, data4, pattern4, empty4, Row, kinds, slots, rightRow, rightRecord, tuple, node}
+use Rattle.cows.specs.Terms.{nil, kill, invoke, receive, wait, protection, delimitation, replication, choice, parallel, label, datum, atom}
+use Rattle.cows.specs.Format.{Bytes, bytes2, byte, word, Node, basic, prefix, join, layout, record16, unused, interval, distinct, data4, pattern4, empty4, Row, kinds, row, rowOf, slots, rightRow, rightRecord, tuple, node}
 use Rattle.cows.specs.Within.{RightTuple, RightBasic, RightPrefix}
 use Rattle.cows.proofs.Basics.{and-true, true-and, or-left}
 use Rattle.cows.proofs.Renaming.{set-case, value-range, variable-range, label-range}
@@ -21,9 +21,12 @@ RightNode (basic x) = RightBasic x
 RightNode (prefix u) = RightPrefix u
 RightNode (join j) = Unit {0}
 
--- A tuple ws fills n of four slots.
+-- A tuple ws fills n of four slots, the others being 0.
+abbrev four : ℕ → ℕ → ℕ → ℕ → List ℕ
+four a b c d = a ∷ b ∷ c ∷ d ∷ []
+
 abbrev pad : List ℕ → List ℕ
-pad ws = getD ws 0 0 ∷ getD ws 1 0 ∷ getD ws 2 0 ∷ getD ws 3 0 ∷ []
+pad ws = four (getD ws 0 0) (getD ws 1 0) (getD ws 2 0) (getD ws 3 0)
 
 abbrev Fills : List ℕ → ℕ → List ℕ → Type 0
 Fills ws n l = (length ws ≡ n) × (pad ws ≡ l)
@@ -33,7 +36,7 @@ unfolding every unused
 zeros [] h = refl
 zeros (x ∷ l) h = let (h₁, h₂) = and-true (eqb x 0) (every unused l) h in cc (eqb-true x 0 h₁, zeros l h₂)
 
-fills : (n a b c d : ℕ) → n ≤ 4 → every unused (drop n (a ∷ b ∷ c ∷ d ∷ [])) ≡ true → Fills (take n (a ∷ b ∷ c ∷ d ∷ [])) n (a ∷ b ∷ c ∷ d ∷ [])
+fills : (n a b c d : ℕ) → n ≤ 4 → every unused (drop n (four a b c d)) ≡ true → Fills (take n (four a b c d)) n (four a b c d)
 fills zero a b c d l h = (refl, zeros (a ∷ b ∷ c ∷ d ∷ []) h)
 fills (suc zero) a b c d l h = (refl, ap (λ r. a ∷ r) (zeros (b ∷ c ∷ d ∷ []) h))
 fills (suc (suc zero)) a b c d l h = (refl, ap (λ r. a ∷ b ∷ r) (zeros (c ∷ d ∷ []) h))
@@ -41,16 +44,15 @@ fills (suc (suc (suc zero))) a b c d l h = (refl, ap (λ r. a ∷ b ∷ c ∷ r)
 fills (suc (suc (suc (suc zero)))) a b c d l h = (refl, refl)
 fills (suc (suc (suc (suc (suc n))))) a b c d l h = absurd (omega arith)
 
-empty4-fills : (n a b c d : ℕ) → empty4 n (a ∷ b ∷ c ∷ d ∷ []) ≡ true → Fills [] n (a ∷ b ∷ c ∷ d ∷ [])
+empty4-fills : (n a b c d : ℕ) → empty4 n (four a b c d) ≡ true → Fills [] n (four a b c d)
 unfolding empty4 unused
-empty4-fills n a b c d h = let (h₁, h₂) = and-true (eqb n 0) _ h in (sym (eqb-true n 0 h₁), zeros (a ∷ b ∷ c ∷ d ∷ []) h₂)
+empty4-fills n a b c d h = let (h₁, h₂) = and-true (eqb n 0) _ h in (sym (eqb-true n 0 h₁), zeros (four a b c d) h₂)
 
-data4-fills : (n a b c d : ℕ) → data4 n (a ∷ b ∷ c ∷ d ∷ []) ≡ true
-    → Fills (take n (a ∷ b ∷ c ∷ d ∷ [])) n (a ∷ b ∷ c ∷ d ∷ []) × RightTuple (take n (a ∷ b ∷ c ∷ d ∷ []))
+data4-fills : (n a b c d : ℕ) → data4 n (four a b c d) ≡ true → Fills (take n (four a b c d)) n (four a b c d) × RightTuple (take n (four a b c d))
 unfolding data4
 data4-fills n a b c d h =
-    let (h₁, h₂) = and-true (leb n 4 && every datum (take n (a ∷ b ∷ c ∷ d ∷ []))) _ h in
-    let (h₃, h₄) = and-true (leb n 4) (every datum (take n (a ∷ b ∷ c ∷ d ∷ []))) h₁ in
+    let (h₁, h₂) = and-true (leb n 4 && every datum (take n (four a b c d))) _ h in
+    let (h₃, h₄) = and-true (leb n 4) _ h₁ in
     let f = fills n a b c d (leb-true n 4 h₃) h₂ in
     (f, (omega (arith, leb-true n 4 h₃, f .0), h₄))
 
@@ -99,7 +101,7 @@ bytes2-word x y h = cc (low, high)
     high : (x + 256 * y) / 256 ≡ y
     high = omega arith
 
--- two bytes, and n 16-bit numbers, of b from byte i on
+-- two bytes of b, and n 16-bit numbers, from byte i on
 drop-two : (b : List ℕ) (i : ℕ) → suc i < length b → byte b i ∷ byte b (suc i) ∷ drop (suc (suc i)) b ≡ drop i b
 unfolding byte
 drop-two b i h = cc (drop-cons b i 0 (omega arith), drop-cons b (suc i) 0 h)
@@ -128,12 +130,6 @@ unfolding raw words layout slots bytes2
 raw-layout b k a c i ws p q r s = cc (r .0, r .1)
 
 -- The row of a kind, and what it says of a record's fields.
-abbrev row : (ℕ → Bool) → (ℕ → Bool) → (ℕ → List ℕ → Bool) → (ℕ → Bool) → Row
-row a b c d = record { first = a; second = b; tuple = c; interval = d }
-
-abbrev rowOf : ℕ → Row
-rowOf k = getD kinds k (row unused unused empty4 unused)
-
 abbrev Fits : Row → List ℕ → Type 0
 Fits r b = (r .first (word b 2) ≡ true) × (r .second (word b 4) ≡ true) × (r .tuple (byte b 1) (slots b) ≡ true) × (r .interval (word b 14) ≡ true)
 
@@ -149,43 +145,37 @@ unused-zero : (n : ℕ) → unused n ≡ true → 0 ≡ n
 unfolding unused
 unused-zero n h = sym (eqb-true n 0 h)
 
-pattern-data : (b : List ℕ) → pattern4 (byte b 1) (slots b) ≡ true → (data4 (byte b 1) (slots b) ≡ true) × (distinct (tuple b) ≡ true)
-unfolding pattern4 tuple
-pattern-data b h = and-true (data4 (byte b 1) (slots b)) _ h
-
-empty : (b : List ℕ) → empty4 (byte b 1) (slots b) ≡ true → Fills [] (byte b 1) (slots b)
-unfolding slots
-empty b h = empty4-fills (byte b 1) (word b 6) (word b 8) (word b 10) (word b 12) h
-
--- a record with a tuple, with an atom alone, with nothing
+-- a record with a tuple, without one, with no field in use
 tupled : (b : List ℕ) (k : ℕ) → data4 (byte b 1) (slots b) ≡ true → unused (word b 14) ≡ true
     → (layout k (word b 2) (word b 4) (tuple b) 0 ≡ raw k b) × RightTuple (tuple b)
 unfolding slots tuple
 tupled b k h z =
     let (f, r) = data4-fills (byte b 1) (word b 6) (word b 8) (word b 10) (word b 12) h in
-    (unfold slots tuple in raw-layout b k (word b 2) (word b 4) 0 (tuple b) refl refl f (unused-zero (word b 14) z), r)
+    (raw-layout b k (word b 2) (word b 4) 0 (tuple b) refl refl f (unused-zero (word b 14) z), r)
 
-named : (b : List ℕ) (k : ℕ) → unused (word b 4) ≡ true → empty4 (byte b 1) (slots b) ≡ true → unused (word b 14) ≡ true → layout k (word b 2) 0 [] 0 ≡ raw k b
-named b k h e z = raw-layout b k (word b 2) 0 0 [] refl (unused-zero (word b 4) h) (empty b e) (unused-zero (word b 14) z)
-
-timed : (b : List ℕ) (k : ℕ) → unused (word b 2) ≡ true → unused (word b 4) ≡ true → empty4 (byte b 1) (slots b) ≡ true → layout k 0 0 [] (word b 14) ≡ raw k b
-timed b k g h e = raw-layout b k 0 0 (word b 14) [] (unused-zero (word b 2) g) (unused-zero (word b 4) h) (empty b e) refl
+bare : (b : List ℕ) (k a i : ℕ) → a ≡ word b 2 → unused (word b 4) ≡ true → empty4 (byte b 1) (slots b) ≡ true → i ≡ word b 14 → layout k a 0 [] i ≡ raw k b
+unfolding slots
+bare b k a i p h e q = raw-layout b k a 0 i [] p (unused-zero (word b 4) h) (empty4-fills (byte b 1) (word b 6) (word b 8) (word b 10) (word b 12) e) q
 
 plain : (b : List ℕ) (k : ℕ) → Fits (row unused unused empty4 unused) b → layout k 0 0 [] 0 ≡ raw k b
-plain b k h = raw-layout b k 0 0 0 [] (unused-zero (word b 2) (h .0)) (unused-zero (word b 4) (h .1)) (empty b (h .2)) (unused-zero (word b 14) (h .3))
+plain b k h = bare b k 0 0 (unused-zero (word b 2) (h .0)) (h .1) (h .2) (unused-zero (word b 14) (h .3))
+
+pattern-data : (b : List ℕ) → pattern4 (byte b 1) (slots b) ≡ true → (data4 (byte b 1) (slots b) ≡ true) × (distinct (tuple b) ≡ true)
+unfolding pattern4 tuple
+pattern-data b h = and-true (data4 (byte b 1) (slots b)) _ h
 
 -- A right record is what is read off it, written again; and what is read off it is right.
 right-kind : (b : List ℕ) (k : ℕ) → byte b 0 ≡ k → k < 10 → Fits (rowOf k) b → (record16 (node b) ≡ raw k b) × RightNode (node b)
-unfolding kinds node record16
+unfolding kinds rowOf node record16 interval unused empty4
 right-kind b zero e l h = rw e (plain b 0 h, tt)
-right-kind b (suc zero) e l h = rw e (named b 1 (h .1) (h .2) (h .3), h .0)
+right-kind b (suc zero) e l h = rw e (bare b 1 (word b 2) 0 refl (h .1) (h .2) (unused-zero (word b 14) (h .3)), h .0)
 right-kind b (suc (suc zero)) e l h = let (r, t) = tupled b 2 (h .2) (h .3) in rw e (r, (h .0, h .1, t))
 right-kind b (suc (suc (suc zero))) e l h = let (f, d) = pattern-data b (h .2) in let (r, t) = tupled b 3 f (h .3) in rw e (r, (h .0, h .1, t, d))
-right-kind b (suc (suc (suc (suc zero)))) e l h = rw e (timed b 4 (h .0) (h .1) (h .2), ltb-true (word b 14) 65536 (unfold interval in h .3))
+right-kind b (suc (suc (suc (suc zero)))) e l h = rw e (bare b 4 0 (word b 14) (unused-zero (word b 2) (h .0)) (h .1) (h .2) refl, ltb-true (word b 14) 65536 (h .3))
 right-kind b (suc (suc (suc (suc (suc zero))))) e l h = rw e (plain b 5 h, tt)
 right-kind b (suc (suc (suc (suc (suc (suc zero)))))) e l h = rw e (plain b 6 h, tt)
 right-kind b (suc (suc (suc (suc (suc (suc (suc zero))))))) e l h = rw e (plain b 7 h, tt)
-right-kind b (suc (suc (suc (suc (suc (suc (suc (suc zero)))))))) e l h = rw e (named b 8 (h .1) (h .2) (h .3), h .0)
+right-kind b (suc (suc (suc (suc (suc (suc (suc (suc zero)))))))) e l h = rw e (bare b 8 (word b 2) 0 refl (h .1) (h .2) (unused-zero (word b 14) (h .3)), h .0)
 right-kind b (suc (suc (suc (suc (suc (suc (suc (suc (suc zero))))))))) e l h = rw e (plain b 9 h, tt)
 right-kind b (suc (suc (suc (suc (suc (suc (suc (suc (suc (suc k)))))))))) e l h = absurd (omega arith)
 
@@ -203,7 +193,7 @@ unfolding rightRecord rightRow layout bytes2 word byte slots
 layout-right k a c i ws l p q t s = simp word-bytes2 (true-and l (true-and (true-and (true-and p q) t) s))
 
 pub record-right : (n : Node) → RightNode n → rightRecord (record16 n) ≡ true
-unfolding kinds record16 unused empty4 every interval
+unfolding kinds rowOf record16 unused empty4 every interval
 record-right (basic nil) h = layout-right 0 0 0 0 [] refl refl refl refl refl
 record-right (basic (kill k)) h = layout-right 1 k 0 0 [] refl h refl refl refl
 record-right (basic (invoke p o ws)) h = layout-right 2 p o 0 ws refl (h .0) (h .1) (right-data4 ws (h .2)) refl
@@ -255,29 +245,23 @@ small-slot [] h i = omega arith
 small-slot (w ∷ ws) h zero = small-datum w (and-true (datum w) _ h .0)
 small-slot (w ∷ ws) h (suc i) = small-slot ws (and-true (datum w) _ h .1) i
 
-layout-bytes : (k a c i : ℕ) (ws : List ℕ) → k < 256 → a < 65536 → c < 65536 → i < 65536 → RightTuple ws → Bytes (layout k a c ws i)
+layout-bytes : (k a c i : ℕ) (ws : List ℕ) → (k < 256) × (a < 65536) × (c < 65536) × (i < 65536) → RightTuple ws → Bytes (layout k a c ws i)
 unfolding layout bytes2
-layout-bytes k a c i ws hk ha hc hi h =
-    let h0 = small-slot ws (h .1) 0 in
-    let h1 = small-slot ws (h .1) 1 in
-    let h2 = small-slot ws (h .1) 2 in
-    let h3 = small-slot ws (h .1) 3 in
-    omega arith
+layout-bytes k a c i ws l h = omega (arith, small-slot ws (h .1) 0, small-slot ws (h .1) 1, small-slot ws (h .1) 2, small-slot ws (h .1) 3)
 
--- a record without a tuple
-bare-bytes : (k a i : ℕ) → k < 256 → a < 65536 → i < 65536 → Bytes (layout k a 0 [] i)
+bare-bytes : (k a i : ℕ) → (k < 256) × (a < 65536) × (i < 65536) → Bytes (layout k a 0 [] i)
 unfolding every
-bare-bytes k a i hk ha hi = layout-bytes k a 0 i [] hk ha (omega arith) hi (omega arith, refl)
+bare-bytes k a i l = layout-bytes k a 0 i [] (omega arith) (omega arith, refl)
 
 pub record-bytes : (n : Node) → RightNode n → Bytes (record16 n)
 unfolding record16
-record-bytes (basic nil) h = bare-bytes 0 0 0 (omega arith) (omega arith) (omega arith)
-record-bytes (basic (kill k)) h = bare-bytes 1 k 0 (omega arith) (omega (arith, label-range k h)) (omega arith)
-record-bytes (basic (invoke p o ws)) h = layout-bytes 2 p o 0 ws (omega arith) (small-datum p (h .0)) (small-datum o (h .1)) (omega arith) (h .2)
-record-bytes (prefix (receive p o ws)) h = layout-bytes 3 p o 0 ws (omega arith) (omega (arith, value-range p (h .0))) (omega (arith, value-range o (h .1))) (omega arith) (h .2)
-record-bytes (prefix (wait n)) h = bare-bytes 4 0 n (omega arith) (omega arith) h
-record-bytes (prefix protection) h = bare-bytes 7 0 0 (omega arith) (omega arith) (omega arith)
-record-bytes (prefix (delimitation d)) h = bare-bytes 8 d 0 (omega arith) (small-atom d h) (omega arith)
-record-bytes (prefix replication) h = bare-bytes 9 0 0 (omega arith) (omega arith) (omega arith)
-record-bytes (join choice) h = bare-bytes 5 0 0 (omega arith) (omega arith) (omega arith)
-record-bytes (join parallel) h = bare-bytes 6 0 0 (omega arith) (omega arith) (omega arith)
+record-bytes (basic nil) h = bare-bytes 0 0 0 (omega arith)
+record-bytes (basic (kill k)) h = bare-bytes 1 k 0 (omega (arith, label-range k h))
+record-bytes (basic (invoke p o ws)) h = layout-bytes 2 p o 0 ws (omega (arith, small-datum p (h .0), small-datum o (h .1))) (h .2)
+record-bytes (prefix (receive p o ws)) h = layout-bytes 3 p o 0 ws (omega (arith, value-range p (h .0), value-range o (h .1))) (h .2)
+record-bytes (prefix (wait n)) h = bare-bytes 4 0 n (omega arith)
+record-bytes (prefix protection) h = bare-bytes 7 0 0 (omega arith)
+record-bytes (prefix (delimitation d)) h = bare-bytes 8 d 0 (omega (arith, small-atom d h))
+record-bytes (prefix replication) h = bare-bytes 9 0 0 (omega arith)
+record-bytes (join choice) h = bare-bytes 5 0 0 (omega arith)
+record-bytes (join parallel) h = bare-bytes 6 0 0 (omega arith)

@@ -10,11 +10,11 @@ use native.Mathlib.Nat.{zero-add}
 use lib.Dec.{ltb, eqb}
 use lib.ListN.{length}
 use borrow.Author.Tests.{le-ltb, ltb-true, ltb-false, eqb-true, eq-eqb, not-false}
-use Rattle.cows.specs.Basics.{any, member, holds, found, firstFrom}
-use Rattle.cows.specs.Terms.{choice, parallel, Term, leaf, under, both, size, depth, prefixed, delimits, delimitsAtom, guard, usesBasic, usesPrefix, uses, binders, value, variable, label}
+use Rattle.cows.specs.Basics.{any, holds, found, firstFrom}
+use Rattle.cows.specs.Terms.{choice, parallel, Term, leaf, under, both, size, depth, prefixed, delimits, delimitsAtom, guard, usesBasic, usesPrefix, uses, bindable}
 use Rattle.cows.specs.Places.{inside, leftOf, rightOf, Way, Spot, descend, spot, sub, first, frameDelimits, enclosed, frameChooses}
 use Rattle.cows.specs.Tables.{tooDeep, inChoice, noGuard, unbound, delimitedBefore, again, escaped, clash}
-use Rattle.cows.specs.Within.{Guards, Guarded, Bound, Scoped, nowhere, one, counts, restricted, Formed}
+use Rattle.cows.specs.Within.{Guarded, Bound, Scoped, one, counts, restricted, Formed}
 use Rattle.cows.proofs.Basics.{never, bool-case, or-false, not-so, found-none, firstFrom-none, none-firstFrom}
 use Rattle.cows.proofs.Places.{Everywhere, Fails, at-first, at-under, at-left, at-right, all-leaf, all-under, all-both, first-none, none-first}
 
@@ -105,7 +105,7 @@ unfolding any
 any-bound K E [] h = tt
 any-bound K E (a ∷ l) h = let (p, q) = or-false (K a && not (E a)) _ h in ((λ e. not-false (E a) (ap (λ c. c && not (E a)) (sym e) ∙ p)), any-bound K E l q)
 
--- by a test that says that a use of an atom of which K holds is not enclosed
+-- the test for a use, not enclosed, of an atom of which K holds
 module _ (K : ℕ → Bool) where
   abbrev stray : ℕ → Spot → Bool
   stray n z = any (λ a. K a && not (enclosed a (z .way))) (uses (z .here))
@@ -127,14 +127,15 @@ tally : (ℕ → Bool) → ℕ → ℕ
 tally f zero = 0
 tally f (suc n) = one (f n) + tally f n
 
+-- (a number below n + 1 is n or below n)
+below-suc : (P : ℕ → Type 0) (n : ℕ) → P n → ((i : ℕ) → i < n → P i) → (i : ℕ) → i < suc n → P i
+below-suc P n h k i l = bool-case (P i) (ltb i n) (λ e. k i (ltb-true i n e)) (λ e. subst P (omega (arith, ltb-false i n e)) h)
+
+-- .. is 0 exactly if a search finds none ..
 tally-none : (f : ℕ → Bool) (n : ℕ) → ((i : ℕ) → i < n → f i ≡ false) → tally f n ≡ 0
 unfolding tally
 tally-none f zero h = refl
 tally-none f (suc n) h = rw (h n (omega arith), tally-none f n (λ i l. h i (omega arith)))
-
--- .. none does exactly if none is found ..
-below-suc : (P : ℕ → Type 0) (n : ℕ) → P n → ((i : ℕ) → i < n → P i) → (i : ℕ) → i < suc n → P i
-below-suc P n h k i l = bool-case (P i) (ltb i n) (λ e. k i (ltb-true i n e)) (λ e. subst P (omega (arith, ltb-false i n e)) h)
 
 none-tally : (f : ℕ → Bool) (n : ℕ) → tally f n ≡ 0 → (i : ℕ) → i < n → f i ≡ false
 unfolding tally
@@ -148,7 +149,7 @@ tally-found : (f : ℕ → Bool) (n : ℕ) → tally f n ≡ 0 → found (firstF
 unfolding found
 tally-found f n e = rw (none-firstFrom f 0 n (λ i l. rw zero-add (none-tally f n e i l)))
 
--- .. and at most one exactly if none does below one that does.
+-- .. and at most 1 exactly if it is 0 below each number that passes.
 tally-once : (f : ℕ → Bool) (n : ℕ) → ((i : ℕ) → i < n → f i ≡ true → tally f i ≡ 0) → tally f n ≤ 1
 unfolding tally
 tally-once f zero h = omega arith
@@ -188,6 +189,7 @@ tally-marks t d =
     simp zero-add at
     (tally-counts (marks t d) d [] 0 t (everywhere-every (λ n z. marks t d n ≡ delimitsAt d (z .here)) [] 0 t (λ n l. ap (marks t d) (zero-add n))))
 
+-- a test of the value that may be missing, by the number that it is
 holds-one : (p : ℕ → Bool) (a : ℕ) (o : Option ℕ) → holds p o ≡ false → holds (eqb a) o ≡ true → p a ≡ false
 unfolding holds
 holds-one p a none h e = never e
@@ -198,6 +200,7 @@ unfolding holds
 one-holds p none h = refl
 one-holds p (some d) h = h d (eq-eqb d d refl)
 
+-- no place delimits an atom again exactly if each atom is delimited at most once
 again-unique : (t : Term) → Everywhere (Fails (again t)) [] 0 t → (a : ℕ) → counts a t ≤ 1
 unfolding again delimitedBefore sub spot
 again-unique t h a =
@@ -217,7 +220,7 @@ pub formed-first : (t : Term) → Formed t → (first noGuard t ≡ none) × (fi
 unfolding noGuard inChoice enclosed any unbound clash escaped
 formed-first t f = (
   every-first noGuard t (guarded-every [] 0 t refl (f .guarded)),
-  every-first unbound t (scoped-every (λ a. variable a || label a) [] 0 t (f .closed)),
+  every-first unbound t (scoped-every bindable [] 0 t (f .closed)),
   none-first (clash t) t
       (λ n l. rw (unique-again t (f .unique) n l, every-everywhere (Fails (escaped t)) [] 0 t (scoped-every (restricted t) [] 0 t (f .private)) n l)),
 )
@@ -226,7 +229,7 @@ pub first-formed : (t : Term) → first noGuard t ≡ none → first unbound t �
 unfolding noGuard inChoice enclosed any unbound clash escaped
 first-formed t g c k = record {
   guarded = every-guarded [] 0 t (first-every noGuard t g) .1;
-  closed = every-scoped (λ a. variable a || label a) [] 0 t (first-every unbound t c);
+  closed = every-scoped bindable [] 0 t (first-every unbound t c);
   unique = again-unique t (λ n l. or-false (again t (0 + n) (descend [] t n)) _ (first-none (clash t) t k n l) .0);
   private = every-scoped (restricted t) [] 0 t
       (everywhere-every (Fails (escaped t)) [] 0 t (λ n l. or-false (again t (0 + n) (descend [] t n)) _ (first-none (clash t) t k n l) .1));

@@ -6,15 +6,16 @@ use mathlib.Core.List.{List, [], _∷_}
 use Prim.Native.Nat.{ℕ, _+_, _*_, _≤_}
 use native.Mathlib.Omega.{arith}
 use lib.Dec.{ltb}
-use Rattle.cows.specs.Basics.{only, Result, refuse, accept, need}
+use Rattle.cows.specs.Basics.{Result, refuse, accept}
 use Rattle.cows.specs.Terms.{Term, Ends, size, kills, invokes, prefixed, receives, waits, delimits, replicates, below}
 use Rattle.cows.specs.Places.{wayTo, sub}
 use Rattle.cows.specs.Active.{live, wanted}
 use Rattle.cows.specs.Moves.{Move, Kill, Communicate, Timeout, Elapse, Unfold, Extrude, killAt, communicateAt, timeoutAt, elapseBy, unfoldAt, extrudeAt, successor, fit, matched}
 use Rattle.cows.specs.Load.{load, endedBy, lost, spent, copies}
-use Rattle.cows.specs.Step.{readMove, allowed, stepTerm}
+use Rattle.cows.specs.Step.{readMove, stepTerm}
 use Rattle.cows.specs.Run.{Tally, noTally, count, Run, start, judgement, enter, turn, run, lostBy, losses}
-use Rattle.cows.proofs.Basics.{bind-accept, forbid-accept, need-accept, only-some, same-accept}
+use Rattle.cows.proofs.Basics.{bind-accept, forbid-accept, need-accept, only-some, same-accept, same-some}
+use Rattle.cows.proofs.Step.{step-accepted}
 use Rattle.cows.proofs.Load.{load-kill, load-communicate, load-timeout, load-elapse, load-unfold, load-extrude}
 
 -- what stands at the place that a move names
@@ -74,16 +75,6 @@ load-law t s (Elapse d) e = law-elapse t s d e
 load-law t s (Unfold a) e = law-unfold t s a e
 load-law t s (Extrude a) e = law-extrude t s a e
 
--- an accepted step reads a move, and its successor is that move's
-pub step-successor : (t s : Term) (m : List ℕ) (room : ℕ) → stepTerm t m room ≡ accept s → (move : Move) × (readMove m ≡ some move) × (successor t move ≡ accept s)
-unfolding stepTerm allowed
-step-successor t s m room e =
-    let (r, er, e₁) = bind-accept (allowed t m) _ s e in
-    let (move, em, e₂) = bind-accept (need 10 0 (readMove m)) _ r er in
-    let (q, eq, e₃) = bind-accept (successor t move) _ r e₂ in
-    let same = same-accept (forbid-accept 20 _ _ r e₃ .1) ∙ same-accept (forbid-accept 21 _ _ s e₁ .1) in
-    (move, need-accept 10 0 (readMove m) move em, eq ∙ ap accept same)
-
 -- The balance of a run that began with the load x, after moves that lost l.
 abbrev pub Balanced : ℕ → ℕ → Run → Type 0
 Balanced x l r = x + r .tally .copied ≡ 2 * r .tally .communications + r .tally .kills + r .tally .timeouts + load (r .table) + l
@@ -108,9 +99,8 @@ balanced-turn x l r m h = go (readMove m) refl (stepTerm (r .table) m 32768) ref
     go o eo (refuse n p) eq = omega arith
     go none eo (accept s) eq = omega arith
     go (some move) eo (accept s) eq =
-        let (move′, em, es) = step-successor (r .table) s m 32768 eq in
-        let same : move′ ≡ move = cc in
-        balanced-count x l (r .tally) (r .table) s move (subst (λ v. successor (r .table) v ≡ accept s) same es) h
+        let a = step-accepted (r .table) s m 32768 eq in
+        balanced-count x l (r .tally) (r .table) s move (subst (λ v. successor (r .table) v ≡ accept s) (same-some (sym (a .reads) ∙ eo)) (a .moves)) h
 
 balanced-run : (x l : ℕ) (r : Run) (ms : List (List ℕ)) → Balanced x l r → Balanced x (l + losses r ms) (run r ms)
 unfolding run losses

@@ -1,9 +1,9 @@
 -- Laws of specs/Tables: the table of a term within the limits is accepted as that term, and every accepted table is such a table.
-use mathlib.Core.Path.{_≡_, refl, sym, ap, subst, _∙_}
-use mathlib.Core.Bool.{true, false, not, _||_}
+use mathlib.Core.Path.{_≡_, refl, ap, _∙_}
+use mathlib.Core.Bool.{false, not, _||_}
 use mathlib.Core.Option.{none}
-use mathlib.Core.List.{List, [], _∷_, _++_, map, append-nil}
-use Prim.Native.Nat.{ℕ, zero, suc, _+_, _*_, _/_, _%_, _≤_}
+use mathlib.Core.List.{List, [], _∷_, map, append-nil}
+use Prim.Native.Nat.{ℕ, zero, suc, _*_, _/_, _%_, _≤_}
 use native.Mathlib.Omega.{arith}
 use lib.Dec.{ltb, eqb}
 use lib.ListN.{length, take, drop, length-take, length-drop, take-append-drop}
@@ -14,10 +14,10 @@ use Rattle.cows.specs.Places.{first}
 use Rattle.cows.specs.Format.{Bytes, Node, nodes, record16, bytes, encode, rightRecord, node, pieces, records, decode}
 use Rattle.cows.specs.Tables.{wrongLength, firstWrong, misshapen, tooDeep, noGuard, unbound, clash, judgeTerm, judge}
 use Rattle.cows.specs.Within.{Right, Formed, Within}
-use Rattle.cows.proofs.Basics.{or-false, orElse-none, placeIf-none, none-placeIf, forbid-accept, forbid-none, same-accept}
+use Rattle.cows.proofs.Basics.{or-false, orElse-none, placeIf-none, forbid-accept, same-accept}
 use Rattle.cows.proofs.Places.{size-pos}
-use Rattle.cows.proofs.Records.{RightNode, right-record, record-right}
-use Rattle.cows.proofs.Format.{RightNodes, right-nodes, nodes-right, decode-nodes, shape-nodes, nodes-decode, records-bytes, length-encode, nodes-encode, encode-bytes}
+use Rattle.cows.proofs.Records.{right-record, record-right}
+use Rattle.cows.proofs.Format.{RightNodes, right-nodes, nodes-right, decode-nodes, shape-nodes, nodes-decode, records-bytes, length-encode, nodes-encode}
 use Rattle.cows.proofs.Refusals.{shallow-first, first-shallow, formed-first, first-formed}
 
 -- 1: the length.

@@ -88,7 +88,7 @@ pub record Row : Type 0 where
   pub tuple : ℕ → List ℕ → Bool
   pub interval : ℕ → Bool
 
-abbrev row : (ℕ → Bool) → (ℕ → Bool) → (ℕ → List ℕ → Bool) → (ℕ → Bool) → Row
+abbrev pub row : (ℕ → Bool) → (ℕ → Bool) → (ℕ → List ℕ → Bool) → (ℕ → Bool) → Row
 row a b c d = record { first = a; second = b; tuple = c; interval = d }
 
 unfoldable pub kinds : List Row
@@ -106,6 +106,9 @@ kinds =
     ∷ row unused unused empty4 unused  -- 9 replication
     ∷ []
 
+unfoldable pub rowOf : ℕ → Row
+rowOf kind = getD kinds kind (row unused unused empty4 unused)
+
 -- A record is right if its kind is known and its fields are as the kind's row says.
 unfoldable pub slots : List ℕ → List ℕ
 slots b = word b 6 ∷ word b 8 ∷ word b 10 ∷ word b 12 ∷ []
@@ -115,7 +118,7 @@ rightRow r b =
     r .first (word b 2) && r .second (word b 4) && r .tuple (byte b 1) (slots b) && r .interval (word b 14)
 
 unfoldable pub rightRecord : List ℕ → Bool
-rightRecord b = ltb (byte b 0) (length kinds) && rightRow (getD kinds (byte b 0) (row unused unused empty4 unused)) b
+rightRecord b = ltb (byte b 0) (length kinds) && rightRow (rowOf (byte b 0)) b
 
 -- The table of kinds, read (an unknown kind reads as nil, and is no right record).
 unfoldable pub tuple : List ℕ → List ℕ
@@ -168,5 +171,5 @@ decode ns = getD (build ns) 0 (leaf nil)
 
 -- (for computed checks) to unfold this is to unfold every definition of this file
 unfoldable pub open-format : Unit {0}
-unfolding bytes2 byte word nodes layout record16 bytes encode unused interval distinct data4 pattern4 empty4 kinds slots rightRow rightRecord tuple node pieces records children push build decode
+unfolding bytes2 byte word nodes layout record16 bytes encode unused interval distinct data4 pattern4 empty4 kinds rowOf slots rightRow rightRecord tuple node pieces records children push build decode
 open-format = tt

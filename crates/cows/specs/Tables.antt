@@ -6,7 +6,7 @@ use Prim.Native.Nat.{ℕ, zero, suc, _+_, _%_}
 use lib.Dec.{ltb, eqb}
 use lib.ListN.{length}
 use Rattle.cows.specs.Basics.{any, member, holds, found, placeIf, orElse, firstFrom, Result, accept, _>>=_, _>>_, forbid}
-use Rattle.cows.specs.Terms.{Term, value, variable, label, guard, uses, binders, delimits, prefixed, delimitsAtom}
+use Rattle.cows.specs.Terms.{Term, value, bindable, guard, uses, binders, delimits, prefixed, delimitsAtom}
 use Rattle.cows.specs.Places.{Way, Frame, Spot, spot, sub, first, enclosed, frameChooses}
 use Rattle.cows.specs.Format.{Node, rightRecord, node, records, children, decode}
 
@@ -40,7 +40,7 @@ noGuard n z = inChoice (z .way) && not (guard (z .here))
 
 -- 6: a variable or label used outside every delimitation of it.
 unfoldable pub unbound : ℕ → Spot → Bool
-unbound n z = any (λ a. (variable a || label a) && not (enclosed a (z .way))) (uses (z .here))
+unbound n z = any (λ a. bindable a && not (enclosed a (z .way))) (uses (z .here))
 
 -- 7: a second delimitation of an atom (an earlier record of the table t delimits it) ..
 unfoldable pub delimitedBefore : Term → ℕ → ℕ → Bool

@@ -47,6 +47,10 @@ datum a = value a || variable a
 unfoldable pub atom : ℕ → Bool
 atom a = datum a || label a
 
+-- the atoms that must stand inside a delimitation of theirs
+abbrev pub bindable : ℕ → Bool
+bindable a = variable a || label a
+
 -- the number of records; the depth, the root's being 1
 unfoldable pub size : Term → ℕ
 size (leaf x) = 1

@@ -5,7 +5,7 @@ use mathlib.Core.List.{List, [], _∷_}
 use Prim.Native.Nat.{ℕ, _+_, _≤_, _<_}
 use lib.ListN.{length}
 use Rattle.cows.specs.Basics.{every, member}
-use Rattle.cows.specs.Terms.{Basic, nil, kill, invoke, Prefix, receive, wait, protection, delimitation, replication, Join, choice, parallel, Term, leaf, under, both, value, variable, label, datum, atom, size, depth, delimitsAtom, guard, usesBasic, usesPrefix, binders}
+use Rattle.cows.specs.Terms.{Basic, nil, kill, invoke, Prefix, receive, wait, protection, delimitation, replication, Join, choice, parallel, Term, leaf, under, both, value, label, datum, atom, bindable, size, depth, delimitsAtom, guard, usesBasic, usesPrefix, binders}
 use Rattle.cows.specs.Format.{distinct}
 
 -- The table of kinds: what each uses. A tuple is at most four values and variables.
@@ -70,7 +70,7 @@ restricted t a = value a && member a (binders t)
 -- A delimited value occurs nowhere outside its delimitation.
 pub record Formed (t : Term) : Type 0 where
   pub guarded : Guarded t
-  pub closed : Scoped (λ a. variable a || label a) nowhere t
+  pub closed : Scoped bindable nowhere t
   pub unique : (a : ℕ) → counts a t ≤ 1
   pub private : Scoped (restricted t) nowhere t
 
