@@ -10,5 +10,7 @@ pub mod Meeting
 pub mod Allows
 pub mod Corollaries
 pub mod Step
+pub mod Steps
 pub mod Load
 pub mod Run
+pub mod Theorems

@@ -12,9 +12,13 @@ use Rattle.cows.specs.Places.{wayTo, sub}
 use Rattle.cows.specs.Active.{live, wanted}
 use Rattle.cows.specs.Moves.{Move, Kill, Communicate, Timeout, Elapse, Unfold, Extrude, killAt, communicateAt, timeoutAt, elapseBy, unfoldAt, extrudeAt, successor, fit, matched}
 use Rattle.cows.specs.Load.{load, endedBy, lost, spent, copies}
-use Rattle.cows.specs.Step.{readMove, stepTerm}
+use Rattle.cows.specs.Format.{encode}
+use Rattle.cows.specs.Tables.{judge}
+use Rattle.cows.specs.Within.{Within}
+use Rattle.cows.specs.Step.{readMove, stepTerm, judgeStep}
 use Rattle.cows.specs.Run.{Tally, noTally, count, Run, start, judgement, enter, turn, run, lostBy, losses}
-use Rattle.cows.proofs.Basics.{bind-accept, forbid-accept, need-accept, only-some, same-accept, same-some}
+use Rattle.cows.proofs.Basics.{bind-accept, accept-bind, forbid-accept, need-accept, only-some, same-accept, same-some}
+use Rattle.cows.proofs.Tables.{within-judge}
 use Rattle.cows.proofs.Step.{step-accepted}
 use Rattle.cows.proofs.Load.{load-kill, load-communicate, load-timeout, load-elapse, load-unfold, load-extrude}
 
@@ -115,3 +119,8 @@ run-balance t ms = omega (arith, balanced-run (load t) 0 (start t) ms (omega ari
 pub run-bound : (t : Term) (ms : List (List ℕ)) → let r = run (start t) ms in
     2 * r .tally .communications + r .tally .kills + r .tally .timeouts + load (r .table) ≤ load t + r .tally .copied
 run-bound t ms = omega (arith, run-balance t ms)
+
+-- The run's judgement of a move is the step's on the bytes of the table that it keeps.
+pub judgement-step : (r : Run) (m : List ℕ) → Within (r .table) → judgement r m ≡ judgeStep (encode (r .table)) m 32768
+unfolding judgement judgeStep
+judgement-step r m w = sym (accept-bind (judge (encode (r .table))) (λ t. stepTerm t m 32768) (r .table) (within-judge (r .table) w))

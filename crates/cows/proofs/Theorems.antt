@@ -1,0 +1,134 @@
+-- The theorems, each with a one-line proof that cites where it is shown. What they speak of is defined in specs/; a table is a list of bytes.
+use mathlib.Core.Path.{_≡_, sym, ap, _∙_}
+use mathlib.Core.Logic.{_≢_, _↔_}
+use mathlib.Core.Bool.{false}
+use mathlib.Core.List.{List, _++_, _∷_, map}
+use Prim.Native.Nat.{ℕ, _+_, _*_, _≤_}
+use native.Mathlib.Omega.{arith}
+use lib.Dec.{T}
+use lib.ListN.{length, getD}
+use Rattle.cows.specs.Basics.{every, accept}
+use Rattle.cows.specs.Terms.{nil, kill, invoke, receive, delimitation, Term, leaf, under, size, depth, kills, below}
+use Rattle.cows.specs.Places.{inside, Way, fill, wayTo, sub, enclosed}
+use Rattle.cows.specs.Format.{Bytes, encode}
+use Rattle.cows.specs.Tables.{judge}
+use Rattle.cows.specs.Within.{Within}
+use Rattle.cows.specs.Moves.{halt, haltBeside, Substitution, silence, Move, Kill, Communicate, Timeout, Elapse, Unfold, Extrude, successor}
+use Rattle.cows.specs.Allows.{Stands, Matches, Unheld, Tightest, Allows}
+use Rattle.cows.specs.Step.{judgeStep, stepTerm, stepReply, stepOutput}
+use Rattle.cows.specs.Load.{load, shielded, endedBy, dropped, lost, spent, copies}
+use Rattle.cows.specs.Run.{Run, start, judgement, run, losses}
+use Rattle.cows.specs.Papers.{right, papers, papers-right}
+use Rattle.cows.specs.Misreadings.{misreadings, misreadings-right}
+use Rattle.cows.proofs.Format.{encode-bytes, encode-injective}
+use Rattle.cows.proofs.Tables.{judge-encode, judge-within, within-judge}
+use Rattle.cows.proofs.Allows.{allows-unique}
+use Rattle.cows.proofs.Corollaries.{meeting-unheld, meeting-tightest, kill-spares}
+use Rattle.cows.proofs.Steps.{Steps, accepted-steps, steps-accepted}
+use Rattle.cows.proofs.Step.{refusal-silent, output-behind, output-length}
+use Rattle.cows.proofs.Load.{halt-halt, load-halt}
+use Rattle.cows.proofs.Run.{load-law, run-balance, run-bound, judgement-step}
+
+-- 1. Every well-formed table stands for one term, and every term within the limits has one table.
+pub table-accepted : (b : List ℕ) (t : Term) → Bytes b → (judge b ≡ accept t) ↔ (Within t × (encode t ≡ b))
+table-accepted b t h = ((λ e. (judge-within b t h e, judge-encode b t h e)), λ p. ap judge (sym (p .1)) ∙ within-judge t (p .0))
+
+pub table-one-term : (s t : Term) → Within s → Within t → encode s ≡ encode t → s ≡ t
+table-one-term s t v w e = encode-injective s t (v .right) (w .right) e
+
+pub table-bytes : (t : Term) → Within t → Bytes (encode t)
+table-bytes t w = encode-bytes t (w .right)
+
+-- 2. A move is accepted with successor s if, and only if, the table is well formed, the rules allow the move on it with that successor, and it keeps
+-- the limits and fits.
+pub step-accepted : (table m : List ℕ) (room : ℕ) (s : Term) → Bytes table → (judgeStep table m room ≡ accept s) ↔ Steps table m room s
+step-accepted table m room s h = (accepted-steps table m room s h, steps-accepted table m room s)
+
+-- the successor is determined by the term and the move
+pub one-successor : (t s r : Term) (m : Move) → Within t → Allows t m s → Allows t m r → s ≡ r
+one-successor t s r m w a b = allows-unique t s r m w a b
+
+-- no [k] around either party of an accepted meeting holds a ready kill of k
+pub meeting-not-held : (t s : Term) (a b : ℕ) → Within t → successor t (Communicate a b) ≡ accept s → Unheld t a × Unheld t b
+meeting-not-held t s a b w e = meeting-unheld t s a b w e
+
+-- no ready receive that fits binds fewer variables
+pub meeting-most-defined : (t s : Term) (a b p o : ℕ) (ws vs : List ℕ) (r : Term) (σ : Substitution) → Within t → successor t (Communicate a b) ≡ accept s
+    → Stands t a (under (receive p o ws) r) → Stands t b (leaf (invoke p o vs)) → Matches ws vs σ → Tightest t p o vs (length σ)
+meeting-most-defined t s a b p o ws vs r σ w e h k m = meeting-tightest t s a b p o ws vs r σ w e h k m
+
+-- a kill inside [k] leaves, of what stands parallel to it there, only what halting keeps; outside nothing changes
+pub kill-leaves : (t s : Term) (a k : ℕ) → Within t → successor t (Kill a) ≡ accept s → Stands t a (leaf (kill k))
+    → (v : Way) × (w : Way) × (wayTo t a ≡ v ++ (inside (delimitation k) ∷ w)) × (enclosed k v ≡ false)
+    × (t ≡ fill w (under (delimitation k) (fill v (leaf (kill k))))) × (s ≡ fill w (under (delimitation k) (fill (map haltBeside v) (leaf nil))))
+kill-leaves t s a k w e h = kill-spares t s a k w e h
+
+-- 3. The successor of an accepted move is within the limits again, and so is every table of a run.
+pub successor-within : (t s : Term) (m : List ℕ) (room : ℕ) → Within t → stepTerm t m room ≡ accept s → Within s
+successor-within t s m room w e = ?
+
+pub tables-within : (t : Term) (ms : List (List ℕ)) → Within t → Within (run (start t) ms .table)
+tables-within t ms w = ?
+
+-- 4. The load law of each move: before = after, what the moving records weigh, and what was lost.
+pub load-kill : (t s : Term) (a : ℕ) → successor t (Kill a) ≡ accept s → load t ≡ load s + 1 + endedBy (kills (sub t a)) (wayTo t a)
+unfolding spent copies lost
+load-kill t s a e = omega (arith, load-law t s (Kill a) e)
+
+pub load-communicate : (t s : Term) (a b : ℕ) → successor t (Communicate a b) ≡ accept s → load t ≡ load s + 2 + dropped (wayTo (silence t b) a)
+unfolding spent copies lost
+load-communicate t s a b e = omega (arith, load-law t s (Communicate a b) e)
+
+pub load-timeout : (t s : Term) (a : ℕ) → successor t (Timeout a) ≡ accept s → load t ≡ load s + 1 + dropped (wayTo t a)
+unfolding spent copies lost
+load-timeout t s a e = omega (arith, load-law t s (Timeout a) e)
+
+pub load-elapse : (t s : Term) (d : ℕ) → successor t (Elapse d) ≡ accept s → load t ≡ load s
+unfolding spent copies lost
+load-elapse t s d e = omega (arith, load-law t s (Elapse d) e)
+
+pub load-unfold : (t s : Term) (a : ℕ) → successor t (Unfold a) ≡ accept s → load t + load (below (sub t a)) ≡ load s
+unfolding spent copies lost
+load-unfold t s a e = omega (arith, load-law t s (Unfold a) e)
+
+pub load-extrude : (t s : Term) (a : ℕ) → successor t (Extrude a) ≡ accept s → load t ≡ load s
+unfolding spent copies lost
+load-extrude t s a e = omega (arith, load-law t s (Extrude a) e)
+
+-- Demand 3 over every list of moves of any length, refused ones included: the balance, and the inequality.
+pub list-balance : (t : Term) (ms : List (List ℕ)) → let r = run (start t) ms in
+    load t + r .tally .copied ≡ 2 * r .tally .communications + r .tally .kills + r .tally .timeouts + load (r .table) + losses (start t) ms
+list-balance t ms = run-balance t ms
+
+pub list-bound : (t : Term) (ms : List (List ℕ)) → let r = run (start t) ms in
+    2 * r .tally .communications + r .tally .kills + r .tally .timeouts + load (r .table) ≤ load t + r .tally .copied
+list-bound t ms = run-bound t ms
+
+-- the run's judgement of a move is the step's on the table that it keeps
+pub run-steps : (r : Run) (m : List ℕ) → Within (r .table) → judgement r m ≡ judgeStep (encode (r .table)) m 32768
+run-steps r m w = judgement-step r m w
+
+-- 5. A refusal leaves the output as it was; an acceptance changes no byte behind the successor.
+pub refused-untouched : (table m out : List ℕ) → stepReply table m out .answer ≢ 0 → stepOutput table m out ≡ out
+refused-untouched table m out h = refusal-silent table m out h
+
+pub behind-untouched : (table m out : List ℕ) (i : ℕ) → 16 * stepReply table m out .records ≤ i → getD (stepOutput table m out) i 0 ≡ getD out i 0
+behind-untouched table m out i h = output-behind table m out i h
+
+pub output-as-long : (table m out : List ℕ) → length (stepOutput table m out) ≡ length out
+output-as-long table m out = output-length table m out
+
+-- 6. Halting twice is halting once; what it leaves is the load of the protections reached from the root through parallels, delimitations and
+-- replications only.
+pub halting-twice : (t : Term) → halt (halt t) ≡ halt t
+halting-twice t = halt-halt t
+
+pub halting-load : (t : Term) → load (halt t) ≡ shielded t
+halting-load t = load-halt t
+
+-- N1 to N12, and the misreadings.
+pub nights : T (every right papers)
+nights = papers-right
+
+pub readings : T (every right misreadings)
+readings = misreadings-right
