@@ -73,6 +73,11 @@ pub implies-false : {a b : Bool} → (a ≡ true → b ≡ true) → b ≡ false
 implies-false {a = true} f e = sym (f refl) ∙ e
 implies-false {a = false} f e = refl
 
+pub and-not : {a b : Bool} → (a && not b) ≡ false → a ≡ true → b ≡ true
+and-not {a = true} {b = true} e h = refl
+and-not {a = true} {b = false} e h = sym e
+and-not {a = false} e h = never h
+
 pub not-mono : {a b : Bool} → (a ≡ true → b ≡ true) → not b ≡ true → not a ≡ true
 not-mono {a = true} f h = sym (ap not (f refl)) ∙ h
 not-mono {a = false} f h = refl

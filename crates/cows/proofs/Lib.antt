@@ -4,3 +4,4 @@ pub mod Renaming
 pub mod Scopes
 pub mod Parts
 pub mod Mapping
+pub mod Binding

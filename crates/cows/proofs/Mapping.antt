@@ -103,10 +103,10 @@ delimits-source f b protection h = never h
 delimits-source f b (delimitation d) h = (d, eq-eqb d d refl, eqb-true b (f d) h)
 delimits-source f b replication h = never h
 
-abbrev Source : (ℕ → ℕ) → ℕ → Term → Type 0
+abbrev pub Source : (ℕ → ℕ) → ℕ → Term → Type 0
 Source f b t = (d : ℕ) × (1 ≤ counts d t) × (b ≡ f d)
 
-pub counts-source : (f : ℕ → ℕ) (b : ℕ) (t : Term) → 1 ≤ counts b (mapAtoms f t) → (d : ℕ) × (1 ≤ counts d t) × (b ≡ f d)
+pub counts-source : (f : ℕ → ℕ) (b : ℕ) (t : Term) → 1 ≤ counts b (mapAtoms f t) → Source f b t
 unfolding mapAtoms
 counts-source f b (leaf x) h = absurd (omega arith)
 counts-source f b (under u t) h = go (delimitsAtom b (mapPrefix f u)) refl (counts-source f b t)

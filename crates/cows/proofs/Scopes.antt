@@ -98,6 +98,15 @@ used-both P Q E (leaf x) h k = all-both _ _ (usesBasic x) h k
 used-both P Q E (under u t) h k = (all-both _ _ (usesPrefix u) (h .0) (k .0), used-both P Q (inner u E) t (h .1) (k .1))
 used-both P Q E (both j s t) h k = (used-both P Q E s (h .0) (k .0), used-both P Q E t (h .1) (k .1))
 
+all-any : (P : ℕ → Type 0) → ((a : ℕ) → P a) → (l : List ℕ) → All P l
+all-any P f [] = tt
+all-any P f (a ∷ l) = (f a, all-any P f l)
+
+pub used-any : (P : Rule) → ((a : ℕ) (E : ℕ → Bool) → P a E) → (E : ℕ → Bool) (t : Term) → Used P E t
+used-any P f E (leaf x) = all-any _ (λ a. f a E) (usesBasic x)
+used-any P f E (under u t) = (all-any _ (λ a. f a E) (usesPrefix u), used-any P f (inner u E) t)
+used-any P f E (both j s t) = (used-any P f E s, used-any P f E t)
+
 -- What stands in a frame decides nothing of whether the whole is a guard; a guard in place of a guard keeps a choice right.
 pub guard-plug : (f : Frame) (s r : Term) → guard (plug f s) ≡ guard (plug f r)
 unfolding plug guard
