@@ -17,7 +17,7 @@ use Rattle.cows.proofs.Places.{descend-here, replaced, Everywhere, at-f
 use Rattle.cows.proofs.Renaming.{value-range, variable-range, label-range}
 use Rattle.cows.proofs.Scopes.{All, Rule, inner, Used, local, Need, Inside, Weakens, _and_, inside-refl, need-weakens, all-map, used-mono, used-both, used-any, used-scoped, scoped-used, member-counts, restricted-mono}
 use Rattle.cows.proofs.Mapping.{Carries, Fits, guarded-mapped, used-mapped, counts-mapped, right-mapped}
-use Rattle.cows.proofs.Parts.{Part, part-used, part-counts}
+use Rattle.cows.proofs.Parts.{Sound, Part, part-used, part-counts}
 
 -- Where x is used, v may be used by the rule P.
 abbrev pub Instead : ℕ → ℕ → Rule → Rule
@@ -191,14 +191,13 @@ part-bind {t = t} {r = r} p =
     (λ y w vy vw h. used-mono _ _ (instead-weakens y w (restricted t) (restricted r) (λ a. restricted-mono r t a (part-counts p a))) nowhere nowhere (inside-refl nowhere) r
     (part-used p _ (instead-weakens y w (restricted t) (restricted t) (inside-refl (restricted t))) nowhere h))
 
-pub bind-kept : (σ : Substitution) (t : Term) → AllBind t σ → Right t → Formed t → Right (bind σ t) × Formed (bind σ t)
+pub sound-bind : (σ : Substitution) (t : Term) → AllBind t σ → Sound t → Sound (bind σ t)
 unfolding bind
-bind-kept [] t h r f = (r, f)
-bind-kept (p ∷ σ) t h r f =
-    bind-kept σ (instantiate x v t)
+sound-bind [] t h k = k
+sound-bind (p ∷ σ) t h (r, f) =
+    sound-bind σ (instantiate x v t)
     (all-bind t (instantiate x v t) (λ y w vy vw. instead-instantiate x v vx vv _ _ (fewer x v vx vv t f) y w vy vw nowhere t) σ (h .1))
-    (right-instantiate x v vx vv t r)
-    (formed-instantiate x v vx vv t f (h .0 .instead))
+    (right-instantiate x v vx vv t r, formed-instantiate x v vx vv t f (h .0 .instead))
   where
     x : ℕ
     x = p .0

@@ -5,3 +5,5 @@ pub mod Scopes
 pub mod Parts
 pub mod Mapping
 pub mod Binding
+pub mod Unfolding
+pub mod Preserving

@@ -16,6 +16,10 @@ use Rattle.cows.proofs.Basics.{never, cond-case, or-right, or-swap}
 use Rattle.cows.proofs.Places.{fill-spot, fill-ind, replaced}
 use Rattle.cows.proofs.Scopes.{All, Rule, inner, Used, local, Need, Inside, Weakens, inside-refl, need-weakens, all-map, used-mono, used-scoped, scoped-used, guard-plug, guarded-plug, restricted-mono}
 
+-- right records and right scopes
+abbrev pub Sound : Term → Type 0
+Sound t = Right t × Formed t
+
 -- the same prefix, or a wait with a shorter interval
 pub data Lowered : Prefix → Prefix → Type 0 where
   same : {u : Prefix} → Lowered u u
@@ -113,7 +117,7 @@ outward-right d (inside u) s h = (h .1 .0, (h .0, h .1 .1))
 outward-right d (leftOf j t) s h = (h .0 .0, (h .0 .1, h .1))
 outward-right d (rightOf j t) s h = (h .1 .0, (h .0, h .1 .1))
 
-pub part-right : {g : Bool} {t r : Term} → Part g t r → Right t → Right r
+part-right : {g : Bool} {t r : Term} → Part g t r → Right t → Right r
 part-right whole h = h
 part-right cut h = tt
 part-right (down same p) h = (h .0, part-right p (h .1))
@@ -131,7 +135,7 @@ part-scoped {t = t} {r = r} p K L k h =
     (used-mono (Need K) (Need L) (need-weakens K L k) nowhere nowhere (inside-refl nowhere) r
     (part-used p (Need K) (need-weakens K K (inside-refl K)) nowhere (scoped-used K nowhere t h)))
 
-pub part-formed : {g : Bool} {t r : Term} → Part g t r → Formed t → Formed r
+part-formed : {g : Bool} {t r : Term} → Part g t r → Formed t → Formed r
 part-formed {t = t} {r = r} p f =
     record {
       guarded = part-guarded p (f .guarded);
@@ -139,6 +143,9 @@ part-formed {t = t} {r = r} p f =
       unique = λ a. omega (arith, part-counts p a, f .unique a);
       private = part-scoped p (restricted t) (restricted r) (λ a. restricted-mono r t a (part-counts p a)) (f .private);
     }
+
+pub part-sound : {g : Bool} {t r : Term} → Part g t r → Sound t → Sound r
+part-sound p (h, f) = (part-right p h, part-formed p f)
 
 -- in a frame, and along a way
 plug-part : (f : Frame) (s r : Term) → Part true s r → Part true (plug f s) (plug f r)
@@ -151,6 +158,24 @@ plug-part (rightOf parallel t) s r p = beside whole p
 
 pub fill-part : (w : Way) {s r : Term} → Part true s r → Part true (fill w s) (fill w r)
 fill-part w {s} {r} p = fill-ind (Part true) plug-part w s r p
+
+-- the table of kinds along a way: of what stands at its end, and of the whole
+right-plug : (f : Frame) (s : Term) → Right (plug f s) → Right s × ((r : Term) → Right r → Right (plug f r))
+unfolding plug
+right-plug (inside u) s h = (h .1, λ r k. (h .0, k))
+right-plug (leftOf j t) s h = (h .0, λ r k. (k, h .1))
+right-plug (rightOf j t) s h = (h .1, λ r k. (h .0, k))
+
+pub right-fill : (w : Way) (s : Term) → Right (fill w s) → Right s × ((r : Term) → Right r → Right (fill w r))
+unfolding fill
+right-fill [] s h = (h, λ r k. k)
+right-fill (f ∷ w) s h =
+    let (p, up) = right-fill w (plug f s) h in
+    let (q, on) = right-plug f s p in
+    (q, λ r k. up (plug f r) (on r k))
+
+pub right-sub : (t : Term) (n : ℕ) → Right t → Right (sub t n)
+right-sub t n h = right-fill (wayTo t n) (sub t n) (rw (fill-spot t n) h) .0
 
 -- Kill: halting prunes, and so does halting beside the way.
 pub part-halt : (t : Term) → Part true t (halt t)
