@@ -1,21 +1,21 @@
 -- Communication keeps a term well formed: the variables bound are delimited where their values may be used, so each value may take its variable's place.
 use mathlib.Core.Path.{_≡_, refl, sym, ap, subst, _∙_}
-use mathlib.Core.Bool.{Bool, true, false, cond, not, _&&_, _||_}
-use mathlib.Core.Option.{Option, none, some}
+use mathlib.Core.Bool.{Bool, true, false, not, _&&_, _||_}
+use mathlib.Core.Option.{some}
 use mathlib.Core.List.{List, [], _∷_}
-use Prim.Native.Nat.{ℕ, zero, suc, _+_, _-_, _≤_}
+use Prim.Native.Nat.{ℕ, suc, _+_, _≤_}
 use native.Mathlib.Omega.{arith}
-use lib.Dec.{ltb, eqb}
-use borrow.Author.Tests.{eqb-true, eqb-false, eq-eqb, ne-eqb, not-true, not-false}
-use Rattle.cows.specs.Basics.{any, every, member, holds, found, Result, accept}
-use Rattle.cows.specs.Terms.{Basic, nil, kill, invoke, Prefix, receive, wait, protection, delimitation, replication, Join, choice, parallel, Term, leaf, under, both, Ends, value, variable, label, datum, size, invokes, prefixed, delimits, delimitsAtom, guard, usesBasic, usesPrefix, binders}
-use Rattle.cows.specs.Places.{Frame, inside, leftOf, rightOf, plug, Way, Spot, descend, spot, wayTo, sub, first, frameDelimits, enclosed}
+use lib.Dec.{eqb}
+use borrow.Author.Tests.{eqb-true, eqb-false, eq-eqb, not-true}
+use Rattle.cows.specs.Basics.{any, every, member, holds, found, accept}
+use Rattle.cows.specs.Terms.{nil, kill, invoke, Prefix, receive, wait, protection, delimitation, replication, choice, parallel, Term, leaf, under, both, Ends, value, variable, label, datum, size, invokes, prefixed, delimits, delimitsAtom, guard, usesBasic, usesPrefix, binders}
+use Rattle.cows.specs.Places.{inside, leftOf, rightOf, Way, wayTo, first, frameDelimits, enclosed}
 use Rattle.cows.specs.Within.{Right, Guarded, one, counts, restricted, nowhere, Formed}
-use Rattle.cows.specs.Moves.{Substitution, Matching, binds, differs, extend, match, closedEnds, fit, matched, outside, inScope, silence, mapAtoms, image, instantiate, bind}
-use Rattle.cows.proofs.Basics.{never, cond-case, cond-case₂, and-true, and-not, or-false, or-left, or-right, or-second, or-case, not-so, found-none, holds-some, same-accept}
-use Rattle.cows.proofs.Places.{descend-here, replaced, Everywhere, at-first, at-under, at-left, at-right, Fails, first-none}
+use Rattle.cows.specs.Moves.{Substitution, Matching, binds, differs, extend, match, closedEnds, fit, matched, outside, inScope, mapAtoms, image, instantiate, bind}
+use Rattle.cows.proofs.Basics.{never, cond-case, and-true, and-not, or-false, or-left, or-right, or-second, or-case, not-so, found-none, holds-some, same-accept}
+use Rattle.cows.proofs.Places.{Everywhere, at-first, at-under, at-left, at-right, Fails, first-none}
 use Rattle.cows.proofs.Renaming.{value-range, variable-range, label-range}
-use Rattle.cows.proofs.Scopes.{All, Rule, inner, Used, local, Need, Inside, Weakens, _and_, inside-refl, need-weakens, all-map, used-mono, used-both, used-any, used-scoped, scoped-used, member-counts, restricted-mono}
+use Rattle.cows.proofs.Scopes.{Rule, inner, Used, local, Need, Inside, Weakens, And, inside-refl, need-weakens, all-map, used-mono, used-both, used-any, used-scoped, scoped-used, restricted-mono}
 use Rattle.cows.proofs.Mapping.{Carries, Fits, guarded-mapped, used-mapped, counts-mapped, right-mapped}
 use Rattle.cows.proofs.Parts.{Sound, Part, part-used, part-counts}
 
@@ -45,127 +45,6 @@ delimits-one a b u h k =
     let (d, f, q) = holds-some (eqb b) (delimits u) k in
     cc (eqb-true a c p, eqb-true b d q)
 
--- A variable x takes a value v.
-module _ (x v : ℕ) (vx : variable x ≡ true) (vv : value v ≡ true) where
-  abbrev at : ℕ → ℕ
-  at = image ((x, v) ∷ [])
-
-  abbrev pub instantiated : Term → Term
-  instantiated t = instantiate x v t
-
-  -- what holds of v, and of each atom but x, holds of the images
-  at-case : (P : ℕ → Type 0) (a : ℕ) → (eqb a x ≡ true → P v) → (eqb a x ≡ false → P a) → P (at a)
-  unfolding image
-  at-case P a f g = cond-case P (eqb a x) f g
-
-  fits-at : Fits at (λ a. Unit {0})
-  unfolding datum
-  fits-at =
-      record {
-        values = λ a h. at-case (λ b. value b ≡ true) a (λ e. vv) (λ e. h);
-        variables = λ a h. at-case (λ b. datum b ≡ true) a (λ e. rw vv) (λ e. or-right (value a) (variable a) h);
-        labels = λ a h. at-case (λ b. label b ≡ true) a (label-variable a x h vx) (λ e. h);
-        back = λ a. at-case (λ b. variable b ≡ true → variable a ≡ true) a (λ e h. value-variable v v vv h (eq-eqb v v refl)) (λ e h. h);
-        apart = λ a b m n. at-case (λ c. variable c ≡ true → eqb c (at b) ≡ true → eqb a b ≡ true) a
-            (λ e h. value-variable v v vv h (eq-eqb v v refl))
-            (λ e h. at-case (λ c. eqb a c ≡ true → eqb a b ≡ true) b (λ q i. value-variable v a vv h (eq-eqb v a (sym (eqb-true a v i)))) (λ q i. i));
-      }
-
-  right-instantiate : (t : Term) → Right t → Right (instantiated t)
-  unfolding instantiate
-  right-instantiate (leaf y) h = h
-  right-instantiate (under u t) h =
-      cond-case Right (delimitsAtom x u) (λ e. right-mapped at _ fits-at nowhere t (used-any _ (λ a E. tt) nowhere t) (h .1)) (λ e. (h .0, right-instantiate t (h .1)))
-  right-instantiate (both j s t) h = (right-instantiate s (h .0), right-instantiate t (h .1))
-
-  -- guards
-  guard-instantiate : (t : Term) → guard t ≡ true → guard (instantiated t) ≡ true
-  unfolding guard instantiate delimitsAtom delimits holds
-  guard-instantiate (leaf y) h = h
-  guard-instantiate (under (receive p o ws) t) h = h
-  guard-instantiate (under (wait n) t) h = h
-  guard-instantiate (under protection t) h = h
-  guard-instantiate (under (delimitation d) t) h = never h
-  guard-instantiate (under replication t) h = h
-  guard-instantiate (both choice s t) h = h
-  guard-instantiate (both parallel s t) h = h
-
-  guarded-instantiate : (t : Term) → Guarded t → Guarded (instantiated t)
-  unfolding instantiate
-  guarded-instantiate (leaf y) h = tt
-  guarded-instantiate (under u t) h = cond-case Guarded (delimitsAtom x u) (λ e. guarded-mapped at t h) (λ e. guarded-instantiate t h)
-  guarded-instantiate (both choice s t) h =
-      ((guard-instantiate s (h .0 .0), guard-instantiate t (h .0 .1)), guarded-instantiate s (h .1), guarded-instantiate t (h .2))
-  guarded-instantiate (both parallel s t) h = (tt, guarded-instantiate s (h .1), guarded-instantiate t (h .2))
-
-  -- delimitations: there is no second [x]
-  counts-at : (t : Term) → counts x t ≡ 0 → (a : ℕ) → counts a (mapAtoms at t) ≡ counts a t
-  counts-at t z a =
-      counts-mapped at a a t (λ d l. at-case (λ c. eqb a c ≡ eqb a d) d (λ e. absurd (omega (arith, ap (λ c. counts c t) (eqb-true d x e)))) (λ e. refl))
-
-  counts-instantiate : (t : Term) → counts x t ≤ 1 → (a : ℕ) → counts a (instantiated t) ≤ counts a t
-  unfolding instantiate
-  counts-instantiate (leaf y) l a = omega arith
-  counts-instantiate (under u t) l a =
-      cond-case (λ r. counts a r ≤ one (delimitsAtom a u) + counts a t) (delimitsAtom x u)
-      (λ e. omega (arith, counts-at t (omega (arith, ap one e)) a)) (λ e. omega (arith, counts-instantiate t (omega arith) a))
-  counts-instantiate (both j s t) l a = omega (arith, counts-instantiate s (omega arith) a, counts-instantiate t (omega arith) a)
-
-  -- scopes: outside [x] nothing changes; inside it, all atoms delimited around a use but x stay so
-  abbrev Other : ℕ → Type 0
-  Other a = eqb a x ≡ false
-
-  used-instantiate : (P Q : Rule) → Weakens P Q → ((a : ℕ) (E F : ℕ → Bool) → Carries at Other E F → P a E → Q (at a) F) → (E : ℕ → Bool) (t : Term) → Used P E t → Used Q E (instantiated t)
-  unfolding instantiate
-  used-instantiate P Q f g E (leaf y) h = all-map _ _ (λ a. f a E E (inside-refl E)) (usesBasic y) h
-  used-instantiate P Q f g E (under u t) h =
-      cond-case (Used Q E) (delimitsAtom x u)
-      (λ e. used-mapped at Other P Q g (inner u E) E (λ a o i. at-case (λ c. E c ≡ true) a (λ q. never (sym o ∙ q)) (λ q. outer e a o i)) t (h .1))
-      (λ e. (all-map _ _ (λ a. f a E E (inside-refl E)) (usesPrefix u) (h .0), used-instantiate P Q f g (inner u E) t (h .1)))
-    where
-      outer : delimitsAtom x u ≡ true → (a : ℕ) → Other a → inner u E a ≡ true → E a ≡ true
-      outer e a o i = or-case _ (delimitsAtom a u) (E a) i (λ q. absurd (eqb-false a x o (delimits-one a x u q e))) (λ q. q)
-  used-instantiate P Q f g E (both j s t) h = (used-instantiate P Q f g E s (h .0), used-instantiate P Q f g E t (h .1))
-
-  carried : (E F : ℕ → Bool) → Carries at Other E F → (a : ℕ) → Other a → E a ≡ true → F a ≡ true
-  unfolding image
-  carried E F c a o h = rw o at (c a o h)
-
-  other-value : (w : ℕ) → value w ≡ true → Other w
-  other-value w vw = not-so (value-variable w x vw vx)
-
-  closed-instantiate : (E : ℕ → Bool) (t : Term) → Used (Need local) E t → Used (Need local) E (instantiated t)
-  closed-instantiate E t =
-      used-instantiate (Need local) (Need local) (need-weakens local local (inside-refl local))
-      (λ a E F c h. at-case (λ b. Need local b F) a (λ e. value-local v vv) (λ o l. carried E F c a o (h l))) E t
-
-  -- of K all that is left is in L
-  module _ (K L : ℕ → Bool) (k : Inside L K) where
-    private-instantiate : (E : ℕ → Bool) (t : Term) → Used (Need K) E t → Used (Instead x v (Need K)) E t → Used (Need L) E (instantiated t)
-    private-instantiate E t h i =
-        used-instantiate (_and_ (Need K) (Instead x v (Need K))) (Need L) (λ a E F j p. need-weakens K L k a E F j (p .0))
-        (λ a E F c p. at-case (λ b. Need L b F) a (λ e l. carried E F c v (other-value v vv) (p .1 e (k v l))) (λ o l. carried E F c a o (p .0 (k a l))))
-        E t (used-both (Need K) (Instead x v (Need K)) E t h i)
-
-    -- another variable's value may still be used instead of it
-    instead-instantiate : (y w : ℕ) → variable y ≡ true → value w ≡ true → (E : ℕ → Bool) (t : Term) → Used (Instead y w (Need K)) E t → Used (Instead y w (Need L)) E (instantiated t)
-    instead-instantiate y w vy vw =
-        used-instantiate (Instead y w (Need K)) (Instead y w (Need L)) (instead-weakens y w K L k)
-        (λ a E F c h. at-case (λ b. Instead y w (Need L) b F) a (λ e. value-variable v y vv vy) (λ o q l. carried E F c w (other-value w vw) (h q (k w l))))
-
-  -- what is delimited afterwards was so before
-  fewer : (t : Term) → Formed t → Inside (restricted (instantiated t)) (restricted t)
-  fewer t f a = restricted-mono (instantiated t) t a (counts-instantiate t (f .unique x) a)
-
-  formed-instantiate : (t : Term) → Formed t → Used (Instead x v (Need (restricted t))) nowhere t → Formed (instantiated t)
-  formed-instantiate t f i =
-      record {
-        guarded = guarded-instantiate t (f .guarded);
-        closed = used-scoped local nowhere (instantiated t) (closed-instantiate nowhere t (scoped-used local nowhere t (f .closed)));
-        unique = λ a. omega (arith, counts-instantiate t (f .unique x) a, f .unique a);
-        private = used-scoped _ nowhere (instantiated t) (private-instantiate _ _ (fewer t f) nowhere t (scoped-used _ nowhere t (f .private)) i);
-      }
-
 -- A pair of a variable and a value that it may take in t.
 pub record Binds (t : Term) (p : ℕ × ℕ) : Type 0 where
   pub key : variable (p .0) ≡ true
@@ -185,6 +64,133 @@ all-bind t r k (p ∷ σ) h = (
   all-bind t r k σ (h .1),
 )
 
+-- A variable x takes a value v.
+module _ (x v : ℕ) (vx : variable x ≡ true) (vv : value v ≡ true) where
+  abbrev at : ℕ → ℕ
+  at = image ((x, v) ∷ [])
+
+  -- what holds of v, and of each atom but x, holds of the images
+  at-case : (P : ℕ → Type 0) (a : ℕ) → (eqb a x ≡ true → P v) → (eqb a x ≡ false → P a) → P (at a)
+  unfolding image
+  at-case P a f g = cond-case P (eqb a x) f g
+
+  no-variable : {A : Type 0} → variable v ≡ true → A
+  no-variable h = value-variable v v vv h (eq-eqb v v refl)
+
+  fits-at : Fits at (λ a. Unit {0})
+  unfolding datum
+  fits-at =
+      record {
+        values = λ a h. at-case (λ b. value b ≡ true) a (λ e. vv) (λ e. h);
+        variables = λ a h. at-case (λ b. datum b ≡ true) a (λ e. rw vv) (λ e. or-right (value a) (variable a) h);
+        labels = λ a h. at-case (λ b. label b ≡ true) a (label-variable a x h vx) (λ e. h);
+        back = λ a. at-case (λ b. variable b ≡ true → variable a ≡ true) a (λ e. no-variable) (λ e h. h);
+        apart = λ a b m n. at-case (λ c. variable c ≡ true → eqb c (at b) ≡ true → eqb a b ≡ true) a (λ e. no-variable)
+            (λ e h. at-case (λ c. eqb a c ≡ true → eqb a b ≡ true) b (λ q i. value-variable v a vv h (eq-eqb v a (sym (eqb-true a v i)))) (λ q i. i));
+      }
+
+  right-instantiate : (t : Term) → Right t → Right (instantiate x v t)
+  unfolding instantiate
+  right-instantiate (leaf y) h = h
+  right-instantiate (under u t) h =
+      cond-case Right (delimitsAtom x u) (λ e. right-mapped at _ fits-at nowhere t (used-any _ (λ a E. tt) nowhere t) (h .1)) (λ e. (h .0, right-instantiate t (h .1)))
+  right-instantiate (both j s t) h = (right-instantiate s (h .0), right-instantiate t (h .1))
+
+  -- guards
+  guard-instantiate : (t : Term) → guard t ≡ true → guard (instantiate x v t) ≡ true
+  unfolding guard instantiate delimitsAtom delimits holds
+  guard-instantiate (leaf y) h = h
+  guard-instantiate (under (receive p o ws) t) h = h
+  guard-instantiate (under (wait n) t) h = h
+  guard-instantiate (under protection t) h = h
+  guard-instantiate (under (delimitation d) t) h = never h
+  guard-instantiate (under replication t) h = h
+  guard-instantiate (both choice s t) h = h
+  guard-instantiate (both parallel s t) h = h
+
+  guarded-instantiate : (t : Term) → Guarded t → Guarded (instantiate x v t)
+  unfolding instantiate
+  guarded-instantiate (leaf y) h = tt
+  guarded-instantiate (under u t) h = cond-case Guarded (delimitsAtom x u) (λ e. guarded-mapped at t h) (λ e. guarded-instantiate t h)
+  guarded-instantiate (both choice s t) h =
+      ((guard-instantiate s (h .0 .0), guard-instantiate t (h .0 .1)), guarded-instantiate s (h .1), guarded-instantiate t (h .2))
+  guarded-instantiate (both parallel s t) h = (tt, guarded-instantiate s (h .1), guarded-instantiate t (h .2))
+
+  -- delimitations: there is no second [x]
+  counts-at : (t : Term) → counts x t ≡ 0 → (a : ℕ) → counts a (mapAtoms at t) ≡ counts a t
+  counts-at t z a =
+      counts-mapped at a a t (λ d l. at-case (λ c. eqb a c ≡ eqb a d) d (λ e. absurd (omega (arith, ap (λ c. counts c t) (eqb-true d x e)))) (λ e. refl))
+
+  counts-instantiate : (t : Term) → counts x t ≤ 1 → (a : ℕ) → counts a (instantiate x v t) ≤ counts a t
+  unfolding instantiate
+  counts-instantiate (leaf y) l a = omega arith
+  counts-instantiate (under u t) l a =
+      cond-case (λ r. counts a r ≤ one (delimitsAtom a u) + counts a t) (delimitsAtom x u)
+      (λ e. omega (arith, counts-at t (omega (arith, ap one e)) a)) (λ e. omega (arith, counts-instantiate t (omega arith) a))
+  counts-instantiate (both j s t) l a = omega (arith, counts-instantiate s (omega arith) a, counts-instantiate t (omega arith) a)
+
+  -- scopes: outside [x] nothing changes; inside it, all atoms delimited around a use but x stay so
+  abbrev Other : ℕ → Type 0
+  Other a = eqb a x ≡ false
+
+  used-instantiate : (P Q : Rule) → Weakens P Q → ((a : ℕ) (E F : ℕ → Bool) → Carries at Other E F → P a E → Q (at a) F) → (E : ℕ → Bool) (t : Term) → Used P E t → Used Q E (instantiate x v t)
+  unfolding instantiate
+  used-instantiate P Q f g E (leaf y) h = all-map _ _ (λ a. f a E E (inside-refl E)) (usesBasic y) h
+  used-instantiate P Q f g E (under u t) h =
+      cond-case (Used Q E) (delimitsAtom x u)
+      (λ e. used-mapped at Other P Q g (inner u E) E (λ a o i. at-case (λ c. E c ≡ true) a (λ q. never (sym o ∙ q)) (λ q. outer e a o i)) t (h .1))
+      (λ e. (all-map _ _ (λ a. f a E E (inside-refl E)) (usesPrefix u) (h .0), used-instantiate P Q f g (inner u E) t (h .1)))
+    where
+      outer : delimitsAtom x u ≡ true → (a : ℕ) → Other a → inner u E a ≡ true → E a ≡ true
+      outer e a o i = or-case _ (delimitsAtom a u) (E a) i (λ q. absurd (eqb-false a x o (delimits-one a x u q e))) (λ q. q)
+  used-instantiate P Q f g E (both j s t) h = (used-instantiate P Q f g E s (h .0), used-instantiate P Q f g E t (h .1))
+
+  carried : (E F : ℕ → Bool) → Carries at Other E F → (a : ℕ) → Other a → E a ≡ true → F a ≡ true
+  unfolding image
+  carried E F c a o h = rw o at (c a o h)
+
+  other-value : (w : ℕ) → value w ≡ true → Other w
+  other-value w vw = not-so (value-variable w x vw vx)
+
+  closed-instantiate : (E : ℕ → Bool) (t : Term) → Used (Need local) E t → Used (Need local) E (instantiate x v t)
+  closed-instantiate E t =
+      used-instantiate (Need local) (Need local) (need-weakens local local (inside-refl local))
+      (λ a E F c h. at-case (λ b. Need local b F) a (λ e. value-local v vv) (λ o l. carried E F c a o (h l))) E t
+
+  -- of K all that is left is in L
+  module _ (K L : ℕ → Bool) (k : Inside L K) where
+    private-instantiate : (E : ℕ → Bool) (t : Term) → Used (Need K) E t → Used (Instead x v (Need K)) E t → Used (Need L) E (instantiate x v t)
+    private-instantiate E t h i =
+        used-instantiate (And (Need K) (Instead x v (Need K))) (Need L) (λ a E F j p. need-weakens K L k a E F j (p .0))
+        (λ a E F c p. at-case (λ b. Need L b F) a (λ e l. carried E F c v (other-value v vv) (p .1 e (k v l))) (λ o l. carried E F c a o (p .0 (k a l))))
+        E t (used-both (Need K) (Instead x v (Need K)) E t h i)
+
+    -- another variable's value may still be used instead of it
+    instead-instantiate : (y w : ℕ) → variable y ≡ true → value w ≡ true → (E : ℕ → Bool) (t : Term) → Used (Instead y w (Need K)) E t → Used (Instead y w (Need L)) E (instantiate x v t)
+    instead-instantiate y w vy vw =
+        used-instantiate (Instead y w (Need K)) (Instead y w (Need L)) (instead-weakens y w K L k)
+        (λ a E F c h. at-case (λ b. Instead y w (Need L) b F) a (λ e. value-variable v y vv vy) (λ o q l. carried E F c w (other-value w vw) (h q (k w l))))
+
+  -- what is delimited afterwards was so before
+  fewer : (t : Term) → Formed t → Inside (restricted (instantiate x v t)) (restricted t)
+  fewer t f a = restricted-mono (instantiate x v t) t a (counts-instantiate t (f .unique x) a)
+
+  formed-instantiate : (t : Term) → Formed t → Used (Instead x v (Need (restricted t))) nowhere t → Formed (instantiate x v t)
+  formed-instantiate t f i =
+      record {
+        guarded = guarded-instantiate t (f .guarded);
+        closed = used-scoped local nowhere (instantiate x v t) (closed-instantiate nowhere t (scoped-used local nowhere t (f .closed)));
+        unique = λ a. omega (arith, counts-instantiate t (f .unique x) a, f .unique a);
+        private = used-scoped _ nowhere (instantiate x v t) (private-instantiate _ _ (fewer t f) nowhere t (scoped-used _ nowhere t (f .private)) i);
+      }
+
+  sound-instantiate : (t : Term) → Sound t → Used (Instead x v (Need (restricted t))) nowhere t → Sound (instantiate x v t)
+  sound-instantiate t (r, f) i = (right-instantiate t r, formed-instantiate t f i)
+
+  -- the pairs that are still to be bound
+  all-instantiate : (t : Term) → Formed t → (σ : Substitution) → AllBind t σ → AllBind (instantiate x v t) σ
+  all-instantiate t f = all-bind t (instantiate x v t) (λ y w vy vw. instead-instantiate _ _ (fewer t f) y w vy vw nowhere t)
+
 pub part-bind : {g : Bool} {t r : Term} → Part g t r → (σ : Substitution) → AllBind t σ → AllBind r σ
 part-bind {t = t} {r = r} p =
     all-bind t r
@@ -194,22 +200,10 @@ part-bind {t = t} {r = r} p =
 pub sound-bind : (σ : Substitution) (t : Term) → AllBind t σ → Sound t → Sound (bind σ t)
 unfolding bind
 sound-bind [] t h k = k
-sound-bind (p ∷ σ) t h (r, f) =
-    sound-bind σ (instantiate x v t)
-    (all-bind t (instantiate x v t) (λ y w vy vw. instead-instantiate x v vx vv _ _ (fewer x v vx vv t f) y w vy vw nowhere t) σ (h .1))
-    (right-instantiate x v vx vv t r, formed-instantiate x v vx vv t f (h .0 .instead))
-  where
-    x : ℕ
-    x = p .0
-
-    v : ℕ
-    v = p .1
-
-    vx : variable x ≡ true
-    vx = h .0 .key
-
-    vv : value v ≡ true
-    vv = h .0 .datum
+sound-bind (p ∷ σ) t h k =
+    sound-bind σ (instantiate (p .0) (p .1) t)
+    (all-instantiate (p .0) (p .1) (h .0 .key) (h .0 .datum) t (k .1) σ (h .1))
+    (sound-instantiate (p .0) (p .1) (h .0 .key) (h .0 .datum) t k (h .0 .instead))
 
 -- The test of scopes: no [x] stands outside [v], and each use of x stands inside [x].
 instead-use : (x v : ℕ) (K : ℕ → Bool) → variable x ≡ true → (E : ℕ → Bool) → (E x ≡ true → Need K v E) → (a : ℕ) → Need local a E → Instead x v (Need K) a E
@@ -301,41 +295,3 @@ all-in-scope t a b f [] v e = tt
 all-in-scope t a b f (p ∷ σ) v e =
     let (e₁, e₂) = and-true (inScope t a b p) (every (inScope t a b) σ) e in
     (record { key = v .0 .0; datum = v .0 .1; instead = in-scope t a b (p .0) (p .1) f (v .0 .0) e₁ }, all-in-scope t a b f σ (v .1) e₂)
-
--- The same term but for some leaves has the same prefixes at the same places.
-pub data Relieved : Term → Term → Type 0 where
-  leaves : {x y : Basic} → Relieved (leaf x) (leaf y)
-  down : {u : Prefix} {t r : Term} → Relieved t r → Relieved (under u t) (under u r)
-  across : {j : Join} {s t q r : Term} → Relieved s q → Relieved t r → Relieved (both j s t) (both j q r)
-
-relieved-refl : (t : Term) → Relieved t t
-relieved-refl (leaf x) = leaves
-relieved-refl (under u t) = down (relieved-refl t)
-relieved-refl (both j s t) = across (relieved-refl s) (relieved-refl t)
-
-relieved-plug : (f : Frame) (s r : Term) → Relieved s r → Relieved (plug f s) (plug f r)
-unfolding plug
-relieved-plug (inside u) s r h = down h
-relieved-plug (leftOf j t) s r h = across h (relieved-refl t)
-relieved-plug (rightOf j t) s r h = across (relieved-refl t) h
-
-pub relieved-size : {t r : Term} → Relieved t r → size t ≡ size r
-unfolding size
-relieved-size leaves = refl
-relieved-size (down h) = ap suc (relieved-size h)
-relieved-size (across h k) = omega (arith, relieved-size h, relieved-size k)
-
-pub relieved-prefix : {A : Type 0} (f : Prefix → Option A) {t r : Term} → Relieved t r → (v w : Way) (n : ℕ) → prefixed f (descend v r n .here) ≡ prefixed f (descend w t n .here)
-unfolding prefixed descend
-relieved-prefix f leaves v w n = refl
-relieved-prefix f (down h) v w zero = refl
-relieved-prefix f (down {u = u} h) v w (suc n) = relieved-prefix f h (inside u ∷ v) (inside u ∷ w) n
-relieved-prefix f (across h k) v w zero = refl
-relieved-prefix f (across {j = j} {s = s} {t = t} {q = q} {r = r} h k) v w (suc n) =
-    rw (relieved-size h)
-    (cond-case₂ (λ (x y : Spot). prefixed f (x .here) ≡ prefixed f (y .here)) (ltb n (size q))
-    (λ e. relieved-prefix f h (leftOf j r ∷ v) (leftOf j t ∷ w) n) (λ e. relieved-prefix f k (rightOf j q ∷ v) (rightOf j s ∷ w) (n - size q)))
-
-pub silence-prefix : {A : Type 0} (f : Prefix → Option A) (t : Term) (b : ℕ) (x : Basic) → sub t b ≡ leaf x → (a : ℕ) → prefixed f (sub (silence t b) a) ≡ prefixed f (sub t a)
-unfolding silence sub spot
-silence-prefix f t b x e a = relieved-prefix f (replaced Relieved relieved-plug t b (leaf nil) (rw e leaves)) [] [] a

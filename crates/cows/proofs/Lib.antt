@@ -3,6 +3,8 @@ pub mod Places
 pub mod Renaming
 pub mod Scopes
 pub mod Parts
+pub mod Extrusion
+pub mod Silence
 pub mod Mapping
 pub mod Binding
 pub mod Unfolding

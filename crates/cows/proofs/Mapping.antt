@@ -1,19 +1,18 @@
 -- Laws of mapAtoms (specs/Moves), for substitutions and renamings alike: guards, scopes, delimitations and the table of kinds after every atom is mapped.
-use mathlib.Core.Path.{_≡_, refl, sym, ap, _∙_}
-use mathlib.Core.Bool.{Bool, true, false, not, _&&_, _||_}
-use mathlib.Core.Option.{none, some}
+use mathlib.Core.Path.{_≡_, refl, ap}
+use mathlib.Core.Bool.{Bool, true, false, not, _&&_}
 use mathlib.Core.List.{List, [], _∷_, map}
-use Prim.Native.Nat.{ℕ, zero, suc, _+_, _≤_}
+use Prim.Native.Nat.{ℕ, zero, suc, _≤_}
 use native.Mathlib.Omega.{arith}
 use lib.Dec.{eqb}
-use lib.ListN.{length, length-map}
+use lib.ListN.{length-map}
 use borrow.Author.Tests.{eqb-true, eq-eqb}
 use Rattle.cows.specs.Basics.{any, every, member, holds}
 use Rattle.cows.specs.Terms.{Basic, nil, kill, invoke, Prefix, receive, wait, protection, delimitation, replication, choice, parallel, Term, leaf, under, both, value, variable, label, datum, atom, delimits, delimitsAtom, guard, usesBasic, usesPrefix}
 use Rattle.cows.specs.Format.{distinct}
 use Rattle.cows.specs.Within.{RightTuple, RightBasic, RightPrefix, Right, Guarded, one, counts}
 use Rattle.cows.specs.Moves.{mapBasic, mapPrefix, mapAtoms}
-use Rattle.cows.proofs.Basics.{never, and-true, true-and, not-mono, or-left, or-right, or-both, or-case}
+use Rattle.cows.proofs.Basics.{never, and-true, true-and, not-mono, or-left, or-both, or-case}
 use Rattle.cows.proofs.Scopes.{All, Rule, inner, Used}
 
 -- guards

@@ -1,20 +1,20 @@
--- What is left of a term is as well formed as the term: after a halt, a kill, an interval lowered, a continuation, and an extrusion, which moves a delimitation out.
+-- What is left of a term is as well formed as the term: the relation Part, what it keeps, and that halts, kills, elapsed time and continuations leave parts.
 use mathlib.Core.Path.{_≡_, refl, sym, subst, _∙_}
 use mathlib.Core.Bool.{Bool, true, false, _||_}
-use mathlib.Core.Option.{Option, none, some}
-use mathlib.Core.List.{List, [], _∷_}
+use mathlib.Core.Option.{none}
+use mathlib.Core.List.{[], _∷_}
 use Prim.Native.Nat.{ℕ, _-_, _≤_}
 use native.Mathlib.Omega.{arith}
 use lib.Dec.{eqb}
 use Rattle.cows.specs.Basics.{holds}
-use Rattle.cows.specs.Terms.{nil, Prefix, receive, wait, protection, delimitation, replication, choice, parallel, Term, leaf, under, both, value, variable, label, prefixed, delimits, delimitsAtom, below, guard, usesBasic, usesPrefix}
+use Rattle.cows.specs.Terms.{nil, Prefix, receive, wait, protection, delimitation, replication, choice, parallel, Term, leaf, under, both, prefixed, delimits, delimitsAtom, below, guard, usesBasic, usesPrefix}
 use Rattle.cows.specs.Places.{Frame, inside, leftOf, rightOf, plug, Way, fill, wayTo, sub, frameDelimits, frameChooses}
 use Rattle.cows.specs.Within.{Right, Guarded, Scoped, counts, restricted, nowhere, Formed}
 use Rattle.cows.specs.Active.{passesLive}
-use Rattle.cows.specs.Moves.{haltUnder, haltBoth, halt, haltBeside, haltInside, afterKill, silence, aroundChoice, continue, lower, elapse, fitsPrefix, fitting, exchange, afterExtrude}
+use Rattle.cows.specs.Moves.{haltUnder, haltBoth, halt, haltBeside, haltInside, afterKill, silence, aroundChoice, continue, lower, elapse}
 use Rattle.cows.proofs.Basics.{never, cond-case, or-right, or-swap}
 use Rattle.cows.proofs.Places.{fill-spot, fill-ind, replaced}
-use Rattle.cows.proofs.Scopes.{All, Rule, inner, Used, local, Need, Inside, Weakens, inside-refl, need-weakens, all-map, used-mono, used-scoped, scoped-used, guard-plug, guarded-plug, restricted-mono}
+use Rattle.cows.proofs.Scopes.{Rule, inner, Used, local, Need, Inside, Weakens, inside-refl, need-weakens, all-map, used-mono, used-scoped, scoped-used, guard-plug, guarded-plug, restricted-mono}
 
 -- right records and right scopes
 abbrev pub Sound : Term → Type 0
@@ -34,8 +34,8 @@ pub data Part : Bool → Term → Term → Type 0 where
   beside : {g h : Bool} {s t q r : Term} → Part g s q → Part h t r → Part true (both parallel s t) (both parallel q r)
   either : {s t q r : Term} → Part true s q → Part true t r → Part true (both choice s t) (both choice q r)
   behind : {g : Bool} {u : Prefix} {t r : Term} → delimits u ≡ none → Part g t r → Part false (under u t) r
-  onLeft : {g : Bool} {s t r : Term} → Part g s r → Part false (both choice s t) r
-  onRight : {g : Bool} {s t r : Term} → Part g t r → Part false (both choice s t) r
+  choseLeft : {g : Bool} {s t r : Term} → Part g s r → Part false (both choice s t) r
+  choseRight : {g : Bool} {s t r : Term} → Part g t r → Part false (both choice s t) r
   outward : (d : ℕ) (f : Frame) (s : Term) → guard (plug f s) ≡ false → Part true (plug f (under (delimitation d) s)) (under (delimitation d) (plug f s))
 
 -- guards
@@ -57,8 +57,8 @@ part-guarded (down l p) h = part-guarded p h
 part-guarded (beside p q) h = (tt, part-guarded p (h .1), part-guarded q (h .2))
 part-guarded (either p q) h = ((part-guard p (h .0 .0), part-guard q (h .0 .1)), part-guarded p (h .1), part-guarded q (h .2))
 part-guarded (behind e p) h = part-guarded p h
-part-guarded (onLeft p) h = part-guarded p (h .1)
-part-guarded (onRight p) h = part-guarded p (h .2)
+part-guarded (choseLeft p) h = part-guarded p (h .1)
+part-guarded (choseRight p) h = part-guarded p (h .2)
 part-guarded (outward d f s e) h = guarded-plug f (under (delimitation d) s) s never (λ k. k) h
 
 -- scopes
@@ -86,8 +86,8 @@ part-used (down (lowered l) p) P w E h = (h .0, part-used p P w E (h .1))
 part-used (beside p q) P w E h = (part-used p P w E (h .0), part-used q P w E (h .1))
 part-used (either p q) P w E h = (part-used p P w E (h .0), part-used q P w E (h .1))
 part-used (behind {t = t} e p) P w E h = part-used p P w E (subst (λ o. Used P (λ a. holds (eqb a) o || E a) t) e (h .1))
-part-used (onLeft p) P w E h = part-used p P w E (h .0)
-part-used (onRight p) P w E h = part-used p P w E (h .1)
+part-used (choseLeft p) P w E h = part-used p P w E (h .0)
+part-used (choseRight p) P w E h = part-used p P w E (h .1)
 part-used (outward d f s e) P w E h = (tt, outward-used P w d f s E h)
 
 -- delimitations
@@ -106,8 +106,8 @@ part-counts (down (lowered l) p) a = omega (arith, part-counts p a)
 part-counts (beside p q) a = omega (arith, part-counts p a, part-counts q a)
 part-counts (either p q) a = omega (arith, part-counts p a, part-counts q a)
 part-counts (behind e p) a = omega (arith, part-counts p a)
-part-counts (onLeft p) a = omega (arith, part-counts p a)
-part-counts (onRight p) a = omega (arith, part-counts p a)
+part-counts (choseLeft p) a = omega (arith, part-counts p a)
+part-counts (choseRight p) a = omega (arith, part-counts p a)
 part-counts (outward d f s e) a = outward-counts d f s a
 
 -- the table of kinds
@@ -125,8 +125,8 @@ part-right (down (lowered l) p) h = (omega (arith, h .0), part-right p (h .1))
 part-right (beside p q) h = (part-right p (h .0), part-right q (h .1))
 part-right (either p q) h = (part-right p (h .0), part-right q (h .1))
 part-right (behind e p) h = part-right p (h .1)
-part-right (onLeft p) h = part-right p (h .0)
-part-right (onRight p) h = part-right p (h .1)
+part-right (choseLeft p) h = part-right p (h .0)
+part-right (choseRight p) h = part-right p (h .1)
 part-right (outward d f s e) h = outward-right d f s h
 
 part-scoped : {g : Bool} {t r : Term} → Part g t r → (K L : ℕ → Bool) → Inside L K → Scoped K nowhere t → Scoped L nowhere r
@@ -238,47 +238,12 @@ part-around : (w : Way) {g : Bool} {s r : Term} → Part g s r → (h : Bool) ×
 unfolding fill aroundChoice frameChooses plug
 part-around [] {g} p = (g, p)
 part-around (inside u ∷ w) p = (true, fill-part w (down same p))
-part-around (leftOf choice t ∷ w) p = part-around w (onLeft p)
+part-around (leftOf choice t ∷ w) p = part-around w (choseLeft p)
 part-around (leftOf parallel t ∷ w) p = (true, fill-part w (beside p whole))
-part-around (rightOf choice t ∷ w) p = part-around w (onRight p)
+part-around (rightOf choice t ∷ w) p = part-around w (choseRight p)
 part-around (rightOf parallel t ∷ w) p = (true, fill-part w (beside whole p))
 
 pub part-continue : (t : Term) (n : ℕ) → prefixed delimits (sub t n) ≡ none → (g : Bool) × Part g t (continue t n)
 unfolding continue
 part-continue t n e =
     subst (λ s. (g : Bool) × Part g s (continue t n)) (fill-spot t n) (part-around (wayTo t n) (part-below (sub t n) e .1))
-
--- Extrusion: a fitting parent is no guard.
-fitting-guard : (f : Frame) (w : Way) (s : Term) → fitting (f ∷ w) ≡ true → guard (plug f s) ≡ false
-unfolding fitting fitsPrefix frameChooses guard plug
-fitting-guard (inside (receive p o ws)) w s h = never h
-fitting-guard (inside (wait n)) w s h = never h
-fitting-guard (inside protection) w s h = refl
-fitting-guard (inside (delimitation d)) w s h = refl
-fitting-guard (inside replication) w s h = refl
-fitting-guard (leftOf choice t) w s h = never h
-fitting-guard (leftOf parallel t) w s h = refl
-fitting-guard (rightOf choice t) w s h = never h
-fitting-guard (rightOf parallel t) w s h = refl
-
-part-exchange : (d : ℕ) (s : Term) (w : Way) → fitting w ≡ true → Part true (fill w (under (delimitation d) s)) (exchange d s w)
-unfolding exchange fill fitting
-part-exchange d s [] h = whole
-part-exchange d s (f ∷ w) h = fill-part w (outward d f s (fitting-guard f w s h))
-
--- a delimitation at hand
-pub delimits-is : (d : ℕ) (s : Term) → prefixed delimits s ≡ some d → s ≡ under (delimitation d) (below s)
-unfolding prefixed delimits below
-delimits-is d (leaf x) e = cc
-delimits-is d (under (receive p o ws) t) e = cc
-delimits-is d (under (wait n) t) e = cc
-delimits-is d (under protection t) e = cc
-delimits-is d (under (delimitation c) t) e = cc
-delimits-is d (under replication t) e = cc
-delimits-is d (both j s t) e = cc
-
-pub part-extrude : (d : ℕ) (t : Term) (n : ℕ) → prefixed delimits (sub t n) ≡ some d → fitting (wayTo t n) ≡ true → Part true t (afterExtrude d t n)
-unfolding afterExtrude below
-part-extrude d t n e h =
-    subst (λ s. Part true s (afterExtrude d t n)) (fill-spot t n)
-    (rw (delimits-is d (sub t n) e) (part-exchange d (below (sub t n)) (wayTo t n) h))

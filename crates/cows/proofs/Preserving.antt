@@ -1,22 +1,24 @@
 -- A move keeps a term within the limits: each successor is right and well formed, and refusal 20 sees to size and depth.
-use mathlib.Core.Path.{_≡_, refl, sym, ap, subst, _∙_}
-use mathlib.Core.Bool.{Bool, true, false, not, _&&_, _||_}
+use mathlib.Core.Path.{_≡_, refl, subst, _∙_}
+use mathlib.Core.Bool.{true, false, not, _&&_, _||_}
 use mathlib.Core.Option.{Option, none, some}
 use mathlib.Core.List.{List}
 use Prim.Native.Nat.{ℕ, _*_, _≤_, _<_}
 use lib.Dec.{ltb, eqb}
 use lib.ListN.{length}
 use borrow.Author.Tests.{ltb-true, ltb-false, not-false}
-use Rattle.cows.specs.Basics.{every, only, placeIf, Result, accept, forbid, need}
-use Rattle.cows.specs.Terms.{Basic, nil, kill, invoke, Prefix, receive, wait, protection, delimitation, replication, Term, leaf, under, both, Ends, label, size, depth, kills, invokes, prefixed, receives, waits, delimits, replicates}
+use Rattle.cows.specs.Basics.{every, placeIf, accept, _>>_, forbid, need}
+use Rattle.cows.specs.Terms.{Basic, nil, Prefix, receive, wait, protection, delimitation, replication, Term, leaf, under, both, Ends, label, size, depth, kills, invokes, prefixed, receives, waits, delimits, replicates}
 use Rattle.cows.specs.Places.{wayTo, sub, first}
 use Rattle.cows.specs.Active.{live, wanted}
 use Rattle.cows.specs.Within.{Right, Formed, Within}
-use Rattle.cows.specs.Moves.{Substitution, Matching, binds, fit, matched, inScope, heldBack, tighter, silence, continue, bind, shorter, fitting, killAt, communicateAt, timeoutAt, elapseBy, unfoldAt, extrudeAt, Move, Kill, Communicate, Timeout, Elapse, Unfold, Extrude, successor}
+use Rattle.cows.specs.Moves.{Substitution, binds, fit, matched, inScope, heldBack, tighter, silence, continue, bind, shorter, fitting, killAt, communicateAt, timeoutAt, elapseBy, unfoldAt, extrudeAt, Move, Kill, Communicate, Timeout, Elapse, Unfold, Extrude, successor}
 use Rattle.cows.specs.Step.{readMove, overLimits, allowed, stepTerm}
 use Rattle.cows.proofs.Basics.{and-true, or-false, bind-accept, same-accept, need-accept, forbid-accept, only-some, placeIf-none}
-use Rattle.cows.proofs.Parts.{Sound, part-sound, part-kill, part-silence, part-elapse, part-continue, part-extrude, right-sub}
-use Rattle.cows.proofs.Binding.{sound-bind, part-bind, all-in-scope, values-fit, matched-binds, invokes-data, silence-prefix}
+use Rattle.cows.proofs.Parts.{Sound, part-sound, part-kill, part-silence, part-elapse, part-continue, right-sub}
+use Rattle.cows.proofs.Extrusion.{part-extrude}
+use Rattle.cows.proofs.Binding.{sound-bind, part-bind, all-in-scope, values-fit, matched-binds, invokes-data}
+use Rattle.cows.proofs.Silence.{silence-prefix}
 use Rattle.cows.proofs.Unfolding.{replicates-is, sound-unfold}
 
 -- A wanted record stands at its place, inside the term and live.
@@ -95,18 +97,24 @@ sound-meeting t a b r m σ er em ef es h =
     let pairs = all-in-scope t a b (h .1) σ (values-fit r m σ (invokes-data (sub t b) m em (right-sub t b (h .0))) ef) es in
     sound-bind σ (continue (silence t b) a) (part-bind q σ (part-bind p σ pairs)) (part-sound q (part-sound p h))
 
+scopes-passed : (t : Term) (a b : ℕ) (m : Ends) (σ : Substitution) (x s : Term)
+    → (forbid 13 (placeIf (not (every (inScope t a b) σ)) a) >> (forbid 14 (first (heldBack a b) t) >> (forbid 15 (first (tighter m (length σ)) t) >> accept x))) ≡ accept s
+    → (every (inScope t a b) σ ≡ true) × (x ≡ s)
+scopes-passed t a b m σ x s e =
+    let (p, e₁) = forbid-accept 13 (placeIf (not (every (inScope t a b) σ)) a) _ s e in
+    let (q, e₂) = forbid-accept 14 (first (heldBack a b) t) _ s e₁ in
+    let (r, e₃) = forbid-accept 15 (first (tighter m (length σ)) t) _ s e₂ in
+    (not-false (every (inScope t a b) σ) (placeIf-none (not (every (inScope t a b) σ)) a p), same-accept e₃)
+
 sound-communicate : (t s : Term) (a b : ℕ) → communicateAt t a b ≡ accept s → Sound t → Sound s
 unfolding communicateAt
 sound-communicate t s a b e h =
     let (r, er, e₁) = bind-accept (wanted (prefixed receives) t a) _ s e in
     let (m, em, e₂) = bind-accept (wanted invokes t b) _ s e₁ in
     let (σ, eσ, e₃) = bind-accept (matched a (fit r m)) _ s e₂ in
-    let (sc, e₄) = forbid-accept 13 (placeIf (not (every (inScope t a b) σ)) a) _ s e₃ in
-    let (hb, e₅) = forbid-accept 14 (first (heldBack a b) t) _ s e₄ in
-    let (ti, e₆) = forbid-accept 15 (first (tighter m (length σ)) t) _ s e₅ in
-    subst Sound (same-accept e₆)
-    (sound-meeting t a b r m σ (wanted-found (prefixed receives) t a r er .is) (wanted-found invokes t b m em .is) (matched-binds a (fit r m) σ eσ)
-    (not-false (every (inScope t a b) σ) (placeIf-none (not (every (inScope t a b) σ)) a sc)) h)
+    let (es, is) = scopes-passed t a b m σ (bind σ (continue (silence t b) a)) s e₃ in
+    subst Sound is
+    (sound-meeting t a b r m σ (wanted-found (prefixed receives) t a r er .is) (wanted-found invokes t b m em .is) (matched-binds a (fit r m) σ eσ) es h)
 
 -- The successor of a term within the limits is right and well formed.
 pub successor-kept : (t s : Term) (m : Move) → Within t → successor t m ≡ accept s → Right s × Formed s

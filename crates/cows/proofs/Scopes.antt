@@ -1,6 +1,6 @@
 -- Laws of specs/Within on scopes: what holds of every atom that a term uses, with the atoms delimited around the use; guards in a frame; and how often an atom is delimited.
-use mathlib.Core.Path.{_≡_, refl, sym, ap, ap₂, subst, _∙_}
-use mathlib.Core.Bool.{Bool, true, false, _&&_, _||_}
+use mathlib.Core.Path.{_≡_, refl, sym, ap, ap₂, _∙_}
+use mathlib.Core.Bool.{Bool, true, false, _||_}
 use mathlib.Core.Option.{Option, none, some}
 use mathlib.Core.List.{List, [], _∷_}
 use Prim.Native.Nat.{ℕ, zero, suc, _+_, _≤_}
@@ -86,14 +86,14 @@ used-mono P Q f E F i (under u t) h =
 used-mono P Q f E F i (both j s t) h = (used-mono P Q f E F i s (h .0), used-mono P Q f E F i t (h .1))
 
 -- two rules at once; a rule that everything keeps
-abbrev pub _and_ : Rule → Rule → Rule
-_and_ P Q a E = P a E × Q a E
+abbrev pub And : Rule → Rule → Rule
+And P Q a E = P a E × Q a E
 
 all-both : (P Q : ℕ → Type 0) (l : List ℕ) → All P l → All Q l → All (λ a. P a × Q a) l
 all-both P Q [] h k = tt
 all-both P Q (a ∷ l) h k = ((h .0, k .0), all-both P Q l (h .1) (k .1))
 
-pub used-both : (P Q : Rule) (E : ℕ → Bool) (t : Term) → Used P E t → Used Q E t → Used (_and_ P Q) E t
+pub used-both : (P Q : Rule) (E : ℕ → Bool) (t : Term) → Used P E t → Used Q E t → Used (And P Q) E t
 used-both P Q E (leaf x) h k = all-both _ _ (usesBasic x) h k
 used-both P Q E (under u t) h k = (all-both _ _ (usesPrefix u) (h .0) (k .0), used-both P Q (inner u E) t (h .1) (k .1))
 used-both P Q E (both j s t) h k = (used-both P Q E s (h .0) (k .0), used-both P Q E t (h .1) (k .1))

@@ -1,7 +1,7 @@
 -- Unfolding keeps a term well formed: the copy of the body delimits new atoms only, and is right and scoped as the body is.
 use mathlib.Core.Path.{_≡_, refl, sym, ap, subst, _∙_}
-use mathlib.Core.Bool.{Bool, true, false, cond, _&&_, _||_}
-use mathlib.Core.Option.{none, some}
+use mathlib.Core.Bool.{Bool, true, false}
+use mathlib.Core.Option.{some}
 use mathlib.Core.List.{List, [], _∷_, _++_}
 use Prim.Native.Nat.{ℕ, zero, suc, _+_, _*_, _≤_, _<_}
 use native.Mathlib.Omega.{arith}
@@ -9,15 +9,15 @@ use lib.Dec.{eqb}
 use lib.ListN.{length, length-append}
 use borrow.Author.Tests.{eqb-true, eq-eqb}
 use Rattle.cows.specs.Basics.{any, every, member, holds}
-use Rattle.cows.specs.Terms.{Basic, nil, kill, invoke, Prefix, receive, wait, protection, delimitation, replication, parallel, Term, leaf, under, both, value, variable, label, datum, atom, size, prefixed, delimits, replicates, delimitsAtom, below, guard, usesBasic, usesPrefix, optional, binders, atoms}
+use Rattle.cows.specs.Terms.{nil, kill, invoke, receive, wait, protection, delimitation, replication, parallel, Term, leaf, under, both, value, variable, datum, atom, size, prefixed, delimits, replicates, delimitsAtom, below, guard, usesBasic, usesPrefix, optional, binders, atoms}
 use Rattle.cows.specs.Places.{Frame, inside, leftOf, rightOf, plug, Way, fill, wayTo, sub, frameDelimits, enclosed}
-use Rattle.cows.specs.Within.{Right, Guarded, Scoped, one, counts, restricted, nowhere, Formed}
+use Rattle.cows.specs.Within.{Right, Guarded, Scoped, counts, restricted, nowhere, Formed}
 use Rattle.cows.specs.Moves.{mapAtoms, image, renaming, copy, afterUnfold}
 use Rattle.cows.specs.Allows.{SameSet}
-use Rattle.cows.proofs.Basics.{never, and-true, true-and, or-left, or-right, or-both, or-case, not-so, same-test, member-append, every-append}
+use Rattle.cows.proofs.Basics.{never, and-true, true-and, or-left, or-right, or-case, not-so, same-test, member-append, every-append}
 use Rattle.cows.proofs.Places.{fill-spot, fill-ind}
 use Rattle.cows.proofs.Renaming.{image-other, image-free, image-alike, image-inj}
-use Rattle.cows.proofs.Scopes.{All, Rule, inner, Used, local, Need, Inside, Weakens, _and_, inside-refl, all-map, used-mono, used-both, used-scoped, scoped-used, guard-plug, guarded-plug, member-counts, counts-member, restricted-mono, counts-plug, counts-fill, counts-enclosed}
+use Rattle.cows.proofs.Scopes.{All, Rule, inner, Used, local, Need, Weakens, And, inside-refl, all-map, used-mono, used-both, used-scoped, scoped-used, guard-plug, guarded-plug, member-counts, counts-member, restricted-mono, counts-plug, counts-fill, counts-enclosed}
 use Rattle.cows.proofs.Parts.{Sound, right-fill}
 use Rattle.cows.proofs.Mapping.{Carries, Fits, guarded-mapped, used-mapped, counts-mapped, counts-source, right-mapped}
 
@@ -229,7 +229,7 @@ module _ (w : Way) (body : Term) (ρ : ℕ → ℕ) (new : Renews (replicated w 
       (used-both (Need K) (λ a F. Known a) nowhere (replicated w body) (scoped-used K nowhere (replicated w body) h) (used-atoms _ nowhere (replicated w body) (in-refl _))))
     where
       P : Rule
-      P = _and_ (Need K) (λ a F. Known a)
+      P = And (Need K) (λ a F. Known a)
 
       weakens : Weakens P (Need L)
       weakens a E F i (h, m) q = i a (h (k a m q))
