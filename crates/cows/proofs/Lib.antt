@@ -2,6 +2,7 @@ pub mod Basics
 pub mod Places
 pub mod Renaming
 pub mod Scopes
+pub mod Atoms
 pub mod Parts
 pub mod Extrusion
 pub mod Silence

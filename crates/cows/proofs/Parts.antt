@@ -159,24 +159,6 @@ plug-part (rightOf parallel t) s r p = beside whole p
 pub fill-part : (w : Way) {s r : Term} → Part true s r → Part true (fill w s) (fill w r)
 fill-part w {s} {r} p = fill-ind (Part true) plug-part w s r p
 
--- the table of kinds along a way: of what stands at its end, and of the whole
-right-plug : (f : Frame) (s : Term) → Right (plug f s) → Right s × ((r : Term) → Right r → Right (plug f r))
-unfolding plug
-right-plug (inside u) s h = (h .1, λ r k. (h .0, k))
-right-plug (leftOf j t) s h = (h .0, λ r k. (k, h .1))
-right-plug (rightOf j t) s h = (h .1, λ r k. (h .0, k))
-
-pub right-fill : (w : Way) (s : Term) → Right (fill w s) → Right s × ((r : Term) → Right r → Right (fill w r))
-unfolding fill
-right-fill [] s h = (h, λ r k. k)
-right-fill (f ∷ w) s h =
-    let (p, up) = right-fill w (plug f s) h in
-    let (q, on) = right-plug f s p in
-    (q, λ r k. up (plug f r) (on r k))
-
-pub right-sub : (t : Term) (n : ℕ) → Right t → Right (sub t n)
-right-sub t n h = right-fill (wayTo t n) (sub t n) (rw (fill-spot t n) h) .0
-
 -- Kill: halting prunes, and so does halting beside the way.
 pub part-halt : (t : Term) → Part true t (halt t)
 unfolding halt haltUnder haltBoth

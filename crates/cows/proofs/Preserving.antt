@@ -15,11 +15,12 @@ use Rattle.cows.specs.Within.{Right, Formed, Within}
 use Rattle.cows.specs.Moves.{Substitution, binds, fit, matched, inScope, heldBack, tighter, silence, continue, bind, shorter, fitting, killAt, communicateAt, timeoutAt, elapseBy, unfoldAt, extrudeAt, Move, Kill, Communicate, Timeout, Elapse, Unfold, Extrude, successor}
 use Rattle.cows.specs.Step.{readMove, overLimits, allowed, stepTerm}
 use Rattle.cows.proofs.Basics.{and-true, or-false, bind-accept, same-accept, need-accept, forbid-accept, only-some, placeIf-none}
-use Rattle.cows.proofs.Parts.{Sound, part-sound, part-kill, part-silence, part-elapse, part-continue, right-sub}
+use Rattle.cows.proofs.Parts.{Sound, part-sound, part-kill, part-silence, part-elapse, part-continue}
+use Rattle.cows.proofs.Scopes.{right-sub}
 use Rattle.cows.proofs.Extrusion.{part-extrude}
 use Rattle.cows.proofs.Binding.{sound-bind, part-bind, all-in-scope, values-fit, matched-binds, invokes-data}
 use Rattle.cows.proofs.Silence.{silence-prefix}
-use Rattle.cows.proofs.Unfolding.{replicates-is, sound-unfold}
+use Rattle.cows.proofs.Unfolding.{replicates-is, sound-afterUnfold}
 
 -- A wanted record stands at its place, inside the term and live.
 pub record Found {A : Type 0} (kind : Term → Option A) (t : Term) (n : ℕ) (a : A) : Type 0 where
@@ -74,11 +75,11 @@ sound-extrude t s a e h =
     let fits = not-false (fitting (wayTo t a)) (or-false (label d) (not (fitting (wayTo t a))) (placeIf-none (label d || not (fitting (wayTo t a))) a z) .1) in
     subst Sound (same-accept e₂) (part-sound (part-extrude d t a (wanted-found (prefixed delimits) t a d ed .is) fits) h)
 
-sound-unfoldAt : (t s : Term) (a : ℕ) → unfoldAt t a ≡ accept s → size t ≤ 2048 → Sound t → Sound s
+sound-unfold : (t s : Term) (a : ℕ) → unfoldAt t a ≡ accept s → size t ≤ 2048 → Sound t → Sound s
 unfolding unfoldAt
-sound-unfoldAt t s a e small h =
+sound-unfold t s a e small h =
     let (x, ex, e₁) = bind-accept (wanted (prefixed replicates) t a) _ s e in
-    subst Sound (same-accept e₁) (sound-unfold t a (replicates-is (sub t a) x (wanted-found (prefixed replicates) t a x ex .is)) small h)
+    subst Sound (same-accept e₁) (sound-afterUnfold t a (replicates-is (sub t a) x (wanted-found (prefixed replicates) t a x ex .is)) small h)
 
 -- a communication: the invoke is silenced, the receive continues, and the pattern's variables are bound
 invokes-leaf : (s : Term) (m : Ends) → invokes s ≡ some m → (x : Basic) × (s ≡ leaf x)
@@ -123,7 +124,7 @@ successor-kept t s (Kill a) w e = sound-kill t s a e (w .right, w .formed)
 successor-kept t s (Communicate a b) w e = sound-communicate t s a b e (w .right, w .formed)
 successor-kept t s (Timeout a) w e = sound-timeout t s a e (w .right, w .formed)
 successor-kept t s (Elapse d) w e = sound-elapse t s d e (w .right, w .formed)
-successor-kept t s (Unfold a) w e = sound-unfoldAt t s a e (w .small) (w .right, w .formed)
+successor-kept t s (Unfold a) w e = sound-unfold t s a e (w .small) (w .right, w .formed)
 successor-kept t s (Extrude a) w e = sound-extrude t s a e (w .right, w .formed)
 
 within-limits : (s : Term) → Sound s → overLimits s ≡ false → Within s

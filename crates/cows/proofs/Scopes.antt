@@ -1,4 +1,4 @@
--- Laws of specs/Within on scopes: what holds of every atom that a term uses, with the atoms delimited around the use; guards in a frame; and how often an atom is delimited.
+-- Laws of specs/Within: what holds of every atom that a term uses, with the atoms delimited around the use; guards, scopes and kinds along a way; and how often an atom is delimited.
 use mathlib.Core.Path.{_≡_, refl, sym, ap, ap₂, _∙_}
 use mathlib.Core.Bool.{Bool, true, false, _||_}
 use mathlib.Core.Option.{Option, none, some}
@@ -10,8 +10,9 @@ use lib.Dec.{ltb, eqb}
 use borrow.Author.Tests.{lt-ltb, ltb-true}
 use Rattle.cows.specs.Basics.{any, member, holds}
 use Rattle.cows.specs.Terms.{Prefix, receive, wait, protection, delimitation, replication, choice, parallel, Term, leaf, under, both, value, variable, label, delimits, delimitsAtom, guard, usesBasic, usesPrefix, optional, binders}
-use Rattle.cows.specs.Places.{Frame, inside, leftOf, rightOf, plug, Way, fill, frameDelimits, enclosed}
-use Rattle.cows.specs.Within.{Bound, Scoped, Guarded, one, counts, restricted}
+use Rattle.cows.specs.Places.{Frame, inside, leftOf, rightOf, plug, Way, fill, wayTo, sub, frameDelimits, enclosed}
+use Rattle.cows.specs.Within.{Bound, Scoped, Right, Guarded, nowhere, one, counts, restricted}
+use Rattle.cows.proofs.Places.{fill-spot, fill-ind}
 use Rattle.cows.proofs.Basics.{and-true, true-and, or-both, or-case, or-none, member-append}
 
 -- P holds of every atom of a list
@@ -127,6 +128,42 @@ guarded-plug (leftOf choice t) s r g k h = ((g (h .0 .0), h .0 .1), k (h .1), h 
 guarded-plug (leftOf parallel t) s r g k h = (tt, k (h .1), h .2)
 guarded-plug (rightOf choice t) s r g k h = ((h .0 .0, g (h .0 .1)), h .1, k (h .2))
 guarded-plug (rightOf parallel t) s r g k h = (tt, h .1, k (h .2))
+
+pub guarded-fill : (w : Way) (s r : Term) → (guard s ≡ true → guard r ≡ true) → (Guarded s → Guarded r) → Guarded (fill w s) → Guarded (fill w r)
+guarded-fill w s r g k =
+    fill-ind (λ s r. (guard s ≡ true → guard r ≡ true) × (Guarded s → Guarded r))
+    (λ f s r h. ((λ e. sym (guard-plug f s r) ∙ e), guarded-plug f s r (h .0) (h .1))) w s r (g, k) .1
+
+-- What stands at the end of a way is used inside the delimitations on the way.
+used-plug : (P Q : Rule) → Weakens P Q → (f : Frame) (w : Way) (s r : Term) → (Used P (λ a. enclosed a (f ∷ w)) s → Used Q (λ a. enclosed a (f ∷ w)) r)
+    → Used P (λ a. enclosed a w) (plug f s) → Used Q (λ a. enclosed a w) (plug f r)
+unfolding plug enclosed any frameDelimits
+used-plug P Q g (inside u) w s r k h = (all-map _ _ (λ a. g a _ _ (inside-refl _)) (usesPrefix u) (h .0), k (h .1))
+used-plug P Q g (leftOf j t) w s r k h = (k (h .0), used-mono P Q g _ _ (inside-refl _) t (h .1))
+used-plug P Q g (rightOf j t) w s r k h = (used-mono P Q g _ _ (inside-refl _) t (h .0), k (h .1))
+
+pub used-fill : (P Q : Rule) → Weakens P Q → (w : Way) (s r : Term) → (Used P (λ a. enclosed a w) s → Used Q (λ a. enclosed a w) r) → Used P nowhere (fill w s) → Used Q nowhere (fill w r)
+unfolding fill enclosed any
+used-fill P Q g [] s r k h = k h
+used-fill P Q g (f ∷ w) s r k h = used-fill P Q g w (plug f s) (plug f r) (used-plug P Q g f w s r k) h
+
+-- The table of kinds is kept where what stands at the end of a way is replaced by a right term.
+right-plug : (f : Frame) (s : Term) → Right (plug f s) → Right s × ((r : Term) → Right r → Right (plug f r))
+unfolding plug
+right-plug (inside u) s h = (h .1, λ r k. (h .0, k))
+right-plug (leftOf j t) s h = (h .0, λ r k. (k, h .1))
+right-plug (rightOf j t) s h = (h .1, λ r k. (h .0, k))
+
+pub right-fill : (w : Way) (s : Term) → Right (fill w s) → Right s × ((r : Term) → Right r → Right (fill w r))
+unfolding fill
+right-fill [] s h = (h, λ r k. k)
+right-fill (f ∷ w) s h =
+    let (p, up) = right-fill w (plug f s) h in
+    let (q, on) = right-plug f s p in
+    (q, λ r k. up (plug f r) (on r k))
+
+pub right-sub : (t : Term) (n : ℕ) → Right t → Right (sub t n)
+right-sub t n h = right-fill (wayTo t n) (sub t n) (rw (fill-spot t n) h) .0
 
 -- A term delimits the atoms that it counts.
 member-optional : (a : ℕ) (o : Option ℕ) → member a (optional o) ≡ holds (eqb a) o

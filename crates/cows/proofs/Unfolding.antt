@@ -2,139 +2,25 @@
 use mathlib.Core.Path.{_≡_, refl, sym, ap, subst, _∙_}
 use mathlib.Core.Bool.{Bool, true, false}
 use mathlib.Core.Option.{some}
-use mathlib.Core.List.{List, [], _∷_, _++_}
-use Prim.Native.Nat.{ℕ, zero, suc, _+_, _*_, _≤_, _<_}
+use mathlib.Core.List.{List}
+use Prim.Native.Nat.{ℕ, zero, suc, _+_, _≤_, _<_}
 use native.Mathlib.Omega.{arith}
 use lib.Dec.{eqb}
-use lib.ListN.{length, length-append}
+use lib.ListN.{length}
 use borrow.Author.Tests.{eqb-true, eq-eqb}
-use Rattle.cows.specs.Basics.{any, every, member, holds}
-use Rattle.cows.specs.Terms.{nil, kill, invoke, receive, wait, protection, delimitation, replication, parallel, Term, leaf, under, both, value, variable, datum, atom, size, prefixed, delimits, replicates, delimitsAtom, below, guard, usesBasic, usesPrefix, optional, binders, atoms}
-use Rattle.cows.specs.Places.{Frame, inside, leftOf, rightOf, plug, Way, fill, wayTo, sub, frameDelimits, enclosed}
+use Rattle.cows.specs.Basics.{member, holds}
+use Rattle.cows.specs.Terms.{receive, wait, protection, delimitation, replication, parallel, Term, leaf, under, both, value, variable, datum, size, prefixed, delimits, replicates, delimitsAtom, below, guard, binders, atoms}
+use Rattle.cows.specs.Places.{inside, plug, Way, fill, wayTo, sub, enclosed}
 use Rattle.cows.specs.Within.{Right, Guarded, Scoped, counts, restricted, nowhere, Formed}
 use Rattle.cows.specs.Moves.{mapAtoms, image, renaming, copy, afterUnfold}
 use Rattle.cows.specs.Allows.{SameSet}
-use Rattle.cows.proofs.Basics.{never, and-true, true-and, or-left, or-right, or-case, not-so, same-test, member-append, every-append}
+use Rattle.cows.proofs.Basics.{never, and-true, true-and, or-right, not-so, same-test}
 use Rattle.cows.proofs.Places.{fill-spot, fill-ind}
 use Rattle.cows.proofs.Renaming.{image-other, image-free, image-alike, image-inj}
-use Rattle.cows.proofs.Scopes.{All, Rule, inner, Used, local, Need, Weakens, And, inside-refl, all-map, used-mono, used-both, used-scoped, scoped-used, guard-plug, guarded-plug, member-counts, counts-member, restricted-mono, counts-plug, counts-fill, counts-enclosed}
-use Rattle.cows.proofs.Parts.{Sound, right-fill}
+use Rattle.cows.proofs.Scopes.{guarded-fill, used-fill, right-fill, Rule, Used, local, Need, Weakens, And, inside-refl, used-mono, used-both, used-scoped, scoped-used, member-counts, counts-member, restricted-mono, counts-plug, counts-fill, counts-enclosed}
+use Rattle.cows.proofs.Parts.{Sound}
 use Rattle.cows.proofs.Mapping.{Carries, Fits, guarded-mapped, used-mapped, counts-mapped, counts-source, right-mapped}
-
--- every atom of one list is in the other
-abbrev In : List ℕ → List ℕ → Type 0
-In xs ys = (a : ℕ) → member a xs ≡ true → member a ys ≡ true
-
-in-left : (xs ys zs : List ℕ) → In (xs ++ ys) zs → In xs zs
-in-left xs ys zs h a m = h a (member-append a xs ys ∙ or-left (member a xs) (member a ys) m)
-
-in-right : (xs ys zs : List ℕ) → In (xs ++ ys) zs → In ys zs
-in-right xs ys zs h a m = h a (member-append a xs ys ∙ or-right (member a xs) (member a ys) m)
-
-all-in : (xs zs : List ℕ) → In xs zs → All (λ a. member a zs ≡ true) xs
-unfolding member any
-all-in [] zs h = tt
-all-in (x ∷ xs) zs h = (h x (rw (eq-eqb x x refl)), all-in xs zs (λ a m. h a (or-right (eqb a x) (any (eqb a) xs) m)))
-
--- The atoms used in a term, and those delimited, are among its atoms.
-used-atoms : (l : List ℕ) (E : ℕ → Bool) (t : Term) → In (atoms t) l → Used (λ a F. member a l ≡ true) E t
-unfolding atoms
-used-atoms l E (leaf x) i = all-in (usesBasic x) l i
-used-atoms l E (under u t) i = (
-  all-in (usesPrefix u) l (in-left (usesPrefix u) (optional (delimits u)) l (in-left (usesPrefix u ++ optional (delimits u)) (atoms t) l i)),
-  used-atoms l (inner u E) t (in-right (usesPrefix u ++ optional (delimits u)) (atoms t) l i),
-)
-used-atoms l E (both j s t) i = (used-atoms l E s (in-left (atoms s) (atoms t) l i), used-atoms l E t (in-right (atoms s) (atoms t) l i))
-
-in-refl : (xs : List ℕ) → In xs xs
-in-refl xs a m = m
-
-binders-atoms : (t : Term) (l : List ℕ) → In (atoms t) l → In (binders t) l
-unfolding binders atoms member any
-binders-atoms (leaf x) l i a m = never m
-binders-atoms (under u t) l i a m =
-    or-case _ (member a (optional (delimits u))) (member a (binders t)) (sym (member-append a (optional (delimits u)) (binders t)) ∙ m)
-    (in-right (usesPrefix u) (optional (delimits u)) l (in-left (usesPrefix u ++ optional (delimits u)) (atoms t) l i) a)
-    (binders-atoms t l (in-right (usesPrefix u ++ optional (delimits u)) (atoms t) l i) a)
-binders-atoms (both j s t) l i a m =
-    or-case _ (member a (binders s)) (member a (binders t)) (sym (member-append a (binders s) (binders t)) ∙ m)
-    (binders-atoms s l (in-left (atoms s) (atoms t) l i) a) (binders-atoms t l (in-right (atoms s) (atoms t) l i) a)
-
-pub counts-atoms : (a : ℕ) (t : Term) → 1 ≤ counts a t → member a (atoms t) ≡ true
-counts-atoms a t h = binders-atoms t (atoms t) (in-refl (atoms t)) a (counts-member a t h)
-
--- there are few of them, and those delimited are atoms
-few-binders : (t : Term) → length (binders t) ≤ size t
-unfolding binders size delimits optional
-few-binders (leaf x) = omega arith
-few-binders (under (receive p o ws) t) = omega (arith, few-binders t)
-few-binders (under (wait n) t) = omega (arith, few-binders t)
-few-binders (under protection t) = omega (arith, few-binders t)
-few-binders (under (delimitation d) t) = omega (arith, few-binders t)
-few-binders (under replication t) = omega (arith, few-binders t)
-few-binders (both j s t) = omega (arith, length-append (binders s) (binders t), few-binders s, few-binders t)
-
-few-atoms : (t : Term) → Right t → length (atoms t) ≤ 6 * size t
-unfolding atoms size usesBasic usesPrefix delimits optional
-few-atoms (leaf nil) h = omega arith
-few-atoms (leaf (kill k)) h = omega arith
-few-atoms (leaf (invoke p o ws)) h = omega (arith, h .2 .0)
-few-atoms (under (receive p o ws) t) h = omega (arith, h .0 .2 .0, length-append (ws ++ []) (atoms t), length-append ws [], few-atoms t (h .1))
-few-atoms (under (wait n) t) h = omega (arith, few-atoms t (h .1))
-few-atoms (under protection t) h = omega (arith, few-atoms t (h .1))
-few-atoms (under (delimitation d) t) h = omega (arith, few-atoms t (h .1))
-few-atoms (under replication t) h = omega (arith, few-atoms t (h .1))
-few-atoms (both j s t) h = omega (arith, length-append (atoms s) (atoms t), few-atoms s (h .0), few-atoms t (h .1))
-
-binders-right : (t : Term) → Right t → every atom (binders t) ≡ true
-unfolding binders every delimits optional
-binders-right (leaf x) h = refl
-binders-right (under (receive p o ws) t) h = binders-right t (h .1)
-binders-right (under (wait n) t) h = binders-right t (h .1)
-binders-right (under protection t) h = binders-right t (h .1)
-binders-right (under (delimitation d) t) h = true-and (h .0) (binders-right t (h .1))
-binders-right (under replication t) h = binders-right t (h .1)
-binders-right (both j s t) h = every-append atom (binders s) (binders t) ∙ true-and (binders-right s (h .0)) (binders-right t (h .1))
-
--- Along a way: sizes, atoms, the table of kinds, guards and scopes of what stands at its end and of the whole.
-size-plug : (f : Frame) (s : Term) → size s ≤ size (plug f s)
-unfolding plug size
-size-plug (inside u) s = omega arith
-size-plug (leftOf j t) s = omega arith
-size-plug (rightOf j t) s = omega arith
-
-size-fill : (w : Way) (s : Term) → size s ≤ size (fill w s)
-unfolding fill
-size-fill [] s = omega arith
-size-fill (f ∷ w) s = omega (arith, size-plug f s, size-fill w (plug f s))
-
-in-plug : (f : Frame) (s : Term) (l : List ℕ) → In (atoms (plug f s)) l → In (atoms s) l
-unfolding plug atoms
-in-plug (inside u) s l i = in-right (usesPrefix u ++ optional (delimits u)) (atoms s) l i
-in-plug (leftOf j t) s l i = in-left (atoms s) (atoms t) l i
-in-plug (rightOf j t) s l i = in-right (atoms t) (atoms s) l i
-
-in-fill : (w : Way) (s : Term) (l : List ℕ) → In (atoms (fill w s)) l → In (atoms s) l
-unfolding fill
-in-fill [] s l i = i
-in-fill (f ∷ w) s l i = in-plug f s l (in-fill w (plug f s) l i)
-
-guarded-fill : (w : Way) (s r : Term) → (guard s ≡ true → guard r ≡ true) → (Guarded s → Guarded r) → Guarded (fill w s) → Guarded (fill w r)
-guarded-fill w s r g k =
-    fill-ind (λ s r. (guard s ≡ true → guard r ≡ true) × (Guarded s → Guarded r))
-    (λ f s r h. ((λ e. sym (guard-plug f s r) ∙ e), guarded-plug f s r (h .0) (h .1))) w s r (g, k) .1
-
-used-plug : (P Q : Rule) → Weakens P Q → (f : Frame) (w : Way) (s r : Term) → (Used P (λ a. enclosed a (f ∷ w)) s → Used Q (λ a. enclosed a (f ∷ w)) r)
-    → Used P (λ a. enclosed a w) (plug f s) → Used Q (λ a. enclosed a w) (plug f r)
-unfolding plug enclosed any frameDelimits
-used-plug P Q g (inside u) w s r k h = (all-map _ _ (λ a. g a _ _ (inside-refl _)) (usesPrefix u) (h .0), k (h .1))
-used-plug P Q g (leftOf j t) w s r k h = (k (h .0), used-mono P Q g _ _ (inside-refl _) t (h .1))
-used-plug P Q g (rightOf j t) w s r k h = (used-mono P Q g _ _ (inside-refl _) t (h .0), k (h .1))
-
-used-fill : (P Q : Rule) → Weakens P Q → (w : Way) (s r : Term) → (Used P (λ a. enclosed a w) s → Used Q (λ a. enclosed a w) r) → Used P nowhere (fill w s) → Used Q nowhere (fill w r)
-unfolding fill enclosed any
-used-fill P Q g [] s r k h = k h
-used-fill P Q g (f ∷ w) s r k h = used-fill P Q g w (plug f s) (plug f r) (used-plug P Q g f w s r k) h
+use Rattle.cows.proofs.Atoms.{In, used-atoms, in-refl, counts-atoms, few-binders, few-atoms, binders-right, size-fill, in-plug, in-fill}
 
 -- A renaming of the atoms that the body delimits, to atoms of their sets that the table t has not, and no two to the same.
 pub record Renews (t body : Term) (ρ : ℕ → ℕ) : Type 0 where
@@ -310,8 +196,8 @@ copied-sound t w body e = subst (λ q. size q ≤ 2048 → Sound q → Sound (co
         let new = renaming-renews w body r small in
         (right-unfolded w body _ new r f, formed-unfolded w body _ new r f)
 
-pub sound-unfold : (t : Term) (n : ℕ) → sub t n ≡ under replication (below (sub t n)) → size t ≤ 2048 → Sound t → Sound (afterUnfold t n)
+pub sound-afterUnfold : (t : Term) (n : ℕ) → sub t n ≡ under replication (below (sub t n)) → size t ≤ 2048 → Sound t → Sound (afterUnfold t n)
 unfolding afterUnfold copied
-sound-unfold t n e small h =
+sound-afterUnfold t n e small h =
     subst (λ s. Sound (fill (wayTo t n) (both parallel (copy t (below (sub t n))) s))) (sym e)
     (copied-sound t (wayTo t n) (below (sub t n)) (ap (fill (wayTo t n)) (sym e) ∙ fill-spot t n) small h)
