@@ -18,6 +18,7 @@ use Rattle.cows.specs.Moves.{Substitution, binds, Matching, differs, aft
 use Rattle.cows.specs.Allows.{Live, Meets, Renames, Parent, onLeft, onRight, protected, delimited, Allows, by-kill, by-communicate, by-timeout, by-elapse, by-unfold, by-extrude}
 use Rattle.cows.proofs.Basics.{never, and-true, true-and, or-false, bind-accept, same-accept, forbid-accept, placeIf-none, every-append}
 use Rattle.cows.proofs.Renaming.{renaming-renames, renames-unique}
+use Rattle.cows.proofs.Atoms.{few-binders, few-atoms, binders-right}
 use Rattle.cows.proofs.Stands.{sub-ind, right-at, kills-is, invokeOf, invokes-is, receiveOf, receives-is, waits-is, delimits-is, replicates-is, prefixed-is, wanted-live, live-wanted, first-fails, fails-first, prefixed-stands}
 use Rattle.cows.proofs.Meeting.{fit-fits, fits-fit, inScope-reaches, reaches-inScope, heldBack-unheld, unheld-heldBack, tighter-tightest, tightest-tighter}
 
@@ -128,38 +129,6 @@ unfolding elapseBy _>>_ forbid placeIf
 allows-elapse t d h k = rw (ne-eqb d 0 (λ q. omega arith), covered-shorter t d k)
 
 -- unfold: there is room for new atoms
-few-binders : (t : Term) → length (binders t) ≤ size t
-unfolding binders size delimits optional
-few-binders (leaf x) = omega arith
-few-binders (under (receive p o ws) t) = omega (arith, few-binders t)
-few-binders (under (wait n) t) = omega (arith, few-binders t)
-few-binders (under protection t) = omega (arith, few-binders t)
-few-binders (under (delimitation d) t) = omega (arith, few-binders t)
-few-binders (under replication t) = omega (arith, few-binders t)
-few-binders (both j s t) = omega (arith, length-append (binders s) (binders t), few-binders s, few-binders t)
-
-binders-right : (t : Term) → Right t → every atom (binders t) ≡ true
-unfolding binders every delimits optional
-binders-right (leaf x) h = refl
-binders-right (under (receive p o ws) t) h = binders-right t (h .1)
-binders-right (under (wait n) t) h = binders-right t (h .1)
-binders-right (under protection t) h = binders-right t (h .1)
-binders-right (under (delimitation d) t) h = rw (h .0, binders-right t (h .1))
-binders-right (under replication t) h = binders-right t (h .1)
-binders-right (both j s t) h = every-append atom (binders s) (binders t) ∙ true-and (binders-right s (h .0)) (binders-right t (h .1))
-
-few-atoms : (t : Term) → Right t → length (atoms t) ≤ 6 * size t
-unfolding atoms size usesBasic usesPrefix delimits optional
-few-atoms (leaf nil) h = omega arith
-few-atoms (leaf (kill k)) h = omega arith
-few-atoms (leaf (invoke p o ws)) h = omega (arith, h .2)
-few-atoms (under (receive p o ws) t) h = omega (arith, h .0 .2, length-append (ws ++ []) (atoms t), length-append ws [], few-atoms t (h .1))
-few-atoms (under (wait n) t) h = omega (arith, few-atoms t (h .1))
-few-atoms (under protection t) h = omega (arith, few-atoms t (h .1))
-few-atoms (under (delimitation d) t) h = omega (arith, few-atoms t (h .1))
-few-atoms (under replication t) h = omega (arith, few-atoms t (h .1))
-few-atoms (both j s t) h = omega (arith, length-append (atoms s) (atoms t), few-atoms s (h .0), few-atoms t (h .1))
-
 body-right : (t s : Term) (a : ℕ) → sub t a ≡ under replication s → Right t → Right s
 body-right t s a e h = subst Right e (right-at t a h) .1
 

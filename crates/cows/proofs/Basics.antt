@@ -62,6 +62,14 @@ pub or-both : {a b c d : Bool} → (a ≡ true → c ≡ true) → (b ≡ true �
 or-both {a = true} {c = c} {d = d} f g h = or-left c d (f refl)
 or-both {a = false} {c = c} {d = d} f g h = or-right c d (g h)
 
+pub or-none : (a : Bool) → (a || false) ≡ a
+or-none true = refl
+or-none false = refl
+
+pub or-swap : (a b c : Bool) → (a || (b || c)) ≡ true → (b || (a || c)) ≡ true
+or-swap true b c h = or-right b true refl
+or-swap false b c h = h
+
 pub or-case : (P : Type 0) (a b : Bool) → (a || b) ≡ true → (a ≡ true → P) → (b ≡ true → P) → P
 or-case P true b h f g = f refl
 or-case P false b h f g = g h
@@ -70,6 +78,15 @@ or-case P false b h f g = g h
 pub implies-false : {a b : Bool} → (a ≡ true → b ≡ true) → b ≡ false → a ≡ false
 implies-false {a = true} f e = sym (f refl) ∙ e
 implies-false {a = false} f e = refl
+
+pub and-not : {a b : Bool} → (a && not b) ≡ false → a ≡ true → b ≡ true
+and-not {a = true} {b = true} e h = refl
+and-not {a = true} {b = false} e h = sym e
+and-not {a = false} e h = never h
+
+pub not-mono : {a b : Bool} → (a ≡ true → b ≡ true) → not b ≡ true → not a ≡ true
+not-mono {a = true} f h = sym (ap not (f refl)) ∙ h
+not-mono {a = false} f h = refl
 
 pub not-so : {a : Bool} → (a ≡ true → ⊥) → a ≡ false
 not-so {a = true} f = absurd (f refl)

@@ -14,7 +14,9 @@ use Rattle.cows.specs.Active.{passesLive}
 use Rattle.cows.specs.Moves.{halt, haltUnder, haltBoth, haltBeside, haltInside, afterKill, Substitution, silence, aroundChoice, continue, mapBasic, mapPrefix, mapAtoms, image, instantiate, bind, lower, elapse, copy, afterUnfold, exchange, afterExtrude}
 use Rattle.cows.specs.Load.{weightBasic, weight, load, shieldedUnder, shieldedBoth, shielded, endedBeside, ended, arm, dropped}
 use Rattle.cows.proofs.Basics.{cond-case, cond-case₂}
-use Rattle.cows.proofs.Places.{fill-spot, put, put-spot, prefix-put}
+use Rattle.cows.proofs.Places.{fill-spot}
+use Rattle.cows.proofs.Stands.{kills-is, invokeOf, invokes-is, delimits-is, prefixed-is}
+use Rattle.cows.proofs.Silence.{silence-prefix}
 
 -- Halting: what it keeps is the load of the protections reached; halting twice is halting once.
 pub load-halt : (t : Term) → load (halt t) ≡ shielded t
@@ -76,20 +78,12 @@ load-spot t n = ap load (sym (fill-spot t n)) ∙ load-fill (wayTo t n) (sub t n
 
 -- what the records that move weigh
 weighs-kill : (s : Term) (k : ℕ) → kills s ≡ some k → load s ≡ 1
-unfolding kills load weightBasic
-weighs-kill (leaf nil) k e = cc
-weighs-kill (leaf (kill l)) k e = refl
-weighs-kill (leaf (invoke p o ws)) k e = refl
-weighs-kill (under u t) k e = cc
-weighs-kill (both j s t) k e = cc
+unfolding load weightBasic
+weighs-kill s k e = ap load (kills-is s k e)
 
-weighs-invoke : (s : Term) (m : Ends) → invokes s ≡ some m → (load s ≡ 1) × (size s ≡ 1)
-unfolding invokes load weightBasic size
-weighs-invoke (leaf nil) m e = (cc, refl)
-weighs-invoke (leaf (kill l)) m e = (refl, refl)
-weighs-invoke (leaf (invoke p o ws)) m e = (refl, refl)
-weighs-invoke (under u t) m e = (cc, cc)
-weighs-invoke (both j s t) m e = (cc, cc)
+weighs-invoke : (s : Term) (m : Ends) → invokes s ≡ some m → load s ≡ 1
+unfolding load weightBasic
+weighs-invoke s m e = ap load (invokes-is s m e)
 
 -- a record before a continuation weighs 1
 abbrev pub Weighty : {A : Type 0} → (Prefix → Option A) → Type 0
@@ -156,12 +150,11 @@ load-continue f g t a x e =
 -- Communicate: before = after + 2 + what the arms not taken held.
 load-silence : (t : Term) (b : ℕ) (m : Ends) → invokes (sub t b) ≡ some m → load t ≡ load (silence t b) + 1
 unfolding silence load weightBasic
-load-silence t b m e = omega (arith, load-spot t b, weighs-invoke (sub t b) m e .0, load-fill (wayTo t b) (leaf nil))
+load-silence t b m e = omega (arith, load-spot t b, weighs-invoke (sub t b) m e, load-fill (wayTo t b) (leaf nil))
 
 -- a prefix stands where it stood before the invoke went
 pub prefix-silence : {A : Type 0} (f : Prefix → Option A) (t : Term) (a b : ℕ) (m : Ends) → invokes (sub t b) ≡ some m → prefixed f (sub (silence t b) a) ≡ prefixed f (sub t a)
-unfolding silence sub spot
-prefix-silence f t a b m e = rw put-spot (prefix-put f nil [] [] t b (weighs-invoke (sub t b) m e .1) a)
+prefix-silence f t a b m e = silence-prefix f t b (invokeOf m) (invokes-is (sub t b) m e) a
 
 weight-mapBasic : (f : ℕ → ℕ) (x : Basic) → weightBasic (mapBasic f x) ≡ weightBasic x
 unfolding mapBasic weightBasic
@@ -245,14 +238,8 @@ load-unfold t a =
 
 -- Extrude: nothing changes.
 weighs-delimitation : (s : Term) (d : ℕ) → prefixed delimits s ≡ some d → load s ≡ load (below s)
-unfolding prefixed delimits load weight below
-weighs-delimitation (leaf x) d e = cc
-weighs-delimitation (under (receive p o ws) t) d e = cc
-weighs-delimitation (under (wait n) t) d e = cc
-weighs-delimitation (under protection t) d e = omega arith
-weighs-delimitation (under (delimitation c) t) d e = omega arith
-weighs-delimitation (under replication t) d e = omega arith
-weighs-delimitation (both j s t) d e = cc
+unfolding load weight
+weighs-delimitation s d e = ap load (prefixed-is delimits delimitation delimits-is s d e) ∙ omega arith
 
 load-exchange : (d : ℕ) (s : Term) (w : Way) → load (exchange d s w) ≡ loadWay w + load s
 unfolding exchange load weight loadWay

@@ -8,7 +8,7 @@ use native.Mathlib.Omega.{arith}
 use native.Mathlib.Nat.{zero-add}
 use lib.Dec.{ltb}
 use borrow.Author.Tests.{lt-ltb, le-ltb, ltb-true, ltb-false}
-use Rattle.cows.specs.Terms.{Basic, Prefix, Join, Term, leaf, under, both, size, prefixed}
+use Rattle.cows.specs.Terms.{Prefix, Join, Term, leaf, under, both, size}
 use Rattle.cows.specs.Places.{Frame, inside, leftOf, rightOf, plug, Way, fill, Spot, descend, spot, wayTo, sub, first}
 use Rattle.cows.proofs.Basics.{cond-case, cond-case₂, firstFrom-none, none-firstFrom}
 
@@ -134,64 +134,3 @@ first-none f t e n l = rw zero-add (rw zero-add at (firstFrom-none (λ m. f m (d
 pub none-first : (f : ℕ → Spot → Bool) (t : Term) → Everywhere (Fails f) [] 0 t → first f t ≡ none
 unfolding first spot
 none-first f t h = none-firstFrom (λ m. f m (descend [] t m)) 0 (size t) (λ i l. rw zero-add (rw zero-add at (h i l)))
-
--- The same by recursion on the term: t with r in the place n.
-pub put : Term → Term → ℕ → Term
-put r (leaf x) n = r
-put r (under u t) zero = r
-put r (under u t) (suc n) = under u (put r t n)
-put r (both j s t) zero = r
-put r (both j s t) (suc n) = cond (ltb n (size s)) (both j (put r s n) t) (both j s (put r t (n - size s)))
-
-pub fill-put : (r : Term) (w : Way) (t : Term) (n : ℕ) → fill (descend w t n .way) r ≡ fill w (put r t n)
-unfolding descend fill plug put
-fill-put r w (leaf x) n = refl
-fill-put r w (under u t) zero = refl
-fill-put r w (under u t) (suc n) = fill-put r (inside u ∷ w) t n
-fill-put r w (both j s t) zero = refl
-fill-put r w (both j s t) (suc n) =
-    cond-case₂ (λ (z : Spot) q. fill (z .way) r ≡ fill w q) (ltb n (size s))
-    (λ e. fill-put r (leftOf j t ∷ w) s n) (λ e. fill-put r (rightOf j s ∷ w) t (n - size s))
-
-pub put-spot : (r t : Term) (n : ℕ) → fill (wayTo t n) r ≡ put r t n
-unfolding wayTo spot fill
-put-spot r t n = fill-put r [] t n
-
--- a leaf in a leaf's place changes no size, and no prefix
-pub size-put : (x : Basic) (w : Way) (t : Term) (n : ℕ) → size (descend w t n .here) ≡ 1 → size (put (leaf x) t n) ≡ size t
-unfolding descend put size
-size-put x w (leaf y) n e = refl
-size-put x w (under u t) zero e = sym e
-size-put x w (under u t) (suc n) e = ap suc (size-put x (inside u ∷ w) t n e)
-size-put x w (both j s t) zero e = sym e
-size-put x w (both j s t) (suc n) e =
-    cond-case₂ (λ (z : Spot) q. size (z .here) ≡ 1 → size q ≡ suc (size s + size t)) (ltb n (size s))
-    (λ b h. ap (λ m. suc (m + size t)) (size-put x (leftOf j t ∷ w) s n h))
-    (λ b h. ap (λ m. suc (size s + m)) (size-put x (rightOf j s ∷ w) t (n - size s) h)) e
-
--- two terms have the same prefix at every place
-abbrev Alike : {A : Type 0} → (Prefix → Option A) → Way → Way → Term → Term → Type 0
-Alike f v w q s = (m : ℕ) → prefixed f (descend v q m .here) ≡ prefixed f (descend w s m .here)
-
-alike-both : {A : Type 0} (f : Prefix → Option A) (v w : Way) (j : Join) (q r s t : Term) → size q ≡ size s
-    → Alike f (leftOf j r ∷ v) (leftOf j t ∷ w) q s → Alike f (rightOf j q ∷ v) (rightOf j s ∷ w) r t → Alike f v w (both j q r) (both j s t)
-unfolding descend prefixed
-alike-both f v w j q r s t e h k zero = refl
-alike-both f v w j q r s t e h k (suc m) =
-    rw e
-    (cond-case₂ (λ (y z : Spot). prefixed f (y .here) ≡ prefixed f (z .here)) (ltb m (size s)) (λ c. h m) (λ c. k (m - size s)))
-
-alike-same : {A : Type 0} (f : Prefix → Option A) (v w : Way) (t : Term) → Alike f v w t t
-alike-same f v w t m = ap (prefixed f) (descend-here v w t m)
-
-pub prefix-put : {A : Type 0} (f : Prefix → Option A) (x : Basic) (v w : Way) (t : Term) (n : ℕ) → size (descend w t n .here) ≡ 1 → Alike f v w (put (leaf x) t n) t
-unfolding descend put size prefixed
-prefix-put f x v w (leaf y) n e m = refl
-prefix-put f x v w (under u t) zero e m = absurd (omega (arith, size-pos t))
-prefix-put f x v w (under u t) (suc n) e zero = refl
-prefix-put f x v w (under u t) (suc n) e (suc m) = prefix-put f x (inside u ∷ v) (inside u ∷ w) t n e m
-prefix-put f x v w (both j s t) zero e m = absurd (omega (arith, size-pos s))
-prefix-put f x v w (both j s t) (suc n) e m =
-    cond-case₂ (λ (z : Spot) q. size (z .here) ≡ 1 → Alike f v w q (both j s t)) (ltb n (size s))
-    (λ b h. alike-both f v w j _ t s t (size-put x (leftOf j t ∷ w) s n h) (prefix-put f x _ _ s n h) (alike-same f _ _ t))
-    (λ b h. alike-both f v w j s _ s t refl (alike-same f _ _ s) (prefix-put f x _ _ t (n - size s) h)) e m

@@ -18,14 +18,11 @@ use Rattle.cows.specs.Within.{Within}
 use Rattle.cows.specs.Step.{readMove, stepTerm, judgeStep}
 use Rattle.cows.specs.Run.{Tally, noTally, count, Run, start, judgement, enter, turn, run, lostBy, losses}
 use Rattle.cows.proofs.Basics.{bind-accept, accept-bind, forbid-accept, need-accept, only-some, same-accept, same-some}
+use Rattle.cows.proofs.Stands.{wanted-is}
 use Rattle.cows.proofs.Tables.{within-judge}
 use Rattle.cows.proofs.Step.{step-accepted}
+use Rattle.cows.proofs.Preserving.{step-within}
 use Rattle.cows.proofs.Load.{load-kill, load-communicate, load-timeout, load-elapse, load-unfold, load-extrude}
-
--- what stands at the place that a move names
-wanted-is : {A : Type 0} (kind : Term → Option A) (t : Term) (n : ℕ) (x : A) → wanted kind t n ≡ accept x → kind (sub t n) ≡ some x
-unfolding wanted
-wanted-is kind t n x e = only-some (ltb n (size t) && live (wayTo t n)) (kind (sub t n)) x (need-accept 11 n _ x e) .1
 
 -- One law for the six: before and what was copied = after, what moved and what was lost.
 abbrev pub Law : Term → Move → Term → Type 0
@@ -124,3 +121,18 @@ run-bound t ms = omega (arith, run-balance t ms)
 pub judgement-step : (r : Run) (m : List ℕ) → Within (r .table) → judgement r m ≡ judgeStep (encode (r .table)) m 32768
 unfolding judgement judgeStep
 judgement-step r m w = sym (accept-bind (judge (encode (r .table))) (λ t. stepTerm t m 32768) (r .table) (within-judge (r .table) w))
+
+-- Every table that a run keeps is within the limits, if the start table is.
+turn-within : (r : Run) (m : List ℕ) → Within (r .table) → Within (turn r m .table)
+unfolding turn judgement enter
+turn-within r m w = go (readMove m) (stepTerm (r .table) m 32768) refl
+  where
+    go : (o : Option Move) (q : Result Term) → stepTerm (r .table) m 32768 ≡ q → Within (enter r o q .table)
+    go o (refuse n p) e = w
+    go none (accept s) e = w
+    go (some move) (accept s) e = step-within (r .table) s m 32768 w e
+
+pub run-within : (r : Run) (ms : List (List ℕ)) → Within (r .table) → Within (run r ms .table)
+unfolding run
+run-within r [] w = w
+run-within r (m ∷ ms) w = run-within (turn r m) ms (turn-within r m w)

@@ -100,7 +100,11 @@ prefixed-is f g h (leaf y) x e = cc
 prefixed-is f g h (under u t) x e = ap (λ v. under v t) (h u x e)
 prefixed-is f g h (both j s t) x e = cc
 
--- a record wanted is live and of the kind
+-- a record wanted is of the kind, and live
+pub wanted-is : {A : Type 0} (look : Term → Option A) (t : Term) (n : ℕ) (x : A) → wanted look t n ≡ accept x → look (sub t n) ≡ some x
+unfolding wanted
+wanted-is look t n x e = only-some (ltb n (size t) && live (wayTo t n)) (look (sub t n)) x (need-accept 11 n _ x e) .1
+
 pub wanted-live : {A : Type 0} (look : Term → Option A) (t : Term) (n : ℕ) (x : A) (s : Term) → (look (sub t n) ≡ some x → sub t n ≡ s) → wanted look t n ≡ accept x → Live t n s
 unfolding wanted
 wanted-live look t n x s is e =

@@ -26,8 +26,9 @@ use Rattle.cows.proofs.Allows.{allows-unique}
 use Rattle.cows.proofs.Corollaries.{meeting-unheld, meeting-tightest, kill-spares}
 use Rattle.cows.proofs.Steps.{Steps, accepted-steps, steps-accepted}
 use Rattle.cows.proofs.Step.{refusal-silent, output-behind, output-length}
+use Rattle.cows.proofs.Preserving.{step-within}
 use Rattle.cows.proofs.Load.{halt-halt, load-halt}
-use Rattle.cows.proofs.Run.{load-law, run-balance, run-bound, judgement-step}
+use Rattle.cows.proofs.Run.{load-law, run-balance, run-bound, judgement-step, run-within}
 
 -- 1. Every well-formed table stands for one term, and every term within the limits has one table.
 pub table-accepted : (b : List ℕ) (t : Term) → Bytes b → (judge b ≡ accept t) ↔ (Within t × (encode t ≡ b))
@@ -65,10 +66,11 @@ kill-leaves t s a k w e h = kill-spares t s a k w e h
 
 -- 3. The successor of an accepted move is within the limits again, and so is every table of a run.
 pub successor-within : (t s : Term) (m : List ℕ) (room : ℕ) → Within t → stepTerm t m room ≡ accept s → Within s
-successor-within t s m room w e = ?
+successor-within t s m room w e = step-within t s m room w e
 
 pub tables-within : (t : Term) (ms : List (List ℕ)) → Within t → Within (run (start t) ms .table)
-tables-within t ms w = ?
+unfolding start
+tables-within t ms w = run-within (start t) ms w
 
 -- 4. The load law of each move: before = after, what the moving records weigh, and what was lost.
 pub load-kill : (t s : Term) (a : ℕ) → successor t (Kill a) ≡ accept s → load t ≡ load s + 1 + endedBy (kills (sub t a)) (wayTo t a)

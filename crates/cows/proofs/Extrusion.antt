@@ -1,0 +1,37 @@
+-- Extrusion leaves a part (proofs/Parts): a delimitation that changes places with a fitting parent.
+use mathlib.Core.Path.{_≡_, refl, subst}
+use mathlib.Core.Bool.{true, false}
+use mathlib.Core.Option.{some}
+use mathlib.Core.List.{[], _∷_}
+use Prim.Native.Nat.{ℕ}
+use Rattle.cows.specs.Terms.{receive, wait, protection, delimitation, replication, choice, parallel, Term, leaf, under, both, prefixed, delimits, below, guard}
+use Rattle.cows.specs.Places.{Frame, inside, leftOf, rightOf, plug, Way, fill, wayTo, sub, frameChooses}
+use Rattle.cows.specs.Moves.{fitsPrefix, fitting, exchange, afterExtrude}
+use Rattle.cows.proofs.Basics.{never}
+use Rattle.cows.proofs.Places.{fill-spot}
+use Rattle.cows.proofs.Stands.{delimits-is, prefixed-is}
+use Rattle.cows.proofs.Parts.{Part, whole, outward, fill-part}
+
+-- a fitting parent is no guard
+fitting-guard : (f : Frame) (w : Way) (s : Term) → fitting (f ∷ w) ≡ true → guard (plug f s) ≡ false
+unfolding fitting fitsPrefix frameChooses guard plug
+fitting-guard (inside (receive p o ws)) w s h = never h
+fitting-guard (inside (wait n)) w s h = never h
+fitting-guard (inside protection) w s h = refl
+fitting-guard (inside (delimitation d)) w s h = refl
+fitting-guard (inside replication) w s h = refl
+fitting-guard (leftOf choice t) w s h = never h
+fitting-guard (leftOf parallel t) w s h = refl
+fitting-guard (rightOf choice t) w s h = never h
+fitting-guard (rightOf parallel t) w s h = refl
+
+part-exchange : (d : ℕ) (s : Term) (w : Way) → fitting w ≡ true → Part true (fill w (under (delimitation d) s)) (exchange d s w)
+unfolding exchange fill fitting
+part-exchange d s [] h = whole
+part-exchange d s (f ∷ w) h = fill-part w (outward d f s (fitting-guard f w s h))
+
+pub part-extrude : (d : ℕ) (t : Term) (n : ℕ) → prefixed delimits (sub t n) ≡ some d → fitting (wayTo t n) ≡ true → Part true t (afterExtrude d t n)
+unfolding afterExtrude below
+part-extrude d t n e h =
+    subst (λ s. Part true s (afterExtrude d t n)) (fill-spot t n)
+    (rw (prefixed-is delimits delimitation delimits-is (sub t n) d e) (part-exchange d (below (sub t n)) (wayTo t n) h))
