@@ -1,0 +1,40 @@
+-- Where terms end: records in prefix order, each wanting as many terms behind it as it has children.
+use mathlib.Core.Path.{_≡_}
+use Prim.Native.Nat.{ℕ, zero, suc, _+_, _/_, _<_, _≤_}
+use mathlib.Core.Bool.{Bool, true, false, cond, _||_}
+use mathlib.Core.List.{List, [], _∷_, map}
+use lib.ListN.{length, getD, drop}
+use lib.Dec.{leb, eqb}
+use Rattle.cows.specs.Format.{byte, records}
+
+-- Kinds 3 and up have a child, 5 and 6 one more (01, Records). What it gives for every byte.
+abbrev pub oneIf : Bool → ℕ
+oneIf true = 1
+oneIf false = 0
+
+unfoldable pub childrenOf : ℕ → ℕ
+childrenOf kind = oneIf (leb 3 kind) + oneIf (eqb kind 5 || eqb kind 6)
+
+-- The place behind so many terms, read from place n on in records of which `wants` tells the children; one past the last place where the records
+-- run out. Over any kinds of record.
+unfoldable pub after : {A : Type 0} → (A → ℕ) → ℕ → ℕ → List A → ℕ
+after wants zero n [] = n
+after wants zero n (r ∷ rs) = n
+after wants (suc w) n [] = suc n
+after wants (suc w) n (r ∷ rs) = after wants (wants r + w) (suc n) rs
+
+-- the kinds of a table's records; the end of the term at place m
+unfoldable pub kindsOf : List ℕ → List ℕ
+kindsOf s = map (λ b. byte b 0) (records s)
+
+unfoldable pub endAt : List ℕ → ℕ → ℕ
+endAt s m = after childrenOf 1 m (drop m (kindsOf s))
+
+unfoldable pub pickEnd : ℕ → ℕ → ℕ → ℕ → ℕ
+pickEnd c x a b = cond (eqb c 0) x (cond (eqb c 1) a b)
+
+-- `ends` has the end of the term at each place from i on, and one past the last place behind them.
+pub record EndsFrom (s ends : List ℕ) (i : ℕ) : Type 0 where
+  pub few : length s / 16 ≤ 2048
+  pub room : length s / 16 + 1 < length ends
+  pub end : (m : ℕ) → i ≤ m → m ≤ length s / 16 + 1 → getD ends m 0 ≡ endAt s m

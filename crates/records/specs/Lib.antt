@@ -1,0 +1,4 @@
+pub mod Atoms
+pub mod Rows
+pub mod Ends
+pub mod Holds

@@ -1,0 +1,78 @@
+// Records: atoms and their three sets, the numbers in a record's bytes, and how many children a kind has.
+ghost use mathlib.Core.Path.{_≡_};
+ghost use Prim.Native.Nat.{_+_, _<_, _≤_};
+ghost use lib.ListN.{length};
+ghost use Rattle.cows.specs.Format.{word};
+ghost use Rattle.records.specs.Atoms.{classOf};
+ghost use Rattle.records.specs.Ends.{childrenOf};
+
+// The three disjoint sets of atoms, each with a type of its own. Atoms are made only by the classifying read.
+pub struct Value(u16);
+
+pub struct Variable(u16);
+
+pub struct Label(u16);
+
+pub enum Atom {
+    None,
+    Value(Value),
+    Variable(Variable),
+    Label(Label),
+}
+
+// A place, or none.
+pub enum Found {
+    At(usize),
+    Nothing,
+}
+
+fn wide(x: u8) -> u16
+    ensures { λ r. ⌜ (r ≡ x) × (r < 256) ⌝ }
+{
+    x as u16
+}
+
+pub fn wide16(x: u16) -> usize
+    ensures { λ r. ⌜ (r ≡ x) × (r < 65536) ⌝ }
+{
+    x as usize
+}
+
+// The 16-bit number at byte k.
+pub fn word_at(s: &[u8], k: usize) -> u16
+    requires { ⌜ k + 1 < length (now s) ⌝ }
+    ensures { λ r. ⌜ r ≡ word (now (s .entry)) k ⌝ }
+{
+    wide(s[k]) + 256 * wide(s[k + 1])
+}
+
+// The class of a number: the one place where atoms are made.
+pub fn classify(n: u16) -> Atom
+    ensures { λ r. ⌜ r ≡ classOf n ⌝ }
+{
+    if n == 0 {
+        return Atom::None;
+    }
+    if n < 32768 {
+        return Atom::Value(Value(n));
+    }
+    if n < 49152 {
+        return Atom::Variable(Variable(n));
+    }
+    Atom::Label(Label(n))
+}
+
+// The classifying read of two bytes.
+pub fn atom_at(s: &[u8], k: usize) -> Atom
+    requires { ⌜ k + 1 < length (now s) ⌝ }
+    ensures { λ r. ⌜ r ≡ classOf (word (now (s .entry)) k) ⌝ }
+{
+    classify(word_at(s, k))
+}
+
+// Kinds 3 and up have a child, 5 and 6 one more.
+pub fn children(kind: u8) -> usize
+    ensures { λ r. ⌜ (r ≡ childrenOf kind) × (r ≤ 2) ⌝ }
+{
+    (3 <= kind) as usize + ((kind == 5) | (kind == 6)) as usize
+}
