@@ -3,20 +3,20 @@
 use mathlib.Core.Path.{_≡_, refl, sym, ap, subst, _∙_}
 use mathlib.Core.Bool.{true, false, not, _||_}
 use mathlib.Core.Option.{Option, none, some}
-use mathlib.Core.List.{[], _∷_, _++_}
-use Prim.Native.Nat.{ℕ, _*_, _≤_}
+use mathlib.Core.List.{[], _∷_}
+use Prim.Native.Nat.{ℕ, _≤_}
 use native.Mathlib.Omega.{arith}
 use lib.Dec.{ltb, eqb}
-use lib.ListN.{length, length-append}
+use lib.ListN.{length}
 use borrow.Author.Tests.{ltb-true, ltb-false, eqb-true, ne-eqb, eqb-false, not-false}
 use Rattle.cows.specs.Basics.{every, holds, accept, _>>=_, _>>_, forbid, placeIf}
-use Rattle.cows.specs.Terms.{nil, kill, invoke, Prefix, receive, wait, protection, delimitation, replication, choice, parallel, Term, leaf, under, both, Ends, label, atom, size, kills, invokes, prefixed, receives, waits, delimits, replicates, below, usesBasic, usesPrefix, optional, binders, atoms}
+use Rattle.cows.specs.Terms.{kill, Prefix, receive, wait, protection, delimitation, replication, choice, parallel, Term, leaf, under, both, Ends, label, size, kills, invokes, prefixed, receives, waits, delimits, replicates, below, binders, atoms}
 use Rattle.cows.specs.Places.{Frame, inside, leftOf, rightOf, plug, Way, fill, wayTo, sub, first, frameChooses}
 use Rattle.cows.specs.Within.{Right, Within}
 use Rattle.cows.specs.Active.{live, wanted}
 use Rattle.cows.specs.Moves.{Substitution, binds, Matching, differs, afterKill, killAt, fit, matched, inScope, heldBack, tighter, silence, continue, mapAtoms, image, bind, communicateAt, timeoutAt, elapse, shorter, elapseBy, renaming, copy, afterUnfold, unfoldAt, fitsPrefix, fitting, exchange, afterExtrude, extrudeAt, Move, Kill, Communicate, Timeout, Elapse, Unfold, Extrude, successor}
 use Rattle.cows.specs.Allows.{Live, Meets, Renames, Parent, onLeft, onRight, protected, delimited, Allows, by-kill, by-communicate, by-timeout, by-elapse, by-unfold, by-extrude}
-use Rattle.cows.proofs.Basics.{never, and-true, true-and, or-false, bind-accept, same-accept, forbid-accept, placeIf-none, every-append}
+use Rattle.cows.proofs.Basics.{never, and-true, or-false, bind-accept, same-accept, forbid-accept, placeIf-none}
 use Rattle.cows.proofs.Renaming.{renaming-renames, renames-unique}
 use Rattle.cows.proofs.Atoms.{few-binders, few-atoms, binders-right}
 use Rattle.cows.proofs.Stands.{sub-ind, right-at, kills-is, invokeOf, invokes-is, receiveOf, receives-is, waits-is, delimits-is, replicates-is, prefixed-is, wanted-live, live-wanted, first-fails, fails-first, prefixed-stands}

@@ -4,7 +4,7 @@ use mathlib.Core.Bool.{true, false}
 use mathlib.Core.Option.{some}
 use mathlib.Core.List.{[], _∷_}
 use Prim.Native.Nat.{ℕ}
-use Rattle.cows.specs.Terms.{receive, wait, protection, delimitation, replication, choice, parallel, Term, leaf, under, both, prefixed, delimits, below, guard}
+use Rattle.cows.specs.Terms.{receive, wait, protection, delimitation, replication, choice, parallel, Term, under, prefixed, delimits, below, guard}
 use Rattle.cows.specs.Places.{Frame, inside, leftOf, rightOf, plug, Way, fill, wayTo, sub, frameChooses}
 use Rattle.cows.specs.Moves.{fitsPrefix, fitting, exchange, afterExtrude}
 use Rattle.cows.proofs.Basics.{never}

@@ -1,15 +1,14 @@
 -- The load law of each move: the load before is the load after, what the moving records weigh, and what was lost. And what halting leaves.
 use mathlib.Core.Path.{_≡_, refl, sym, ap, _∙_}
-use mathlib.Core.Bool.{Bool, true, false, cond}
-use mathlib.Core.Option.{Option, none, some}
+use mathlib.Core.Bool.{true}
+use mathlib.Core.Option.{Option, some}
 use mathlib.Core.List.{[], _∷_}
-use Prim.Native.Nat.{ℕ, zero, suc, _+_, _-_, _≤_}
+use Prim.Native.Nat.{ℕ, suc, _+_, _≤_}
 use native.Mathlib.Nat.{add-comm}
 use native.Mathlib.Omega.{arith}
-use lib.Dec.{eqb}
-use Rattle.cows.specs.Basics.{holds, Result, accept}
-use Rattle.cows.specs.Terms.{Basic, nil, kill, invoke, Prefix, receive, wait, protection, delimitation, replication, Join, choice, parallel, Term, leaf, under, both, Ends, size, kills, invokes, prefixed, receives, waits, delimits, replicates, delimitsAtom, below}
-use Rattle.cows.specs.Places.{Frame, inside, leftOf, rightOf, plug, Way, fill, wayTo, sub, spot, frameDelimits, frameChooses}
+use Rattle.cows.specs.Basics.{holds}
+use Rattle.cows.specs.Terms.{Basic, nil, kill, invoke, Prefix, receive, wait, protection, delimitation, replication, choice, parallel, Term, leaf, under, both, Ends, kills, invokes, prefixed, receives, waits, delimits, delimitsAtom, below}
+use Rattle.cows.specs.Places.{Frame, inside, leftOf, rightOf, plug, Way, fill, wayTo, sub, frameDelimits, frameChooses}
 use Rattle.cows.specs.Active.{passesLive}
 use Rattle.cows.specs.Moves.{halt, haltUnder, haltBoth, haltBeside, haltInside, afterKill, Substitution, silence, aroundChoice, continue, mapBasic, mapPrefix, mapAtoms, image, instantiate, bind, lower, elapse, copy, afterUnfold, exchange, afterExtrude}
 use Rattle.cows.specs.Load.{weightBasic, weight, load, shieldedUnder, shieldedBoth, shielded, endedBeside, ended, arm, dropped}

@@ -1,20 +1,20 @@
 -- A move keeps a term within the limits: each successor is right and well formed, and refusal 20 sees to size and depth.
 use mathlib.Core.Path.{_≡_, refl, subst, _∙_}
-use mathlib.Core.Bool.{true, false, not, _&&_, _||_}
+use mathlib.Core.Bool.{true, not, _||_}
 use mathlib.Core.Option.{Option, none, some}
 use mathlib.Core.List.{List}
-use Prim.Native.Nat.{ℕ, _*_, _≤_, _<_}
-use lib.Dec.{ltb, eqb}
+use Prim.Native.Nat.{ℕ, _*_, _≤_}
+use lib.Dec.{eqb}
 use lib.ListN.{length}
-use borrow.Author.Tests.{ltb-true, ltb-false, not-false}
-use Rattle.cows.specs.Basics.{every, placeIf, accept, _>>_, forbid, need}
-use Rattle.cows.specs.Terms.{Basic, nil, Prefix, receive, wait, protection, delimitation, replication, Term, leaf, under, both, Ends, label, size, depth, kills, invokes, prefixed, receives, waits, delimits, replicates}
+use borrow.Author.Tests.{not-false}
+use Rattle.cows.specs.Basics.{every, placeIf, accept, _>>_, forbid}
+use Rattle.cows.specs.Terms.{Prefix, receive, wait, protection, delimitation, replication, Term, leaf, under, both, Ends, label, size, depth, kills, invokes, prefixed, receives, waits, delimits, replicates}
 use Rattle.cows.specs.Places.{wayTo, sub, first}
-use Rattle.cows.specs.Active.{live, wanted}
+use Rattle.cows.specs.Active.{wanted}
 use Rattle.cows.specs.Within.{Right, Formed, Within}
 use Rattle.cows.specs.Moves.{Substitution, binds, fit, matched, inScope, heldBack, tighter, silence, continue, bind, shorter, fitting, killAt, communicateAt, timeoutAt, elapseBy, unfoldAt, extrudeAt, Move, Kill, Communicate, Timeout, Elapse, Unfold, Extrude, successor}
-use Rattle.cows.specs.Step.{readMove, overLimits, allowed, stepTerm}
-use Rattle.cows.proofs.Basics.{and-true, or-false, bind-accept, same-accept, need-accept, forbid-accept, only-some, placeIf-none}
+use Rattle.cows.specs.Step.{allowed, stepTerm}
+use Rattle.cows.proofs.Basics.{or-false, bind-accept, same-accept, forbid-accept, placeIf-none}
 use Rattle.cows.proofs.Parts.{Sound, part-sound, part-kill, part-silence, part-elapse, part-continue}
 use Rattle.cows.proofs.Stands.{right-at, wanted-is, invokeOf, invokes-is, replicates-is, prefixed-is}
 use Rattle.cows.proofs.Step.{Accepted, allowed-accepted, step-accepted}

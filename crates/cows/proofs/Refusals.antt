@@ -1,7 +1,7 @@
 -- What refusals 4 to 7 rule out (specs/Tables) is what the limits and rules of a term say (specs/Within): the search for a place finds none
 -- exactly if the term is shallow, guarded, closed, delimits no atom twice and keeps its values private.
 use mathlib.Core.Path.{_≡_, refl, sym, ap, subst, _∙_}
-use mathlib.Core.Bool.{Bool, true, false, not, _&&_, _||_}
+use mathlib.Core.Bool.{Bool, true, false, not, _&&_}
 use mathlib.Core.Option.{Option, none, some}
 use mathlib.Core.List.{List, [], _∷_}
 use Prim.Native.Nat.{ℕ, zero, suc, _+_, _≤_, _<_}

@@ -1,15 +1,12 @@
 -- A list of moves: the load law of an accepted move, whichever it is, and from it the balance of a run (demand 3).
-use mathlib.Core.Path.{_≡_, refl, sym, ap, subst, _∙_}
-use mathlib.Core.Bool.{true, _&&_}
+use mathlib.Core.Path.{_≡_, refl, sym, subst, _∙_}
 use mathlib.Core.Option.{Option, none, some}
 use mathlib.Core.List.{List, [], _∷_}
 use Prim.Native.Nat.{ℕ, _+_, _*_, _≤_}
 use native.Mathlib.Omega.{arith}
-use lib.Dec.{ltb}
 use Rattle.cows.specs.Basics.{Result, refuse, accept}
-use Rattle.cows.specs.Terms.{Term, Ends, size, kills, invokes, prefixed, receives, waits, delimits, replicates, below}
-use Rattle.cows.specs.Places.{wayTo, sub}
-use Rattle.cows.specs.Active.{live, wanted}
+use Rattle.cows.specs.Terms.{Term, kills, invokes, prefixed, receives, waits, delimits, replicates}
+use Rattle.cows.specs.Active.{wanted}
 use Rattle.cows.specs.Moves.{Move, Kill, Communicate, Timeout, Elapse, Unfold, Extrude, killAt, communicateAt, timeoutAt, elapseBy, unfoldAt, extrudeAt, successor, fit, matched}
 use Rattle.cows.specs.Load.{load, endedBy, lost, spent, copies}
 use Rattle.cows.specs.Format.{encode}
@@ -17,7 +14,7 @@ use Rattle.cows.specs.Tables.{judge}
 use Rattle.cows.specs.Within.{Within}
 use Rattle.cows.specs.Step.{readMove, stepTerm, judgeStep}
 use Rattle.cows.specs.Run.{Tally, noTally, count, Run, start, judgement, enter, turn, run, lostBy, losses}
-use Rattle.cows.proofs.Basics.{bind-accept, accept-bind, forbid-accept, need-accept, only-some, same-accept, same-some}
+use Rattle.cows.proofs.Basics.{bind-accept, accept-bind, forbid-accept, same-accept, same-some}
 use Rattle.cows.proofs.Stands.{wanted-is}
 use Rattle.cows.proofs.Tables.{within-judge}
 use Rattle.cows.proofs.Step.{step-accepted}

@@ -10,9 +10,9 @@ use lib.Dec.{ltb, eqb}
 use borrow.Author.Tests.{lt-ltb, ltb-true}
 use Rattle.cows.specs.Basics.{any, member, holds}
 use Rattle.cows.specs.Terms.{Prefix, receive, wait, protection, delimitation, replication, choice, parallel, Term, leaf, under, both, value, variable, label, delimits, delimitsAtom, guard, usesBasic, usesPrefix, optional, binders}
-use Rattle.cows.specs.Places.{Frame, inside, leftOf, rightOf, plug, Way, fill, wayTo, sub, frameDelimits, enclosed}
+use Rattle.cows.specs.Places.{Frame, inside, leftOf, rightOf, plug, Way, fill, frameDelimits, enclosed}
 use Rattle.cows.specs.Within.{Bound, Scoped, Right, Guarded, nowhere, one, counts, restricted}
-use Rattle.cows.proofs.Places.{fill-spot, fill-ind}
+use Rattle.cows.proofs.Places.{fill-ind}
 use Rattle.cows.proofs.Basics.{and-true, true-and, or-both, or-case, or-none, member-append}
 
 -- P holds of every atom of a list

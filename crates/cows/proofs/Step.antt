@@ -1,27 +1,25 @@
 -- One step on bytes: a refusal has a number from 1 on and changes no output byte; an acceptance changes none behind the successor; and a turn of a
 -- run is such a step.
-use mathlib.Core.Path.{_≡_, refl, sym, ap, subst, _∙_}
+use mathlib.Core.Path.{_≡_, refl, sym, ap, _∙_}
 use mathlib.Core.Logic.{_≢_}
-use mathlib.Core.Bool.{Bool, false, not, _||_}
+use mathlib.Core.Bool.{false}
 use mathlib.Core.Option.{Option, none, some}
-use mathlib.Core.List.{List, [], _∷_, _++_, map}
-use Prim.Native.Nat.{ℕ, suc, _+_, _-_, _*_, _≤_}
+use mathlib.Core.List.{List, _++_}
+use Prim.Native.Nat.{ℕ, _+_, _-_, _*_, _≤_}
 use native.Mathlib.Omega.{arith}
 use lib.Dec.{ltb}
 use lib.ListN.{length, getD, drop, length-append, length-drop}
 use lib.Seq.{getD-append-add, getD-drop}
 use borrow.Author.Tests.{ltb-false, le-ltb}
-use Rattle.cows.specs.Basics.{placeIf, only, Result, refuse, accept, _>>=_, _>>_, forbid, need}
+use Rattle.cows.specs.Basics.{placeIf, Result, refuse, accept, _>>=_, _>>_, forbid, need}
 use Rattle.cows.specs.Terms.{Term, size, depth}
-use Rattle.cows.specs.Format.{encode, records, node, decode}
+use Rattle.cows.specs.Format.{encode, records}
 use Rattle.cows.specs.Tables.{judgeTerm, judge}
 use Rattle.cows.specs.Active.{wanted}
 use Rattle.cows.specs.Moves.{Matching, binds, differs, matched, Move, Kill, Communicate, Timeout, Elapse, Unfold, Extrude, killAt, communicateAt, timeoutAt, elapseBy, unfoldAt, extrudeAt, successor}
-use Rattle.cows.specs.Step.{readMove, overLimits, allowed, stepTerm, judgeStep, Reply, reply, written, stepReply, stepOutput}
-use Rattle.cows.specs.Within.{Within}
+use Rattle.cows.specs.Step.{readMove, overLimits, allowed, stepTerm, judgeStep, reply, written, stepReply, stepOutput}
 use Rattle.cows.proofs.Basics.{or-false, bind-accept, accept-bind, same-accept, need-accept, forbid-accept, placeIf-none}
 use Rattle.cows.proofs.Format.{length-encode}
-use Rattle.cows.proofs.Tables.{within-judge}
 
 -- a refusal's number is 1 or more
 abbrev pub Numbered : {A : Type 0} → Result A → Type 0

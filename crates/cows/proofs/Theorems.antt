@@ -8,7 +8,7 @@ use native.Mathlib.Omega.{arith}
 use lib.Dec.{T}
 use lib.ListN.{length, getD}
 use Rattle.cows.specs.Basics.{every, accept}
-use Rattle.cows.specs.Terms.{nil, kill, invoke, receive, delimitation, Term, leaf, under, size, depth, kills, below}
+use Rattle.cows.specs.Terms.{nil, kill, invoke, receive, delimitation, Term, leaf, under, kills, below}
 use Rattle.cows.specs.Places.{inside, Way, fill, wayTo, sub, enclosed}
 use Rattle.cows.specs.Format.{Bytes, encode}
 use Rattle.cows.specs.Tables.{judge}

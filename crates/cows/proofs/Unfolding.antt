@@ -1,7 +1,6 @@
 -- Unfolding keeps a term well formed: the copy of the body delimits new atoms only, and is right and scoped as the body is.
 use mathlib.Core.Path.{_≡_, refl, sym, ap, subst, _∙_}
 use mathlib.Core.Bool.{Bool, true, false}
-use mathlib.Core.Option.{some}
 use mathlib.Core.List.{List}
 use Prim.Native.Nat.{ℕ, zero, suc, _+_, _≤_, _<_}
 use native.Mathlib.Omega.{arith}
@@ -9,7 +8,7 @@ use lib.Dec.{eqb}
 use lib.ListN.{length}
 use borrow.Author.Tests.{eqb-true, eq-eqb}
 use Rattle.cows.specs.Basics.{member, holds}
-use Rattle.cows.specs.Terms.{receive, wait, protection, delimitation, replication, parallel, Term, leaf, under, both, value, variable, datum, size, prefixed, delimits, replicates, delimitsAtom, below, guard, binders, atoms}
+use Rattle.cows.specs.Terms.{replication, parallel, Term, under, both, value, variable, datum, size, delimits, delimitsAtom, below, guard, binders, atoms}
 use Rattle.cows.specs.Places.{inside, plug, Way, fill, wayTo, sub, enclosed}
 use Rattle.cows.specs.Within.{Right, Guarded, Scoped, counts, restricted, nowhere, Formed}
 use Rattle.cows.specs.Moves.{mapAtoms, image, renaming, copy, afterUnfold}

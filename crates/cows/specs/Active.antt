@@ -1,6 +1,6 @@
 -- Live and ready records: the active contexts of COWS (01, Live and ready). Only live records move; ready ones count when a move is held back.
 use mathlib.Core.Bool.{Bool, true, false, _&&_, _||_}
-use mathlib.Core.Option.{Option, none, some}
+use mathlib.Core.Option.{Option}
 use Prim.Native.Nat.{ℕ}
 use lib.Dec.{ltb}
 use Rattle.cows.specs.Basics.{every, found, only, Result, need}

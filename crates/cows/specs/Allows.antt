@@ -6,7 +6,7 @@ use mathlib.Core.List.{List, [], _∷_}
 use Prim.Native.Nat.{ℕ, _+_, _≤_, _<_}
 use lib.ListN.{length}
 use Rattle.cows.specs.Basics.{any, member}
-use Rattle.cows.specs.Terms.{nil, kill, invoke, receive, wait, protection, delimitation, replication, parallel, Term, leaf, under, both, value, variable, label, size, atoms, binders}
+use Rattle.cows.specs.Terms.{kill, invoke, receive, wait, protection, delimitation, replication, parallel, Term, leaf, under, both, value, variable, label, size, atoms, binders}
 use Rattle.cows.specs.Places.{Frame, inside, leftOf, rightOf, plug, Way, fill, wayTo, sub, enclosed}
 use Rattle.cows.specs.Active.{live, ready}
 use Rattle.cows.specs.Moves.{Substitution, Move, Kill, Communicate, Timeout, Elapse, Unfold, Extrude, afterKill, silence, continue, bind, elapse, mapAtoms, image}

@@ -2,12 +2,12 @@
 -- Names of the calculus stand for the paper's: kill (stop fires), communicate (meeting), timeout (expiry), elapse (time), unfold (unfolding), extrude (floating).
 use mathlib.Core.Bool.{Bool, true, false, cond, not, _&&_, _||_}
 use mathlib.Core.List.{List, [], _∷_, map}
-use mathlib.Core.Option.{Option, none, some}
+use mathlib.Core.Option.{none}
 use Prim.Native.Nat.{ℕ, zero, suc, _-_}
 use lib.Dec.{ltb, eqb}
-use lib.ListN.{length, getElem?}
-use Rattle.cows.specs.Basics.{any, every, member, holds, found, only, placeIf, Result, refuse, accept, _>>=_, _>>_, forbid, need}
-use Rattle.cows.specs.Terms.{Basic, nil, kill, invoke, Prefix, receive, wait, protection, delimitation, replication, Join, choice, parallel, Term, leaf, under, both, Ends, value, variable, label, size, atoms, binders, kills, invokes, prefixed, receives, waits, delimits, replicates, delimitsAtom, below}
+use lib.ListN.{length}
+use Rattle.cows.specs.Basics.{any, every, member, holds, found, placeIf, Result, refuse, accept, _>>=_, _>>_, forbid}
+use Rattle.cows.specs.Terms.{Basic, nil, kill, invoke, Prefix, receive, wait, protection, delimitation, replication, Join, choice, parallel, Term, leaf, under, both, Ends, value, variable, label, atoms, binders, kills, invokes, prefixed, receives, waits, delimits, replicates, delimitsAtom, below}
 use Rattle.cows.specs.Places.{Frame, inside, leftOf, rightOf, plug, Way, fill, Spot, wayTo, sub, first, encloses, frameDelimits, enclosed, frameChooses}
 use Rattle.cows.specs.Active.{passesLive, live, ready, wanted}
 

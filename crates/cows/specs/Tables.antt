@@ -6,8 +6,8 @@ use Prim.Native.Nat.{ℕ, zero, suc, _+_, _%_}
 use lib.Dec.{ltb, eqb}
 use lib.ListN.{length}
 use Rattle.cows.specs.Basics.{any, member, holds, found, placeIf, orElse, firstFrom, Result, accept, _>>=_, _>>_, forbid}
-use Rattle.cows.specs.Terms.{Term, value, bindable, guard, uses, binders, delimits, prefixed, delimitsAtom}
-use Rattle.cows.specs.Places.{Way, Frame, Spot, spot, sub, first, enclosed, frameChooses}
+use Rattle.cows.specs.Terms.{Term, value, bindable, guard, uses, binders, delimits, prefixed}
+use Rattle.cows.specs.Places.{Way, Spot, sub, first, enclosed, frameChooses}
 use Rattle.cows.specs.Format.{Node, rightRecord, node, records, children, decode}
 
 -- 1: zero bytes, over 32,768, or not a multiple of 16.
