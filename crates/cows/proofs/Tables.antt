@@ -86,17 +86,24 @@ shaped : (ns : List Node) → misshapen 1 0 ns ≡ none → RightNodes ns → (e
 unfolding encode
 shaped ns e h = let n = nodes-decode ns e in (ap bytes n, nodes-right (decode ns) (rw n h))
 
+-- right records of the right shape are the table of the term that they are read as
+pub records-hold : (b : List ℕ) → Bytes b → length b % 16 ≡ 0 → firstWrong 0 (records b) ≡ none → misshapen 1 0 (map node (records b)) ≡ none
+    → (encode (decode (map node (records b))) ≡ b) × Right (decode (map node (records b)))
+unfolding records
+records-hold b k z e₂ e₃ =
+    let (w, r) = right-pieces 0 (length b / 16) b (omega arith) k e₂ in
+    let (y, g) = shaped (map node (records b)) e₃ r in
+    (y ∙ w, g)
+
 judged : (b : List ℕ) (t : Term) → Bytes b → judge b ≡ accept t → (length b ≤ 32768) × ((encode t ≡ b) × Right t) × (Formed t × (depth t ≤ 256))
-unfolding judge records
+unfolding judge
 judged b t k e =
     let (e₁, k₁) = forbid-accept 1 (placeIf (wrongLength b) 0) _ t e in
     let (e₂, k₂) = forbid-accept 2 (firstWrong 0 (records b)) _ t k₁ in
     let (e₃, k₃) = forbid-accept 3 (misshapen 1 0 (map node (records b))) _ t k₂ in
     let (q, f, d) = judgeTerm-accept (decode (map node (records b))) t k₃ in
     let (l, z) = right-length b (placeIf-none (wrongLength b) 0 e₁) in
-    let (w, r) = right-pieces 0 (length b / 16) b (omega arith) k e₂ in
-    let (y, g) = shaped (map node (records b)) e₃ r in
-    rw (← q) (l, (y ∙ w, g), (f, d))
+    rw (← q) (l, records-hold b k z e₂ e₃, (f, d))
 
 pub judge-encode : (b : List ℕ) (t : Term) → Bytes b → judge b ≡ accept t → encode t ≡ b
 judge-encode b t k e = judged b t k e .1 .0
