@@ -3,6 +3,7 @@ pub mod Places
 pub mod Renaming
 pub mod Records
 pub mod Format
+pub mod Fields
 pub mod Refusals
 pub mod Tables
 pub mod Step
