@@ -12,7 +12,7 @@ use lib.ListN.{length, getD, take, drop, List·getD-eq-default}
 use lib.Seq.{take-at, drop-at, drop-nil, drop-drop, getD-take, getD-drop}
 use Rattle.cows.specs.Terms.{Basic, nil, kill, invoke, Prefix, receive, wait, protection, delimitation, replication, choice, parallel, Term, leaf, under, both, size, below, guard}
 use Rattle.cows.specs.Places.{Spot, spot, sub}
-use Rattle.cows.specs.Format.{byte, word, Node, basic, prefix, join, nodes, root, layout, record16, kindOf, bytes, encode}
+use Rattle.cows.specs.Format.{bytes2, byte, word, Node, basic, prefix, join, nodes, root, layout, record16, kindOf, bytes, encode}
 use Rattle.cows.proofs.Basics.{lt-case}
 use Rattle.cows.proofs.Places.{inherited-spot}
 use Rattle.cows.proofs.Records.{length-record16}
@@ -172,3 +172,65 @@ guard-kind (under (delimitation d) t) = refl
 guard-kind (under replication t) = refl
 guard-kind (both choice l r) = refl
 guard-kind (both parallel l r) = refl
+
+-- The fields: the count is byte 1; the 16-bit numbers stand at 2, 4, 6 + 2 * i and 14.
+layout-first : (k a c i : ℕ) (ws : List ℕ) → word (layout k a c ws i) 2 ≡ a
+unfolding word byte layout bytes2
+layout-first k a c i ws = omega arith
+
+layout-second : (k a c i : ℕ) (ws : List ℕ) → word (layout k a c ws i) 4 ≡ c
+unfolding word byte layout bytes2
+layout-second k a c i ws = omega arith
+
+layout-slot : (k a c i : ℕ) (ws : List ℕ) (m : ℕ) → m < 4 → word (layout k a c ws i) (6 + 2 * m) ≡ getD ws m 0
+unfolding word byte layout bytes2
+layout-slot k a c i ws zero h = omega arith
+layout-slot k a c i ws (suc zero) h = omega arith
+layout-slot k a c i ws (suc (suc zero)) h = omega arith
+layout-slot k a c i ws (suc (suc (suc zero))) h = omega arith
+layout-slot k a c i ws (suc (suc (suc (suc m)))) h = absurd (omega arith)
+
+pub first-kill : (k : ℕ) → word (record16 (root (leaf (kill k)))) 2 ≡ k
+unfolding root record16
+first-kill k = layout-first 1 k 0 0 []
+
+pub first-delimitation : (d : ℕ) (t : Term) → word (record16 (root (under (delimitation d) t))) 2 ≡ d
+unfolding root record16
+first-delimitation d t = layout-first 8 d 0 0 []
+
+pub interval-wait : (n : ℕ) (t : Term) → word (record16 (root (under (wait n) t))) 14 ≡ n
+unfolding root record16 word byte layout bytes2
+interval-wait n t = omega arith
+
+module _ (p o : ℕ) (ws : List ℕ) where
+  pub first-invoke : word (record16 (root (leaf (invoke p o ws)))) 2 ≡ p
+  unfolding root record16
+  first-invoke = layout-first 2 p o 0 ws
+
+  pub second-invoke : word (record16 (root (leaf (invoke p o ws)))) 4 ≡ o
+  unfolding root record16
+  second-invoke = layout-second 2 p o 0 ws
+
+  pub count-invoke : byte (record16 (root (leaf (invoke p o ws)))) 1 ≡ length ws
+  unfolding root record16 byte layout
+  count-invoke = refl
+
+  pub slot-invoke : (i : ℕ) → i < 4 → word (record16 (root (leaf (invoke p o ws)))) (6 + 2 * i) ≡ getD ws i 0
+  unfolding root record16
+  slot-invoke = layout-slot 2 p o 0 ws
+
+  pub first-receive : (t : Term) → word (record16 (root (under (receive p o ws) t))) 2 ≡ p
+  unfolding root record16
+  first-receive t = layout-first 3 p o 0 ws
+
+  pub second-receive : (t : Term) → word (record16 (root (under (receive p o ws) t))) 4 ≡ o
+  unfolding root record16
+  second-receive t = layout-second 3 p o 0 ws
+
+  pub count-receive : (t : Term) → byte (record16 (root (under (receive p o ws) t))) 1 ≡ length ws
+  unfolding root record16 byte layout
+  count-receive t = refl
+
+  pub slot-receive : (t : Term) (i : ℕ) → i < 4 → word (record16 (root (under (receive p o ws) t))) (6 + 2 * i) ≡ getD ws i 0
+  unfolding root record16
+  slot-receive t = layout-slot 3 p o 0 ws
