@@ -12,20 +12,20 @@ use lib.ListN.{length, getD, take, drop, List·getD-eq-default}
 use lib.Seq.{take-at, drop-at, drop-nil, drop-drop, getD-take, getD-drop}
 use Rattle.cows.specs.Terms.{Basic, nil, kill, invoke, Prefix, receive, wait, protection, delimitation, replication, choice, parallel, Term, leaf, under, both, size, below, guard}
 use Rattle.cows.specs.Places.{Spot, spot, sub}
-use Rattle.cows.specs.Format.{bytes2, byte, word, Node, basic, prefix, join, nodes, root, layout, record16, kindOf, bytes, encode}
+use Rattle.cows.specs.Format.{bytes2, byte, word, Node, nodes, root, layout, record16, kindOf, bytes, encode}
 use Rattle.cows.proofs.Basics.{lt-case}
 use Rattle.cows.proofs.Places.{inherited-spot}
 use Rattle.cows.proofs.Records.{length-record16}
 use Rattle.cows.proofs.Format.{length-nodes}
 
 -- The records of the part at a place stand in the records of the whole, from that place on.
-abbrev NodesAt : Term → ℕ → Spot → Type 0
+abbrev pub NodesAt : Term → ℕ → Spot → Type 0
 NodesAt t n z = (ns : List Node) × (drop n (nodes t) ≡ nodes (z .here) ++ ns)
 
-drop-more : (t : Term) (n k : ℕ) (ms : List Node) → drop n (nodes t) ≡ ms → drop (n + k) (nodes t) ≡ drop k ms
+pub drop-more : (t : Term) (n k : ℕ) (ms : List Node) → drop n (nodes t) ≡ ms → drop (n + k) (nodes t) ≡ drop k ms
 drop-more t n k ms e = sym (drop-drop k n (nodes t)) ∙ ap (drop k) e
 
-nodes-spot : (t : Term) (n : ℕ) → n < size t → NodesAt t n (spot t n)
+pub nodes-spot : (t : Term) (n : ℕ) → n < size t → NodesAt t n (spot t n)
 unfolding nodes
 nodes-spot t =
     inherited-spot (NodesAt t) (
@@ -37,7 +37,7 @@ nodes-spot t =
     t ([], sym (append-nil (nodes t)))
 
 -- the bytes from a place on are those of the records from there on
-drop-bytes : (ns : List Node) (j : ℕ) → drop (16 * j) (bytes ns) ≡ bytes (drop j ns)
+pub drop-bytes : (ns : List Node) (j : ℕ) → drop (16 * j) (bytes ns) ≡ bytes (drop j ns)
 unfolding bytes
 drop-bytes ns zero = refl
 drop-bytes [] (suc j) = drop-nil (16 * suc j)
@@ -45,13 +45,13 @@ drop-bytes (n ∷ ns) (suc j) =
     let e : 16 * suc j ≡ 16 + 16 * j = omega arith in
     rw (e, ← drop-drop (16 * j) 16 (record16 n ++ bytes ns), drop-at (record16 n) (bytes ns) 16 (length-record16 n)) (drop-bytes ns j)
 
-append-bytes : (ms ns : List Node) → bytes (ms ++ ns) ≡ bytes ms ++ bytes ns
+pub append-bytes : (ms ns : List Node) → bytes (ms ++ ns) ≡ bytes ms ++ bytes ns
 unfolding bytes
 append-bytes [] ns = refl
 append-bytes (m ∷ ms) ns = rw (append-bytes ms ns) (sym (append-assoc (record16 m) (bytes ms) (bytes ns)))
 
 -- a term's first record stands first
-first-bytes : (s : Term) → (b : List ℕ) × (encode s ≡ record16 (root s) ++ b)
+pub first-bytes : (s : Term) → (b : List ℕ) × (encode s ≡ record16 (root s) ++ b)
 unfolding encode bytes nodes root
 first-bytes (leaf x) = ([], refl)
 first-bytes (under u t) = (bytes (nodes t), refl)
@@ -174,15 +174,15 @@ guard-kind (both choice l r) = refl
 guard-kind (both parallel l r) = refl
 
 -- The fields: the count is byte 1; the 16-bit numbers stand at 2, 4, 6 + 2 * i and 14.
-layout-first : (k a c i : ℕ) (ws : List ℕ) → word (layout k a c ws i) 2 ≡ a
+pub layout-first : (k a c i : ℕ) (ws : List ℕ) → word (layout k a c ws i) 2 ≡ a
 unfolding word byte layout bytes2
 layout-first k a c i ws = omega arith
 
-layout-second : (k a c i : ℕ) (ws : List ℕ) → word (layout k a c ws i) 4 ≡ c
+pub layout-second : (k a c i : ℕ) (ws : List ℕ) → word (layout k a c ws i) 4 ≡ c
 unfolding word byte layout bytes2
 layout-second k a c i ws = omega arith
 
-layout-slot : (k a c i : ℕ) (ws : List ℕ) (m : ℕ) → m < 4 → word (layout k a c ws i) (6 + 2 * m) ≡ getD ws m 0
+pub layout-slot : (k a c i : ℕ) (ws : List ℕ) (m : ℕ) → m < 4 → word (layout k a c ws i) (6 + 2 * m) ≡ getD ws m 0
 unfolding word byte layout bytes2
 layout-slot k a c i ws zero h = omega arith
 layout-slot k a c i ws (suc zero) h = omega arith

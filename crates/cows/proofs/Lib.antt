@@ -8,6 +8,7 @@ pub mod Refusals
 pub mod Tables
 pub mod Step
 pub mod Stands
+pub mod Reach
 pub mod Meeting
 pub mod Scopes
 pub mod Atoms

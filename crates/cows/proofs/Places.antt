@@ -1,4 +1,5 @@
--- Laws of specs/Places: a way filled with what stands at its end is the term; the places of a term by its first record; a search that finds nothing.
+-- Laws of specs/Places: a way filled with what stands at its end is the term; the places of a term by its first record; a search that finds nothing;
+-- the part at a place, and the places of its children.
 use mathlib.Core.Path.{_≡_, refl, sym, ap, subst, _∙_}
 use mathlib.Core.Bool.{Bool, true, false, cond}
 use mathlib.Core.Option.{Option, none, some}
@@ -159,20 +160,30 @@ inherited-spot P i t h n l = rw zero-add at (inherited P i [] 0 t h n l)
 abbrev pub PartOf : Term → ℕ → Spot → Type 0
 PartOf t n z = (n + size (z .here) ≤ size t) × ((i : ℕ) → i < size (z .here) → spot t (n + i) ≡ descend (z .way) (z .here) i)
 
-pub spot-part : (t : Term) (n : ℕ) → n < size t → PartOf t n (spot t n)
+pub part-inherited : (t : Term) → Inherited (PartOf t)
 unfolding descend size
-spot-part t =
-    inherited-spot (PartOf t) (
-      λ o w u s h. (omega arith, λ i l. ap (spot t) (let z : suc o + i ≡ o + suc i = omega arith in z) ∙ h .1 (suc i) (omega arith)),
-      λ o w j s r h. (
-        (omega arith, λ i l. ap (spot t) (let z : suc o + i ≡ o + suc i = omega arith in z) ∙ (h .1 (suc i) (omega arith) ∙ descend-left w j s r i l)),
-        (
-          omega arith,
-          λ i l. ap (spot t) (let z : suc (o + size s) + i ≡ o + suc (size s + i) = omega arith in z) ∙ (h .1 (suc (size s + i)) (omega arith) ∙ descend-right w j s r i),
-        ),
-      ),
-    )
-    t (omega arith, λ i l. unfold spot in ap (descend [] t) (zero-add i))
+part-inherited t = (
+  λ o w u s h. (omega arith, λ i l. ap (spot t) (let z : suc o + i ≡ o + suc i = omega arith in z) ∙ h .1 (suc i) (omega arith)),
+  λ o w j s r h. (
+    (omega arith, λ i l. ap (spot t) (let z : suc o + i ≡ o + suc i = omega arith in z) ∙ (h .1 (suc i) (omega arith) ∙ descend-left w j s r i l)),
+    (
+      omega arith,
+      λ i l. ap (spot t) (let z : suc (o + size s) + i ≡ o + suc (size s + i) = omega arith in z) ∙ (h .1 (suc (size s + i)) (omega arith) ∙ descend-right w j s r i),
+    ),
+  ),
+)
+
+pub part-first : (t : Term) → PartOf t 0 (record { way = []; here = t })
+unfolding spot
+part-first t = (omega arith, λ i l. ap (descend [] t) (zero-add i))
+
+pub spot-part : (t : Term) (n : ℕ) → n < size t → PartOf t n (spot t n)
+spot-part t = inherited-spot (PartOf t) (part-inherited t) t (part-first t)
+
+pub part-here : (t : Term) (n : ℕ) (z : Spot) → PartOf t n z → sub t n ≡ z .here
+unfolding sub
+part-here t n z h =
+    ap (λ (y : Spot). y .here) (ap (spot t) (let e : n ≡ n + 0 = omega arith in e) ∙ (h .1 0 (size-pos (z .here)) ∙ descend-first (z .way) (z .here)))
 
 pub spot-fits : (t : Term) (j : ℕ) → j < size t → j + size (sub t j) ≤ size t
 unfolding sub
@@ -182,7 +193,7 @@ spot-fits t j l = spot-part t j l .0
 abbrev pub At : Term → ℕ → Way → Term → Type 0
 At t n w s = (n < size t) × (sub t n ≡ s) × (wayTo t n ≡ w)
 
-at-part : (t : Term) (n i : ℕ) (s : Term) (w : Way) (c : Term) → n < size t → sub t n ≡ s → i < size s → descend (wayTo t n) s i ≡ record { way = w; here = c } → At t (n + i) w c
+pub at-part : (t : Term) (n i : ℕ) (s : Term) (w : Way) (c : Term) → n < size t → sub t n ≡ s → i < size s → descend (wayTo t n) s i ≡ record { way = w; here = c } → At t (n + i) w c
 unfolding sub wayTo
 at-part t n i s w c l e k d =
     let (f, p) = spot-part t n l in
