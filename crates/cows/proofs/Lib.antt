@@ -3,10 +3,12 @@ pub mod Places
 pub mod Renaming
 pub mod Records
 pub mod Format
+pub mod Fields
 pub mod Refusals
 pub mod Tables
 pub mod Step
 pub mod Stands
+pub mod Reach
 pub mod Meeting
 pub mod Scopes
 pub mod Atoms

@@ -1,11 +1,13 @@
--- Laws of specs/Places: a way filled with what stands at its end is the term; the places of a term by its first record; a search that finds nothing.
-use mathlib.Core.Path.{_≡_, refl, ap, subst}
+-- Laws of specs/Places: a way filled with what stands at its end is the term; the places of a term by its first record; a search that finds nothing;
+-- the part at a place, and the places of its children.
+use mathlib.Core.Path.{_≡_, refl, ap, subst, _∙_}
 use mathlib.Core.Bool.{Bool, false}
 use mathlib.Core.Option.{none}
 use mathlib.Core.List.{[], _∷_, _++_}
 use Prim.Native.Nat.{ℕ, zero, suc, _+_, _-_, _≤_, _<_}
 use native.Mathlib.Omega.{arith}
 use native.Mathlib.Nat.{zero-add}
+use native.Mathlib.Numerals.{add-one}
 use lib.Dec.{ltb}
 use borrow.Author.Tests.{lt-ltb, le-ltb, ltb-true, ltb-false}
 use Rattle.cows.specs.Terms.{Prefix, Join, Term, leaf, under, both, size}
@@ -134,3 +136,85 @@ first-none f t e n l = rw zero-add (rw zero-add at (firstFrom-none (λ m. f m (d
 pub none-first : (f : ℕ → Spot → Bool) (t : Term) → Everywhere (Fails f) [] 0 t → first f t ≡ none
 unfolding first spot
 none-first f t h = none-firstFrom (λ m. f m (descend [] t m)) 0 (size t) (λ i l. rw zero-add (rw zero-add at (h i l)))
+
+-- what the children of a record inherit from it holds at every place of a term, if it holds at the first
+abbrev pub Inherited : (ℕ → Spot → Type 0) → Type 0
+Inherited P =
+    ((o : ℕ) (w : Way) (u : Prefix) (t : Term) → P o (record { way = w; here = under u t }) → P (suc o) (record { way = inside u ∷ w; here = t }))
+    × ((o : ℕ) (w : Way) (j : Join) (s t : Term) → P o (record { way = w; here = both j s t })
+    → P (suc o) (record { way = leftOf j t ∷ w; here = s }) × P (suc (o + size s)) (record { way = rightOf j s ∷ w; here = t }))
+
+pub inherited : (P : ℕ → Spot → Type 0) → Inherited P → (w : Way) (o : ℕ) (t : Term) → P o (record { way = w; here = t }) → Everywhere P w o t
+unfolding size
+inherited P i w o (leaf x) h = all-leaf P w o (leaf x) refl h
+inherited P i w o (under u t) h = all-under P w o u t h (inherited P i (inside u ∷ w) (suc o) t (i .0 o w u t h))
+inherited P i w o (both j s t) h =
+    let (l, r) = i .1 o w j s t h in
+    all-both P w o j s t h (inherited P i (leftOf j t ∷ w) (suc o) s l) (inherited P i (rightOf j s ∷ w) (suc (o + size s)) t r)
+
+pub inherited-spot : (P : ℕ → Spot → Type 0) → Inherited P → (t : Term) → P 0 (record { way = []; here = t }) → (n : ℕ) → n < size t → P n (spot t n)
+unfolding spot
+inherited-spot P i t h n l = rw zero-add at (inherited P i [] 0 t h n l)
+
+-- The part of t at a place fits into t, and its places, counted on, are places of t.
+abbrev pub PartOf : Term → ℕ → Spot → Type 0
+PartOf t n z = (n + size (z .here) ≤ size t) × ((i : ℕ) → i < size (z .here) → spot t (n + i) ≡ descend (z .way) (z .here) i)
+
+pub part-inherited : (t : Term) → Inherited (PartOf t)
+unfolding descend size
+part-inherited t = (
+  λ o w u s h. (omega arith, λ i l. ap (spot t) (let z : suc o + i ≡ o + suc i = omega arith in z) ∙ h .1 (suc i) (omega arith)),
+  λ o w j s r h. (
+    (omega arith, λ i l. ap (spot t) (let z : suc o + i ≡ o + suc i = omega arith in z) ∙ (h .1 (suc i) (omega arith) ∙ descend-left w j s r i l)),
+    (
+      omega arith,
+      λ i l. ap (spot t) (let z : suc (o + size s) + i ≡ o + suc (size s + i) = omega arith in z) ∙ (h .1 (suc (size s + i)) (omega arith) ∙ descend-right w j s r i),
+    ),
+  ),
+)
+
+pub part-first : (t : Term) → PartOf t 0 (record { way = []; here = t })
+unfolding spot
+part-first t = (omega arith, λ i l. ap (descend [] t) (zero-add i))
+
+pub spot-part : (t : Term) (n : ℕ) → n < size t → PartOf t n (spot t n)
+spot-part t = inherited-spot (PartOf t) (part-inherited t) t (part-first t)
+
+pub part-here : (t : Term) (n : ℕ) (z : Spot) → PartOf t n z → sub t n ≡ z .here
+unfolding sub
+part-here t n z h =
+    ap (λ (y : Spot). y .here) (ap (spot t) (let e : n ≡ n + 0 = omega arith in e) ∙ (h .1 0 (size-pos (z .here)) ∙ descend-first (z .way) (z .here)))
+
+pub spot-fits : (t : Term) (j : ℕ) → j < size t → j + size (sub t j) ≤ size t
+unfolding sub
+spot-fits t j l = spot-part t j l .0
+
+-- the places of the children
+abbrev pub At : Term → ℕ → Way → Term → Type 0
+At t n w s = (n < size t) × (sub t n ≡ s) × (wayTo t n ≡ w)
+
+pub at-part : (t : Term) (n i : ℕ) (s : Term) (w : Way) (c : Term) → n < size t → sub t n ≡ s → i < size s → descend (wayTo t n) s i ≡ record { way = w; here = c } → At t (n + i) w c
+unfolding sub wayTo
+at-part t n i s w c l e k d =
+    let (f, p) = spot-part t n l in
+    let q : spot t (n + i) ≡ record { way = w; here = c } = p i (rw e k) ∙ rw e d in
+    (omega (arith, ap size e), ap (λ (z : Spot). z .here) q, ap (λ (z : Spot). z .way) q)
+
+pub spot-under : (t : Term) (j : ℕ) (u : Prefix) (c : Term) → j < size t → sub t j ≡ under u c → At t (suc j) (inside u ∷ wayTo t j) c
+unfolding descend size
+spot-under t j u c l e =
+    rw add-one at (at-part t j 1 (under u c) (inside u ∷ wayTo t j) c l e (omega (arith, size-pos c)) (descend-first (inside u ∷ wayTo t j) c))
+
+pub spot-left : (t : Term) (j : ℕ) (k : Join) (l r : Term) → j < size t → sub t j ≡ both k l r → At t (suc j) (leftOf k r ∷ wayTo t j) l
+unfolding size
+spot-left t j k l r h e =
+    rw add-one at
+    (at-part t j 1 (both k l r) (leftOf k r ∷ wayTo t j) l h e (omega (arith, size-pos l))
+    (descend-left (wayTo t j) k l r 0 (size-pos l) ∙ descend-first (leftOf k r ∷ wayTo t j) l))
+
+pub spot-right : (t : Term) (j : ℕ) (k : Join) (l r : Term) → j < size t → sub t j ≡ both k l r → At t (suc j + size l) (rightOf k l ∷ wayTo t j) r
+unfolding size
+spot-right t j k l r h e =
+    subst (λ n. At t n (rightOf k l ∷ wayTo t j) r) (omega arith)
+    (at-part t j (suc (size l + 0)) (both k l r) (rightOf k l ∷ wayTo t j) r h e (omega (arith, size-pos r))
+    (descend-right (wayTo t j) k l r 0 ∙ descend-first (rightOf k l ∷ wayTo t j) r))

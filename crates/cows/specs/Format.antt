@@ -33,6 +33,12 @@ nodes (leaf x) = basic x ∷ []
 nodes (under u t) = prefix u ∷ nodes t
 nodes (both j s t) = join j ∷ (nodes s ++ nodes t)
 
+-- the first record of a term
+unfoldable pub root : Term → Node
+root (leaf x) = basic x
+root (under u t) = prefix u
+root (both j s t) = join j
+
 -- Byte 0 kind, byte 1 tuple count, then first atom, second atom, four tuple atoms and interval, 16 bits each.
 unfoldable pub layout : ℕ → ℕ → ℕ → List ℕ → ℕ → List ℕ
 layout kind a b ws i =
@@ -52,6 +58,10 @@ record16 (join parallel) = layout 6 0 0 [] 0
 record16 (prefix protection) = layout 7 0 0 [] 0
 record16 (prefix (delimitation d)) = layout 8 d 0 [] 0
 record16 (prefix replication) = layout 9 0 0 [] 0
+
+-- the kind of a term's first record
+unfoldable pub kindOf : Term → ℕ
+kindOf s = byte (record16 (root s)) 0
 
 unfoldable pub bytes : List Node → List ℕ
 bytes [] = []
@@ -171,5 +181,5 @@ decode ns = getD (build ns) 0 (leaf nil)
 
 -- (for computed checks) to unfold this is to unfold every definition of this file
 unfoldable pub open-format : Unit {0}
-unfolding bytes2 byte word nodes layout record16 bytes encode unused interval distinct data4 pattern4 empty4 kinds rowOf slots rightRow rightRecord tuple node pieces records children push build decode
+unfolding bytes2 byte word nodes root layout record16 kindOf bytes encode unused interval distinct data4 pattern4 empty4 kinds rowOf slots rightRow rightRecord tuple node pieces records children push build decode
 open-format = tt
