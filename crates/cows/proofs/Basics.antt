@@ -5,6 +5,7 @@ use mathlib.Core.Option.{Option, none, some}
 use mathlib.Core.List.{List, [], _∷_, _++_}
 use Prim.Native.Nat.{ℕ, zero, suc, _+_, _≤_, _<_}
 use native.Mathlib.Omega.{arith}
+use native.Mathlib.Nat.{zero-add, add-zero, suc-add}
 use lib.Dec.{ltb, eqb}
 use borrow.Author.Tests.{ltb-true, ltb-false, eqb-true, eq-eqb}
 use Rattle.cows.specs.Basics.{any, every, member, same, holds, found, only, placeIf, orElse, firstFrom, Result, refuse, accept, _>>=_, _>>_, forbid, need}
@@ -195,6 +196,28 @@ none-firstFrom f n (suc k) h =
       ap f (let z : n ≡ n + 0 = omega arith in z) ∙ h 0 (omega arith),
       none-firstFrom f (suc n) k (λ i l. ap f (let z : suc n + i ≡ n + suc i = omega arith in z) ∙ h (suc i) (omega arith)),
     )
+
+-- a search in two parts; what it finds is one of the numbers
+orElse-assoc : (p q r : Option ℕ) → orElse (orElse p q) r ≡ orElse p (orElse q r)
+unfolding orElse
+orElse-assoc none q r = refl
+orElse-assoc (some p) q r = refl
+
+pub firstFrom-append : (f : ℕ → Bool) (n a b : ℕ) → firstFrom f n (a + b) ≡ orElse (firstFrom f n a) (firstFrom f (n + a) b)
+unfolding firstFrom
+firstFrom-append f n zero b = unfold orElse in rw (zero-add, add-zero)
+firstFrom-append f n (suc a) b =
+    let z : n + suc a ≡ suc n + a = omega arith in
+    rw (suc-add, firstFrom-append f (suc n) a b, z) (sym (orElse-assoc (placeIf (f n) n) _ _))
+
+pub firstFrom-below : (f : ℕ → Bool) (n k p : ℕ) → firstFrom f n k ≡ some p → p < n + k
+unfolding firstFrom placeIf orElse
+firstFrom-below f n zero p e = absurd (let z : _≡_ {A = ℕ} 0 1 = cc in omega arith)
+firstFrom-below f n (suc k) p e = go (f n) (firstFrom-below f (suc n) k p) e
+  where
+    go : (b : Bool) → (firstFrom f (suc n) k ≡ some p → p < suc n + k) → orElse (placeIf b n) (firstFrom f (suc n) k) ≡ some p → p < n + suc k
+    go true h e = omega (arith, same-some e)
+    go false h e = omega (arith, h e)
 
 -- lists of numbers
 pub same-eq : (xs ys : List ℕ) → same xs ys ≡ true → xs ≡ ys

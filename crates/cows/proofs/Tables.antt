@@ -21,7 +21,7 @@ use Rattle.cows.proofs.Format.{RightNodes, right-nodes, nodes-right, de
 use Rattle.cows.proofs.Refusals.{shallow-first, first-shallow, formed-first, first-formed}
 
 -- 1: the length.
-right-length : (b : List ℕ) → wrongLength b ≡ false → (length b ≤ 32768) × (length b % 16 ≡ 0)
+pub right-length : (b : List ℕ) → wrongLength b ≡ false → (length b ≤ 32768) × (length b % 16 ≡ 0)
 unfolding wrongLength
 right-length b e =
     let (e₁, e₂) = or-false (eqb (length b) 0 || ltb 32768 (length b)) (not (eqb (length b % 16) 0)) e in

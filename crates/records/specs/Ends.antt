@@ -15,20 +15,20 @@ oneIf false = 0
 unfoldable pub childrenOf : ℕ → ℕ
 childrenOf kind = oneIf (leb 3 kind) + oneIf (eqb kind 5 || eqb kind 6)
 
--- The place behind so many terms, read from place n on in records of which `wants` tells the children; one past the last place where the records
--- run out. Over any kinds of record.
-unfoldable pub after : {A : Type 0} → (A → ℕ) → ℕ → ℕ → List A → ℕ
-after wants zero n [] = n
-after wants zero n (r ∷ rs) = n
-after wants (suc w) n [] = suc n
-after wants (suc w) n (r ∷ rs) = after wants (wants r + w) (suc n) rs
+-- The place behind so many terms, read from place n on in records of which `wants` tells the children; `over` where the records run out.
+-- Over any kinds of record.
+unfoldable pub after : {A : Type 0} → (A → ℕ) → ℕ → ℕ → ℕ → List A → ℕ
+after wants over zero n [] = n
+after wants over zero n (r ∷ rs) = n
+after wants over (suc w) n [] = over
+after wants over (suc w) n (r ∷ rs) = after wants over (wants r + w) (suc n) rs
 
--- the kinds of a table's records; the end of the term at place m
+-- the kinds of a table's records; the end of the term at place m, one past the number of records where they run out
 unfoldable pub kindsOf : List ℕ → List ℕ
 kindsOf s = map (λ b. byte b 0) (records s)
 
 unfoldable pub endAt : List ℕ → ℕ → ℕ
-endAt s m = after childrenOf 1 m (drop m (kindsOf s))
+endAt s m = after childrenOf (suc (length s / 16)) 1 m (drop m (kindsOf s))
 
 unfoldable pub pickEnd : ℕ → ℕ → ℕ → ℕ → ℕ
 pickEnd c x a b = cond (eqb c 0) x (cond (eqb c 1) a b)

@@ -1,10 +1,11 @@
--- How the record check goes about its 16 bytes: slots of a tuple, and records without a tuple as two 64-bit numbers.
+-- How the record check goes about its 16 bytes: ranges of atoms, slots of a tuple, and records without a tuple as two 64-bit numbers.
 use Prim.Native.Nat.{ℕ, _+_, _*_, _/_, _%_}
-use mathlib.Core.Bool.{Bool, cond, not, _&&_, _||_}
+use mathlib.Core.Bool.{Bool, cond, _&&_}
 use mathlib.Core.List.{List}
 use mathlib.Core.Option.{Option, none, some}
 use lib.Dec.{leb, ltb, eqb}
-use Rattle.cows.specs.Format.{byte, word}
+use Rattle.cows.specs.Terms.{datum}
+use Rattle.cows.specs.Format.{word, unused, data4, Row, row}
 use Rattle.records.specs.declared.Found.{Found}
 use Rattle.records.specs.declared.Found.the-variants.{At, Nothing}
 
@@ -17,17 +18,17 @@ foundOf (some p) = At p
 unfoldable pub quad : List ℕ → ℕ → ℕ
 quad b k = word b k + 65536 * word b (k + 2) + 4294967296 * word b (k + 4) + 281474976710656 * word b (k + 6)
 
+-- from low on, and below high
+abbrev pub inRange : ℕ → ℕ → ℕ → Bool
+inRange low high a = leb low a && ltb a high
+
 -- slot j of a tuple of n
 unfoldable pub slotRight : ℕ → ℕ → ℕ → Bool
-slotRight n j a = (ltb j n && (leb 1 a && ltb a 49152)) || (not (ltb j n) && eqb a 0)
+slotRight n j a = cond (ltb j n) (datum a) (unused a)
 
--- a record with a tuple, whose endpoint's atoms are below top
-unfoldable pub tupleRight : List ℕ → ℕ → Bool
-tupleRight b top =
-    leb (byte b 1) 4
-    && (leb 1 (word b 2) && ltb (word b 2) top && leb 1 (word b 4) && ltb (word b 4) top)
-    && (slotRight (byte b 1) 0 (word b 6) && slotRight (byte b 1) 1 (word b 8) && slotRight (byte b 1) 2 (word b 10) && slotRight (byte b 1) 3 (word b 12))
-    && eqb (word b 14) 0
+-- the row of a kind with a tuple, whose endpoint's atoms are below top
+abbrev pub tupleRow : ℕ → Row
+tupleRow top = row (inRange 1 top) (inRange 1 top) data4 unused
 
 -- a record without a tuple
 unfoldable pub plainRight : ℕ → ℕ → ℕ → Bool

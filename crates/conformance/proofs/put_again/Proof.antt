@@ -1,0 +1,34 @@
+use mathlib.Core.Path.{_≡_}
+use Prim.Native.Nat.{_≤_}
+use native.Mathlib.Omega.{arith}
+use lib.ListN.{length, length-set}
+use Rattle.conformance.proofs.put_again.Statement.{statement}
+use Rattle.conformance.proofs.put_again.Tie as tie
+
+abbrev Inv-loop : tie.InvT-loop
+Inv-loop table₀ len n at₀ left₀ table at left = (at ≤ length table) × (16 ≤ at) × (length table ≡ length table₀)
+
+abbrev μ-loop : tie.MeasureT-loop
+μ-loop table₀ len n at₀ left₀ table at left = left
+
+pub put-again-spec : {M : Type 1} → statement M
+put-again-spec =
+    tie.close
+    (tie.spec
+    Inv-loop
+    μ-loop
+    (λ c. omega arith)
+    (λ c. omega arith)
+    (λ c. omega arith)
+    (λ c. omega arith)
+    (λ c. omega arith)
+    (λ c. omega arith)
+    (λ c. omega arith)
+    (λ c. omega arith)
+    (λ c. omega arith)
+    (λ c. omega arith)
+    (λ c. omega arith)
+    (λ c. simp length-set (omega arith))
+    (λ c. omega arith)
+    (λ c. omega arith)
+    )

@@ -1,0 +1,162 @@
+// Cases of the papers that are no theorem, through public operations only. Standard input has a case on each line: its name, and the table's bytes
+// in hexadecimal, with xN for N more of the last 16. A line of output has the name and the reply: answer, place, records.
+use libc::STDIN_FILENO;
+use libc::STDOUT_FILENO;
+ghost use mathlib.Core.Path.{_≡_};
+ghost use Prim.Native.Nat.{_+_, _≤_, _<_};
+ghost use lib.ListN.{length};
+
+// A hexadecimal digit's value, and 0 for what is none.
+fn digit(b: u8) -> u8
+    ensures { λ r. ⌜ r < 16 ⌝ }
+{
+    if b < b'0' {
+        return 0;
+    }
+    if b <= b'9' {
+        return b - b'0';
+    }
+    if b < b'a' {
+        return 0;
+    }
+    if b <= b'f' {
+        return b - b'a' + 10;
+    }
+    0
+}
+
+// The number in decimal digits from a place on, not above a million.
+fn number(text: &[u8], from: usize, to: usize) -> usize
+    requires { ⌜ to ≤ length (now text) ⌝ }
+    ensures { λ r. ⌜ r ≤ 1000015 ⌝ }
+{
+    let mut n: usize = 0;
+    let mut i = from;
+    while i < to {
+        if 100000 < n {
+            return n;
+        }
+        n = 10 * n + wide(digit(text[i]));
+        i += 1;
+    }
+    n
+}
+
+fn wide(x: u8) -> usize
+    ensures { λ r. ⌜ r ≡ x ⌝ }
+{
+    x as usize
+}
+
+// The bytes of a word in hexadecimal, put behind the table's first `len`; the table's new length.
+fn put_hex(text: &[u8], from: usize, to: usize, table: &mut [u8], len: usize) -> usize
+    requires { ⌜ (from ≤ to) × (to ≤ length (now text)) × (len ≤ length (now table)) ⌝ }
+    ensures { λ r. ⌜ r ≤ length (now (table .entry)) ⌝ }
+{
+    let mut at = len;
+    let mut i = from;
+    while i + 1 < to {
+        if table.len() <= at {
+            return at;
+        }
+        table[at] = 16 * digit(text[i]) + digit(text[i + 1]);
+        at += 1;
+        i += 2;
+    }
+    at
+}
+
+// The last 16 bytes of the table's first `len`, n times more.
+fn put_again(table: &mut [u8], len: usize, n: usize) -> usize
+    requires { ⌜ (len ≤ length (now table)) × (n ≤ 1000015) ⌝ }
+    ensures { λ r. ⌜ r ≤ length (now (table .entry)) ⌝ }
+{
+    if len < 16 {
+        return len;
+    }
+    let mut at = len;
+    let mut left = 16 * n;
+    while 0 < left {
+        if table.len() <= at {
+            return at;
+        }
+        table[at] = table[at - 16];
+        at += 1;
+        left -= 1;
+    }
+    at
+}
+
+// What a word spells, put behind the table's first `len`: xN is the last 16 bytes N times more, all else is hexadecimal.
+fn put_word(text: &[u8], from: usize, to: usize, table: &mut [u8], len: usize) -> usize
+    requires { ⌜ (from ≤ to) × (to ≤ length (now text)) × (len ≤ length (now table)) ⌝ }
+    ensures { λ r. ⌜ r ≤ length (now (table .entry)) ⌝ }
+{
+    if from == to {
+        return len;
+    }
+    if text[from] == b'x' {
+        return put_again(table, len, number(text, from + 1, to));
+    }
+    put_hex(text, from, to, table, len)
+}
+
+// The table that the words of a line spell; its length.
+fn spell(text: &[u8], from: usize, to: usize, table: &mut [u8]) -> usize
+    requires { ⌜ (from ≤ to) × (to ≤ length (now text)) ⌝ }
+    ensures { λ r. ⌜ r ≤ length (now (table .entry)) ⌝ }
+{
+    let mut len = 0;
+    let mut i = from;
+    while i < to {
+        let e = bytes::scan::find(text, i, to, b' ');
+        len = put_word(text, i, e, table, len);
+        i = e + 1;
+    }
+    len
+}
+
+fn print_number(n: usize) {
+    io::write_all(STDOUT_FILENO, b" ");
+    io::print_decimal(STDOUT_FILENO, n as u64);
+}
+
+// The reply to the table's first `len` bytes.
+fn check_first(table: &[u8], len: usize) -> tables::Reply {
+    if len <= table.len() {
+        return tables::check(&table[..len]);
+    }
+    tables::check(table)
+}
+
+// One case: the line from a place to its end.
+fn run(text: &[u8], from: usize, to: usize, table: &mut [u8])
+    requires { ⌜ (from ≤ to) × (to ≤ length (now text)) ⌝ }
+{
+    let name = bytes::scan::find(text, from, to, b' ');
+    let len = spell(text, name, to, table);
+    let r = check_first(table, len);
+    io::write_all(STDOUT_FILENO, &text[from..name]);
+    print_number(wide(r.answer));
+    print_number(r.place);
+    print_number(r.records);
+    io::write_all(STDOUT_FILENO, b"\n");
+}
+
+// Every line of a text.
+fn run_all(text: &[u8], table: &mut [u8]) {
+    let n = text.len();
+    let mut from = 0;
+    while from < n {
+        let to = bytes::scan::find(text, from, n, b'\n');
+        run(text, from, to, table);
+        from = to + 1;
+    }
+}
+
+fn main() {
+    let mut input = io::large_buffer();
+    let got = io::read_full(STDIN_FILENO, &mut input);
+    let mut table = io::large_buffer();
+    run_all(&input[..got], &mut table);
+}

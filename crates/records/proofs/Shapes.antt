@@ -1,0 +1,251 @@
+-- Where terms end (specs/Ends): one term after the other; the ends that a backward pass finds; the shape of a table by its first end.
+use mathlib.Core.Path.{_≡_, refl, sym, ap, _∙_}
+use mathlib.Core.Option.{Option, none, some}
+use mathlib.Core.List.{List, [], _∷_, _++_, map, append-assoc}
+use Prim.Native.Nat.{ℕ, zero, suc, _+_, _*_, _-_, _/_, _≤_, _<_}
+use native.Mathlib.Omega.{arith}
+use native.Mathlib.Nat.{zero-add, suc-add, sub-self}
+use native.Mathlib.Numerals.{add-one}
+use mathlib.Core.Bool.{true, not}
+use lib.Dec.{ltb, eqb}
+use lib.ListN.{length, getD, set, drop, length-set, length-drop, length-map, drop-of-length-le}
+use lib.Seq.{drop-drop, drop-nil, getD-set-same, getD-set-other}
+use borrow.Author.Tests.{ltb-true, eqb-true, eqb-false, not-false}
+use Rattle.cows.specs.Basics.{placeIf}
+use Rattle.cows.specs.Terms.{nil, kill, invoke, receive, wait, protection, delimitation, replication, choice, parallel, Term, leaf, under, both, size}
+use Rattle.cows.specs.Places.{spot, sub}
+use Rattle.cows.specs.Format.{byte, rightRecord, kinds, Node, basic, prefix, join, nodes, layout, record16, bytes, encode, node, children, records}
+use Rattle.cows.specs.Tables.{firstWrong, misshapen}
+use Rattle.cows.proofs.Format.{records-bytes}
+use Rattle.cows.proofs.Fields.{nodes-spot}
+use Rattle.cows.proofs.Basics.{bool-case, and-true, orElse-none, placeIf-none}
+use Rattle.records.specs.Ends.{childrenOf, after, kindsOf, endAt, pickEnd, EndsFrom}
+use Rattle.records.proofs.Pieces.{first-piece, length-records, records-cons}
+
+-- Terms read from place n on in records rs, with `over` past the last of them.
+module _ {A : Type 0} (wants : A → ℕ) (over : ℕ) where
+  pub after-none : (n : ℕ) (rs : List A) → after wants over 0 n rs ≡ n
+  unfolding after
+  after-none n [] = refl
+  after-none n (r ∷ rs) = refl
+
+  after-one : (n : ℕ) (r : A) (rs : List A) → after wants over 1 n (r ∷ rs) ≡ after wants over (wants r) (suc n) rs
+  unfolding after
+  after-one n r rs = ap (λ w. after wants over w (suc n) rs) (let z : wants r + 0 ≡ wants r = omega arith in z)
+
+  pub after-within : (w n : ℕ) (rs : List A) → n + length rs ≤ over → (n ≤ after wants over w n rs) × (after wants over w n rs ≤ over)
+  unfolding after
+  after-within zero n [] h = omega arith
+  after-within zero n (r ∷ rs) h = omega arith
+  after-within (suc w) n [] h = omega arith
+  after-within (suc w) n (r ∷ rs) h = omega (arith, after-within (wants r + w) (suc n) rs (omega arith))
+
+  -- behind no records
+  after-over : (w : ℕ) → after wants over w over [] ≡ over
+  unfolding after
+  after-over zero = refl
+  after-over (suc w) = refl
+
+  -- a terms, and w terms behind them
+  pub after-add : (a w n : ℕ) (rs : List A) → n + length rs ≤ over
+      → after wants over (a + w) n rs ≡ after wants over w (after wants over a n rs) (drop (after wants over a n rs - n) rs)
+  unfolding after
+  after-add zero w n [] h = rw (sub-self n, zero-add w)
+  after-add zero w n (r ∷ rs) h = rw (sub-self n, zero-add w)
+  after-add (suc a) w n [] h = rw (suc-add a w, drop-nil (over - n)) (sym (after-over w))
+  after-add (suc a) w n (r ∷ rs) h =
+      let e = after wants over (wants r + a) (suc n) rs in
+      let p : wants r + (a + w) ≡ wants r + a + w = omega arith in
+      let q : e - n ≡ suc (e - suc n) = omega (arith, after-within (wants r + a) (suc n) rs (omega arith)) in
+      rw (suc-add a w, p, q) (after-add (wants r + a) w (suc n) rs (omega arith))
+
+  -- the same by places in the whole list
+  pub after-more : (ks : List A) (a w m : ℕ) → m ≤ over → length ks ≤ over
+      → after wants over (a + w) m (drop m ks) ≡ after wants over w (after wants over a m (drop m ks)) (drop (after wants over a m (drop m ks)) ks)
+  after-more ks a w m h l =
+      let b : m + length (drop m ks) ≤ over = omega (arith, length-drop m ks) in
+      let e = after wants over a m (drop m ks) in
+      let p : m + (e - m) ≡ e = omega (arith, after-within a m (drop m ks) b) in
+      after-add a w m (drop m ks) b ∙ rw (drop-drop (e - m) m ks, p)
+
+-- the kinds of a table's records
+drop-map : {A B : Type 0} (f : A → B) (m : ℕ) (l : List A) → drop m (map f l) ≡ map f (drop m l)
+drop-map f zero l = refl
+drop-map f (suc m) [] = refl
+drop-map f (suc m) (x ∷ l) = drop-map f m l
+
+length-kinds : (s : List ℕ) → length (kindsOf s) ≡ length s / 16
+unfolding kindsOf
+length-kinds s = length-map (records s) (λ b. byte b 0) ∙ length-records s
+
+kinds-cons : (s : List ℕ) (m : ℕ) → m < length s / 16 → drop m (kindsOf s) ≡ getD s (16 * m) 0 ∷ drop (suc m) (kindsOf s)
+unfolding kindsOf
+kinds-cons s m h =
+    rw (drop-map (λ b. byte b 0) m (records s), drop-map (λ b. byte b 0) (suc m) (records s), records-cons s m h, first-piece s (16 * m))
+
+-- The end at a place, from those behind it.
+module _ (s : List ℕ) where
+  pub end-within : (m : ℕ) → m ≤ length s / 16 + 1 → (m ≤ endAt s m) × (endAt s m ≤ length s / 16 + 1)
+  unfolding endAt
+  end-within m h =
+      let l : m + length (drop m (kindsOf s)) ≤ suc (length s / 16) = omega (arith, length-drop m (kindsOf s), length-kinds s) in
+      omega (arith, after-within childrenOf (suc (length s / 16)) 1 m (drop m (kindsOf s)) l)
+
+  pub end-over : (m : ℕ) → length s / 16 ≤ m → endAt s m ≡ length s / 16 + 1
+  unfolding endAt after
+  end-over m h = rw (drop-of-length-le (kindsOf s) {i = m} (omega (arith, length-kinds s))) (omega arith)
+
+  end-turn : (m : ℕ) → m < length s / 16 → endAt s m ≡ after childrenOf (suc (length s / 16)) (childrenOf (getD s (16 * m) 0)) (suc m) (drop (suc m) (kindsOf s))
+  unfolding endAt
+  end-turn m h = rw (kinds-cons s m h) (after-one childrenOf (suc (length s / 16)) m (getD s (16 * m) 0) (drop (suc m) (kindsOf s)))
+
+  pub end-pick : (m c : ℕ) → m < length s / 16 → c ≡ childrenOf (getD s (16 * m) 0) → c ≤ 2 → endAt s m ≡ pickEnd c (suc m) (endAt s (suc m)) (endAt s (endAt s (suc m)))
+  unfolding pickEnd endAt
+  end-pick m c h e l = end-turn m h ∙ rw (← e) (go c l)
+    where
+      go : (c : ℕ) → c ≤ 2 → after childrenOf (suc (length s / 16)) c (suc m) (drop (suc m) (kindsOf s)) ≡ pickEnd c (suc m) (endAt s (suc m)) (endAt s (endAt s (suc m)))
+      go zero l = after-none childrenOf (suc (length s / 16)) (suc m) (drop (suc m) (kindsOf s))
+      go (suc zero) l = refl
+      go (suc (suc zero)) l = after-more childrenOf (suc (length s / 16)) (kindsOf s) 1 1 (suc m) (omega arith) (omega (arith, length-kinds s))
+      go (suc (suc (suc c))) l = absurd (omega arith)
+
+  -- The pass that finds the ends: its start, its turn, and an end that it reads.
+  pub ends-start : (d : List ℕ) → length s / 16 ≤ 2048 → length s / 16 + 1 < length d
+      → EndsFrom s (set (set d (length s / 16 + 1) (length s / 16 + 1)) (length s / 16) (length s / 16 + 1)) (length s / 16)
+  ends-start d few room =
+      record {
+        few = few;
+        room = omega (arith, length-set (set d (n + 1) (n + 1)) n (n + 1), length-set d (n + 1) (n + 1));
+        end = λ m a b. at m a b ∙ sym (end-over m a);
+      }
+    where
+      n : ℕ
+      n = length s / 16
+
+      at : (m : ℕ) → n ≤ m → m ≤ n + 1 → getD (set (set d (n + 1) (n + 1)) n (n + 1)) m 0 ≡ n + 1
+      at m a b =
+          bool-case _ (eqb m n) (λ e. rw (eqb-true m n e) (getD-set-same (set d (n + 1) (n + 1)) n (n + 1) 0 (omega (arith, length-set d (n + 1) (n + 1)))))
+          (λ e.
+          let f : m ≡ n + 1 = omega (arith, eqb-false m n e) in
+          getD-set-other (set d (n + 1) (n + 1)) n m (n + 1) 0 (eqb-false m n e) ∙ rw f (getD-set-same d (n + 1) (n + 1) 0 room))
+
+  pub end-bound : (d : List ℕ) (i : ℕ) → EndsFrom s d i → i ≤ length s / 16 → getD d i 0 ≤ length s / 16 + 1
+  end-bound d i h l = rw (h .end i (omega arith) (omega arith)) (end-within i (omega arith) .1)
+
+  pub ends-more : (d : List ℕ) (i a b c r : ℕ) → EndsFrom s d i → 0 < i → i ≤ length s / 16 → a ≡ getD d i 0 → b ≡ getD d a 0
+      → (c ≡ childrenOf (getD s (16 * (i - 1)) 0)) × (c ≤ 2) → r ≡ pickEnd c i a b → EndsFrom s (set d (i - 1) r) (i - 1)
+  ends-more d i a b c r h pos le ea eb ec er =
+      record {
+        few = h .few;
+        room = rw (length-set d (i - 1) r) (h .room);
+        end = λ m lo hi.
+            bool-case _ (eqb m (i - 1))
+            (λ e. rw (eqb-true m (i - 1) e) (getD-set-same d (i - 1) r 0 (omega (arith, h .room)) ∙ here))
+            (λ e. getD-set-other d (i - 1) m r 0 (eqb-false m (i - 1) e) ∙ h .end m (omega (arith, eqb-false m (i - 1) e)) hi);
+      }
+    where
+      a-is : a ≡ endAt s i
+      a-is = ea ∙ h .end i (omega arith) (omega arith)
+
+      b-is : b ≡ endAt s (endAt s i)
+      b-is = eb ∙ (h .end a (omega (arith, a-is, end-within i (omega arith))) (omega (arith, a-is, end-within i (omega arith))) ∙ ap (endAt s) a-is)
+
+      here : r ≡ endAt s (i - 1)
+      here =
+          let z : i ≡ suc (i - 1) = omega arith in
+          er ∙ (rw (a-is, b-is) (ap (λ j. pickEnd c j (endAt s j) (endAt s (endAt s j))) z) ∙ sym (end-pick (i - 1) c (omega arith) (ec .0) (ec .1)))
+
+-- The shape of a table whose records are right, by the end at place 0: all records, some over, or too few.
+abbrev pub Shape : ℕ → ℕ → Option ℕ → Type 0
+Shape e n o = (e ≡ n → o ≡ none) × (e < n → o ≡ some e) × (n < e → o ≡ some n)
+
+shape-after : (over w n : ℕ) (rs : List Node) → n + length rs < over → Shape (after children over w n rs) (n + length rs) (misshapen w n rs)
+unfolding after misshapen
+shape-after over zero n [] h = (λ e. refl, λ l. absurd (omega arith), λ l. absurd (omega arith))
+shape-after over zero n (r ∷ rs) h = (λ e. absurd (omega arith), λ l. refl, λ l. absurd (omega arith))
+shape-after over (suc w) n [] h = (λ e. absurd (omega arith), λ l. absurd (omega arith), λ l. ap some (let z : n ≡ n + 0 = omega arith in z))
+shape-after over (suc w) n (r ∷ rs) h =
+    let z : n + length (r ∷ rs) ≡ suc n + length rs = omega arith in
+    rw z (shape-after over (children r + w) (suc n) rs (omega arith))
+
+-- what counts is the numbers of children
+after-numbers : {A : Type 0} (wants : A → ℕ) (over w n : ℕ) (rs : List A) → after wants over w n rs ≡ after (λ c. c) over w n (map wants rs)
+unfolding after
+after-numbers wants over zero n [] = refl
+after-numbers wants over zero n (r ∷ rs) = refl
+after-numbers wants over (suc w) n [] = refl
+after-numbers wants over (suc w) n (r ∷ rs) = after-numbers wants over (wants r + w) (suc n) rs
+
+after-same : {A B : Type 0} (f : A → ℕ) (g : B → ℕ) (over w n : ℕ) (rs : List A) (ts : List B) → map f rs ≡ map g ts → after f over w n rs ≡ after g over w n ts
+after-same f g over w n rs ts e = after-numbers f over w n rs ∙ (ap (after (λ c. c) over w n) e ∙ sym (after-numbers g over w n ts))
+
+right-children : (b : List ℕ) → rightRecord b ≡ true → childrenOf (byte b 0) ≡ children (node b)
+unfolding rightRecord kinds childrenOf node children
+right-children b h = go (byte b 0) refl (ltb-true (byte b 0) 10 (and-true (ltb (byte b 0) 10) _ h .0))
+  where
+    go : (k : ℕ) → byte b 0 ≡ k → k < 10 → childrenOf (byte b 0) ≡ children (node b)
+    go zero e l = rw e
+    go (suc zero) e l = rw e
+    go (suc (suc zero)) e l = rw e
+    go (suc (suc (suc zero))) e l = rw e
+    go (suc (suc (suc (suc zero)))) e l = rw e
+    go (suc (suc (suc (suc (suc zero))))) e l = rw e
+    go (suc (suc (suc (suc (suc (suc zero)))))) e l = rw e
+    go (suc (suc (suc (suc (suc (suc (suc zero))))))) e l = rw e
+    go (suc (suc (suc (suc (suc (suc (suc (suc zero)))))))) e l = rw e
+    go (suc (suc (suc (suc (suc (suc (suc (suc (suc zero))))))))) e l = rw e
+    go (suc (suc (suc (suc (suc (suc (suc (suc (suc (suc k)))))))))) e l = absurd (omega arith)
+
+map-children : (n : ℕ) (rs : List (List ℕ)) → firstWrong n rs ≡ none → map childrenOf (map (λ b. byte b 0) rs) ≡ map children (map node rs)
+unfolding firstWrong
+map-children n [] h = refl
+map-children n (b ∷ rs) h =
+    let (p, q) = orElse-none (placeIf (not (rightRecord b)) n) _ h in
+    rw (right-children b (not-false _ (placeIf-none _ n p)), map-children (suc n) rs q)
+
+pub end-shape : (s : List ℕ) → firstWrong 0 (records s) ≡ none → Shape (endAt s 0) (length s / 16) (misshapen 1 0 (map node (records s)))
+unfolding endAt kindsOf
+end-shape s h =
+    let l : 0 + length (map node (records s)) ≡ length s / 16 = rw (zero-add, length-map) (length-records s) in
+    rw (after-same childrenOf children (suc (length s / 16)) 1 0 _ (map node (records s)) (map-children 0 (records s) h), ← l)
+    (shape-after (suc (0 + length (map node (records s)))) 1 0 (map node (records s)) (omega arith))
+
+-- A term's table: the records of the part at a place end the part's size behind it.
+node-children : (r : Node) → childrenOf (byte (record16 r) 0) ≡ children r
+unfolding record16 layout byte childrenOf children
+node-children (basic nil) = refl
+node-children (basic (kill k)) = refl
+node-children (basic (invoke p o ws)) = refl
+node-children (prefix (receive p o ws)) = refl
+node-children (prefix (wait n)) = refl
+node-children (prefix protection) = refl
+node-children (prefix (delimitation d)) = refl
+node-children (prefix replication) = refl
+node-children (join choice) = refl
+node-children (join parallel) = refl
+
+map-nodes : (ns : List Node) → map childrenOf (map (λ b. byte b 0) (map record16 ns)) ≡ map children ns
+map-nodes [] = refl
+map-nodes (r ∷ ns) = rw (node-children r, map-nodes ns)
+
+pub after-nodes : (over : ℕ) (t : Term) (w n : ℕ) (ns : List Node) → after children over (suc w) n (nodes t ++ ns) ≡ after children over w (n + size t) ns
+unfolding after nodes size children
+after-nodes over (leaf x) w n ns = rw (zero-add, add-one)
+after-nodes over (under u t) w n ns =
+    let e : 1 + w ≡ suc w = omega arith in
+    let f : n + suc (size t) ≡ suc n + size t = omega arith in
+    ap (λ v. after children over v (suc n) (nodes t ++ ns)) e ∙ rw f (after-nodes over t w (suc n) ns)
+after-nodes over (both j s t) w n ns =
+    let e : 2 + w ≡ suc (suc w) = omega arith in
+    let f : n + suc (size s + size t) ≡ suc n + size s + size t = omega arith in
+    ap (λ v. after children over v (suc n) ((nodes s ++ nodes t) ++ ns)) e
+    ∙ rw (f, append-assoc (nodes s) (nodes t) ns) (after-nodes over s (suc w) (suc n) (nodes t ++ ns) ∙ after-nodes over t w (suc n + size s) ns)
+
+pub end-term : (t : Term) (m : ℕ) → m < size t → endAt (encode t) m ≡ m + size (sub t m)
+unfolding endAt kindsOf encode sub
+end-term t m h =
+    let (ns, e) = nodes-spot t m h in
+    let over = suc (length (bytes (nodes t)) / 16) in
+    rw (records-bytes (nodes t), drop-map (λ b. byte b 0) m (map record16 (nodes t)), drop-map record16 m (nodes t), e)
+    (after-same childrenOf children over 1 m _ (nodes (spot t m .here) ++ ns) (map-nodes (nodes (spot t m .here) ++ ns))
+    ∙ (after-nodes over (spot t m .here) 0 m ns ∙ after-none children over (m + size (spot t m .here)) ns))

@@ -1,0 +1,117 @@
+-- From what the parts of check find to the judgement of the table: one law for each answer.
+use mathlib.Core.Path.{_≡_, refl, sym, _∙_}
+use mathlib.Core.Logic.{_≢_}
+use mathlib.Core.Bool.{true, false}
+use mathlib.Core.Option.{Option, none, some}
+use mathlib.Core.List.{List, [], _∷_, map}
+use Prim.Native.Nat.{ℕ, suc, _-_, _/_, _%_, _<_, _≤_}
+use native.Mathlib.Omega.{arith}
+use lib.ListN.{length, getD}
+use Rattle.cows.specs.Basics.{placeIf, _>>_, forbid}
+use Rattle.cows.specs.Terms.{Term, size}
+use Rattle.cows.specs.Places.{first}
+use Rattle.cows.specs.Format.{Bytes, node, records, decode}
+use Rattle.cows.specs.Tables.{wrongLength, firstWrong, unbound, clash, judgeTerm, judge}
+use Rattle.cows.proofs.Tables.{records-hold}
+use Rattle.records.specs.Holds.{Holds}
+use Rattle.records.specs.declared.Found.the-variants.{At, Nothing}
+use Rattle.records.specs.Rows.{foundOf}
+use Rattle.records.specs.Ends.{endAt}
+use Rattle.records.proofs.Shapes.{end-shape}
+use Rattle.tables.specs.declared.readers.Reading.{Reading}
+use Rattle.tables.specs.declared.scopes.Scoping.the-variants.{Fine, Open, Clash}
+use Rattle.tables.specs.declared.Verdict.{Verdict}
+use Rattle.tables.specs.declared.Verdict.the-variants.{Accepted, Length, Record, Shape, Deep, Choice, Open as OpenUse, Clash as Clashes}
+use Rattle.tables.specs.Scopes.{scopingOf}
+use Rattle.tables.specs.Verdict.{replyOf, checkReply, judgeScopes, judgeShape}
+use Rattle.tables.proofs.Reading.{Tells}
+
+-- 6 and 7
+scoping-fine : (p q : Option ℕ) → Fine ≡ scopingOf p q → (p ≡ none) × (q ≡ none)
+scoping-fine none none e = (refl, refl)
+scoping-fine none (some q) e = (refl, cc)
+scoping-fine (some p) q e = (cc, cc)
+
+scoping-open : (p q : Option ℕ) (i : ℕ) → Open i ≡ scopingOf p q → p ≡ some i
+scoping-open none none i e = cc
+scoping-open none (some q) i e = cc
+scoping-open (some p) q i e = cc
+
+scoping-clash : (p q : Option ℕ) (i : ℕ) → Clash i ≡ scopingOf p q → (p ≡ none) × (q ≡ some i)
+scoping-clash none none i e = (refl, cc)
+scoping-clash none (some q) i e = (refl, cc)
+scoping-clash (some p) q i e = (cc, cc)
+
+pub judge-fine : (t : Term) (n : ℕ) → Fine ≡ scopingOf (first unbound t) (first (clash t) t) → n ≡ size t → replyOf (Accepted n) ≡ checkReply (judgeScopes t)
+unfolding judgeScopes _>>_ forbid
+judge-fine t n e h = let (p, q) = scoping-fine (first unbound t) (first (clash t) t) e in rw (p, q, h)
+
+pub judge-open : (t : Term) (i : ℕ) → Open i ≡ scopingOf (first unbound t) (first (clash t) t) → replyOf (OpenUse i) ≡ checkReply (judgeScopes t)
+unfolding judgeScopes _>>_ forbid
+judge-open t i e = rw (scoping-open (first unbound t) (first (clash t) t) i e)
+
+pub judge-clash : (t : Term) (i : ℕ) → Clash i ≡ scopingOf (first unbound t) (first (clash t) t) → replyOf (Clashes i) ≡ checkReply (judgeScopes t)
+unfolding judgeScopes _>>_ forbid
+judge-clash t i e = let (p, q) = scoping-clash (first unbound t) (first (clash t) t) i e in rw (p, q)
+
+-- 4 and 5, in a table of n records
+pub judge-deep : (t : Term) (r : Reading) (n : ℕ) → Tells t r → n ≡ size t → n < r .next → replyOf (Deep (r .next - n - 1)) ≡ checkReply (judgeTerm t)
+unfolding judgeTerm _>>_ forbid
+judge-deep t r n h e l = rw (h .deep (r .next - n - 1) .1 (omega arith))
+
+pub judge-choice : (t : Term) (r : Reading) (n : ℕ) → Tells t r → n ≡ size t → r .next ≤ n → r .fault ≢ n → replyOf (Choice (r .fault)) ≡ checkReply (judgeTerm t)
+unfolding judgeTerm _>>_ forbid
+judge-choice t r n h e l f =
+    let d = h .shallow .1 (omega (arith, h .whole)) in
+    rw (d, h .unguarded d (λ q. f (q ∙ sym e)) .0)
+
+pub judge-rest : (t : Term) (r : Reading) (n : ℕ) (v : Verdict) → Tells t r → n ≡ size t → r .next ≤ n → r .fault ≡ n → replyOf v ≡ checkReply (judgeScopes t) → replyOf v ≡ checkReply (judgeTerm t)
+unfolding judgeTerm judgeScopes _>>_ forbid
+judge-rest t r n v h e l f q =
+    let d = h .shallow .1 (omega (arith, h .whole)) in
+    rw (d, h .guarded d (f ∙ e)) q
+
+-- the bytes of a slice are bytes
+pub slice-bytes : (s : List ℕ) → ((k : ℕ) → getD s k 0 < 256) → Bytes s
+slice-bytes [] h = tt
+slice-bytes (x ∷ s) h = (h 0, slice-bytes s (λ k. h (suc k)))
+
+-- 3, by the end e of the term at place 0
+module _ (b : List ℕ) (e : ℕ) (right : firstWrong 0 (records b) ≡ none) (end : e ≡ endAt b 0) where
+  pub judge-early : e < length b / 16 → replyOf (Shape e) ≡ checkReply (judgeShape b)
+  unfolding judgeShape _>>_ forbid
+  judge-early l = rw (end-shape b right .1 (omega arith), end)
+
+  pub judge-late : length b / 16 < e → replyOf (Shape (length b / 16)) ≡ checkReply (judgeShape b)
+  unfolding judgeShape _>>_ forbid
+  judge-late l = rw (end-shape b right .2 (omega arith))
+
+  pub judge-whole : Bytes b → length b % 16 ≡ 0 → length b / 16 ≤ e → e ≤ length b / 16 → (v : Verdict) → ((t : Term) → Holds b t → replyOf v ≡ checkReply (judgeTerm t))
+      → replyOf v ≡ checkReply (judgeShape b)
+  unfolding judgeShape _>>_ forbid
+  judge-whole k z l m v f =
+      let q = end-shape b right .0 (omega arith) in
+      let (y, g) = records-hold b k z right q in
+      rw q (f (decode (map node (records b))) (record { is = sym y; right = g }))
+
+-- what is found, of a place that may be missing
+pub found-at : (o : Option ℕ) (p : ℕ) → At p ≡ foundOf o → o ≡ some p
+found-at none p e = cc
+found-at (some q) p e = cc
+
+pub found-nothing : (o : Option ℕ) → Nothing ≡ foundOf o → o ≡ none
+found-nothing none e = refl
+found-nothing (some q) e = cc
+
+-- 1 and 2
+pub judge-length : (b : List ℕ) → wrongLength b ≡ true → replyOf Length ≡ checkReply (judge b)
+unfolding judge _>>_ forbid placeIf
+judge-length b e = rw e
+
+pub judge-record : (b : List ℕ) (p : ℕ) → wrongLength b ≡ false → firstWrong 0 (records b) ≡ some p → replyOf (Record p) ≡ checkReply (judge b)
+unfolding judge _>>_ forbid placeIf
+judge-record b p e f = rw (e, f)
+
+pub judge-all : (b : List ℕ) (v : Verdict) → wrongLength b ≡ false → firstWrong 0 (records b) ≡ none → replyOf v ≡ checkReply (judgeShape b) → replyOf v ≡ checkReply (judge b)
+unfolding judge judgeShape _>>_ forbid placeIf
+judge-all b v e f q = rw (e, f) q

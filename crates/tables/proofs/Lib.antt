@@ -1,0 +1,7 @@
+pub mod Directory
+pub mod Marks
+pub mod Uses
+pub mod Steps
+pub mod Pass
+pub mod Reading
+pub mod Judging

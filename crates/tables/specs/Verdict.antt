@@ -1,0 +1,39 @@
+-- The verdict on a table, and document 01's number and place for each of its cases.
+use mathlib.Core.List.{List, map}
+use Prim.Native.Nat.{ℕ}
+use Rattle.cows.specs.Basics.{Result, refuse, accept, _>>=_, _>>_, forbid}
+use Rattle.cows.specs.Terms.{Term, size}
+use Rattle.cows.specs.Places.{first}
+use Rattle.cows.specs.Format.{node, records, decode}
+use Rattle.cows.specs.Tables.{misshapen, unbound, clash, judgeTerm}
+use Rattle.tables.specs.declared.Verdict.{Verdict}
+use Rattle.tables.specs.declared.Verdict.the-variants.{Accepted, Length, Record, Shape, Deep, Choice, Open, Clash}
+use Rattle.tables.specs.declared.Reply.{Reply}
+
+abbrev pub replyOf : Verdict → Reply
+replyOf (Accepted n) = record { answer = 0; place = 0; records = n }
+replyOf Length = record { answer = 1; place = 0; records = 0 }
+replyOf (Record p) = record { answer = 2; place = p; records = 0 }
+replyOf (Shape p) = record { answer = 3; place = p; records = 0 }
+replyOf (Deep p) = record { answer = 4; place = p; records = 0 }
+replyOf (Choice p) = record { answer = 5; place = p; records = 0 }
+replyOf (Open p) = record { answer = 6; place = p; records = 0 }
+replyOf (Clash p) = record { answer = 7; place = p; records = 0 }
+
+-- the reply to a judgement of a table: 0, 0 and its records, or the refusal, its place and 0
+abbrev pub checkReply : Result Term → Reply
+checkReply (refuse n p) = record { answer = n; place = p; records = 0 }
+checkReply (accept t) = record { answer = 0; place = 0; records = size t }
+
+-- the rules on scopes, of a term whose depth and choices are in order
+unfoldable pub judgeScopes : Term → Result Term
+judgeScopes t = do
+  forbid 6 (first unbound t)
+  forbid 7 (first (clash t) t)
+  accept t
+
+-- shape and all that comes behind it, of records that are right
+unfoldable pub judgeShape : List ℕ → Result Term
+judgeShape b = do
+  forbid 3 (misshapen 1 0 (map node (records b)))
+  judgeTerm (decode (map node (records b)))

@@ -1,0 +1,133 @@
+// Tables: whether bytes are a well-formed table, or the refusal of 1 to 7 with its place.
+mod readers;
+mod scopes;
+
+use records::Found;
+use scopes::Scoping;
+ghost use mathlib.Core.Path.{_≡_};
+ghost use mathlib.Core.Option.{none};
+ghost use Prim.Native.Nat.{_%_, _≤_};
+ghost use lib.ListN.{length};
+ghost use Rattle.cows.specs.Terms.{Term};
+ghost use Rattle.cows.specs.Format.{records};
+ghost use Rattle.cows.specs.Tables.{firstWrong, judgeTerm, judge};
+ghost use Rattle.records.specs.Holds.{Holds};
+ghost use Rattle.records.specs.Ends.{EndsFrom};
+ghost use Rattle.tables.specs.Verdict.{replyOf, checkReply, judgeScopes, judgeShape};
+
+// What the author of a table is told.
+pub enum Verdict {
+    Accepted(usize),
+    Length,
+    Record(usize),
+    Shape(usize),
+    Deep(usize),
+    Choice(usize),
+    Open(usize),
+    Clash(usize),
+}
+
+// Answer, place and records, as document 01 numbers them.
+pub struct Reply {
+    pub answer: u8,
+    pub place: usize,
+    pub records: usize,
+}
+
+fn answer_of(v: Verdict) -> Reply
+    ensures { λ r. ⌜ r ≡ replyOf v ⌝ }
+{
+    match v {
+        Verdict::Accepted(n) => Reply {
+            answer: 0,
+            place: 0,
+            records: n,
+        },
+        Verdict::Length => refusal(1, 0),
+        Verdict::Record(p) => refusal(2, p),
+        Verdict::Shape(p) => refusal(3, p),
+        Verdict::Deep(p) => refusal(4, p),
+        Verdict::Choice(p) => refusal(5, p),
+        Verdict::Open(p) => refusal(6, p),
+        Verdict::Clash(p) => refusal(7, p),
+    }
+}
+
+fn refusal(answer: u8, place: usize) -> Reply
+    ensures { λ r. ⌜ r ≡ record { answer = answer; place = place; records = 0 } ⌝ }
+{
+    Reply {
+        answer,
+        place,
+        records: 0,
+    }
+}
+
+// Refusals 6 and 7 of a table that holds a term.
+fn judge_scopes(s: &[u8], ends: &[u16]) -> Verdict
+    requires { ⌜ EndsFrom (now s) (now ends) 0 ⌝ }
+    ensures { λ v. ⌜ ((t : Term) → Holds (now (s .entry)) t → replyOf v ≡ checkReply (judgeScopes t)) ⌝ }
+{
+    let found = scopes::scope_faults(s, ends);
+    match found {
+        Scoping::Fine => Verdict::Accepted(s.len() / 16),
+        Scoping::Open(p) => Verdict::Open(p),
+        Scoping::Clash(p) => Verdict::Clash(p),
+    }
+}
+
+// Refusals 4 to 7 of a table that holds a term.
+fn judge_term(s: &[u8], ends: &[u16]) -> Verdict
+    requires { ⌜ EndsFrom (now s) (now ends) 0 ⌝ }
+    ensures { λ v. ⌜ ((t : Term) → Holds (now (s .entry)) t → replyOf v ≡ checkReply (judgeTerm t)) ⌝ }
+{
+    let n = s.len() / 16;
+    let r = readers::service(s, 0, 1);
+    if n < r.next {
+        return Verdict::Deep(r.next - n - 1);
+    }
+    if r.fault != n {
+        return Verdict::Choice(r.fault);
+    }
+    judge_scopes(s, ends)
+}
+
+// Refusals 3 to 7 of right records.
+fn judge_records(s: &[u8]) -> Verdict
+    requires { ⌜ (length (now s) ≤ 32768) × (length (now s) % 16 ≡ 0) × (firstWrong 0 (records (now s)) ≡ none) ⌝ }
+    ensures { λ v. ⌜ replyOf v ≡ checkReply (judgeShape (now (s .entry))) ⌝ }
+{
+    let n = s.len() / 16;
+    let mut ends = [0u16; 2050];
+    records::ends::ends(s, &mut ends);
+    let end = records::wide16(ends[0]);
+    if end < n {
+        return Verdict::Shape(end);
+    }
+    if n < end {
+        return Verdict::Shape(n);
+    }
+    judge_term(s, &ends)
+}
+
+// All refusals of a table.
+fn judge_table(s: &[u8]) -> Verdict
+    ensures { λ v. ⌜ replyOf v ≡ checkReply (judge (now (s .entry))) ⌝ }
+{
+    let n = s.len();
+    if (n == 0) | (32768 < n) | (n % 16 != 0) {
+        return Verdict::Length;
+    }
+    let wrong = records::rows::first_wrong(s);
+    if let Found::At(p) = wrong {
+        return Verdict::Record(p);
+    }
+    judge_records(s)
+}
+
+// Whether bytes are a well-formed table: 0, 0 and the number of records, or the refusal of 1 to 7, its place and 0.
+pub fn check(table: &[u8]) -> Reply
+    ensures { λ r. ⌜ r ≡ checkReply (judge (now (table .entry))) ⌝ }
+{
+    answer_of(judge_table(table))
+}
