@@ -9,25 +9,20 @@ use native.Mathlib.Nat.{zero-add}
 use lib.Dec.{ltb, eqb}
 use borrow.Author.Tests.{ltb-true, lt-ltb, le-ltb, eqb-true, eq-eqb}
 use Rattle.cows.specs.Basics.{any, member, holds}
-use Rattle.cows.specs.Terms.{delimitation, Term, under, size, prefixed, delimits, delimitsAtom, below, binders}
+use Rattle.cows.specs.Terms.{delimitation, Term, under, size, prefixed, delimits, delimitsAtom, delimitsAt, below, binders}
 use Rattle.cows.specs.Places.{inside, Way, Spot, descend, spot, wayTo, sub, frameDelimits, enclosed}
 use Rattle.cows.specs.Tables.{delimitedBefore}
 use Rattle.cows.proofs.Basics.{clash, cond-case, bool-case, lt-case, or-left, or-right, or-case, not-so, same-test, found-none, none-found, holds-some, firstFrom-none, none-firstFrom, any-append}
 use Rattle.cows.proofs.Places.{size-pos, descend-way, PartOf, part-inherited, part-first, part-here, spot-part, inherited-spot}
 use Rattle.cows.proofs.Stands.{delimits-is, prefixed-is, member-delimited, delimited-member}
 
--- a term's first record delimits a
-unfoldable pub delimitsAt : ℕ → Term → Bool
-delimitsAt a s = holds (eqb a) (prefixed delimits s)
-
 pub delimitsAt-is : (a : ℕ) (s : Term) → delimitsAt a s ≡ true → s ≡ under (delimitation a) (below s)
-unfolding delimitsAt
 delimitsAt-is a s h =
     let (d, e, k) = holds-some (eqb a) (prefixed delimits s) h in
     prefixed-is delimits delimitation delimits-is s d e ∙ ap (λ i. under (delimitation i) (below s)) (sym (eqb-true a d k))
 
 pub is-delimitsAt : (a : ℕ) (s c : Term) → s ≡ under (delimitation a) c → delimitsAt a s ≡ true
-unfolding delimitsAt holds prefixed delimits
+unfolding holds prefixed delimits
 is-delimitsAt a s c e = rw (e, eq-eqb a a refl)
 
 -- the farthest end of a delimitation of a among the places below j
@@ -72,7 +67,7 @@ module _ (t : Term) (a : ℕ) where
           part-inherited t .0 o w u s p,
           λ c e k.
               or-case (Reaches t a (suc o) e) (delimitsAtom a u) (enclosed a w) c
-              (λ d. let z = part-here t o _ p in (o, omega arith, rw z (unfold delimitsAt prefixed delimitsAtom in d), rw z (omega arith)))
+              (λ d. let z = part-here t o _ p in (o, omega arith, rw z (unfold prefixed delimitsAtom in d), rw z (omega arith)))
               (λ d. reaches-on o (suc o) e (omega arith) (h d e (omega arith))),
         ),
         λ o w i s r (p, h). let (pl, pr) = part-inherited t .1 o w i s r p in (
@@ -108,11 +103,11 @@ module _ (t : Term) (a : ℕ) where
       lt-case (reachOf t a j ≡ 0) 0 (reachOf t a j) (λ l. let (q, m, d, k) = reach-some j 0 l in clash d (h q m)) (λ l. omega arith)
 
   pub before-none : (j : ℕ) → delimitedBefore t j a ≡ false → reachOf t a j ≡ 0
-  unfolding delimitedBefore delimitsAt
+  unfolding delimitedBefore
   before-none j e = none-reach j (λ q l. rw zero-add at (firstFrom-none (λ m. delimitsAt a (sub t m)) 0 j (found-none _ e) q l))
 
   pub none-before : (j : ℕ) → reachOf t a j ≡ 0 → delimitedBefore t j a ≡ false
-  unfolding delimitedBefore delimitsAt
+  unfolding delimitedBefore
   none-before j e = none-found _ (none-firstFrom (λ m. delimitsAt a (sub t m)) 0 j (λ q l. rw zero-add (reach-none j e q l)))
 
   -- so it says whether a place before delimits the atom, and, at the end, whether any place does

@@ -11,7 +11,7 @@ use lib.Dec.{ltb, eqb}
 use lib.ListN.{length}
 use borrow.Author.Tests.{le-ltb, ltb-true, ltb-false, eqb-true, eq-eqb, not-false}
 use Rattle.cows.specs.Basics.{any, holds, found, firstFrom}
-use Rattle.cows.specs.Terms.{choice, parallel, Term, leaf, under, both, size, depth, prefixed, delimits, delimitsAtom, guard, usesBasic, usesPrefix, uses, bindable}
+use Rattle.cows.specs.Terms.{choice, parallel, Term, leaf, under, both, size, depth, prefixed, delimits, delimitsAtom, delimitsAt, guard, usesBasic, usesPrefix, uses, bindable}
 use Rattle.cows.specs.Places.{inside, leftOf, rightOf, Way, Spot, descend, spot, sub, first, frameDelimits, enclosed, frameChooses}
 use Rattle.cows.specs.Tables.{tooDeep, inChoice, noGuard, unbound, delimitedBefore, again, escaped, clash}
 use Rattle.cows.specs.Within.{Guarded, Bound, Scoped, one, counts, restricted, Formed}
@@ -165,9 +165,6 @@ once-tally f zero h i l e = absurd (omega arith)
 once-tally f (suc n) h i l e = below-suc (λ i. f i ≡ true → tally f i ≡ 0) n (λ e. omega (arith, ap one e)) (once-tally f n (omega arith)) i l e
 
 -- the places of a term that delimit d are as many as its delimitations of d
-abbrev delimitsAt : ℕ → Term → Bool
-delimitsAt d t = holds (eqb d) (prefixed delimits t)
-
 tally-counts : (f : ℕ → Bool) (d : ℕ) (w : Way) (o : ℕ) (t : Term) → Every (λ n z. f n ≡ delimitsAt d (z .here)) w o t → tally f (o + size t) ≡ tally f o + counts d t
 unfolding tally size prefixed holds delimitsAtom
 tally-counts f d w o (leaf x) h = let z : o + 1 ≡ suc o = omega arith in rw z (omega (arith, ap one h))

@@ -7,7 +7,7 @@ use Prim.Native.Nat.{ℕ, zero, suc, _-_}
 use lib.Dec.{ltb, eqb}
 use lib.ListN.{length}
 use Rattle.cows.specs.Basics.{any, every, member, holds, found, placeIf, Result, refuse, accept, _>>=_, _>>_, forbid}
-use Rattle.cows.specs.Terms.{Basic, nil, kill, invoke, Prefix, receive, wait, protection, delimitation, replication, Join, choice, parallel, Term, leaf, under, both, Ends, value, variable, label, atoms, binders, kills, invokes, prefixed, receives, waits, delimits, replicates, delimitsAtom, below}
+use Rattle.cows.specs.Terms.{Basic, nil, kill, invoke, Prefix, receive, wait, protection, delimitation, replication, Join, choice, parallel, Term, leaf, under, both, Ends, value, variable, label, atoms, binders, kills, invokes, prefixed, receives, waits, delimits, replicates, delimitsAtom, delimitsAt, below}
 use Rattle.cows.specs.Places.{Frame, inside, leftOf, rightOf, plug, Way, fill, Spot, wayTo, sub, first, encloses, frameDelimits, enclosed, frameChooses}
 use Rattle.cows.specs.Active.{passesLive, live, ready, wanted}
 
@@ -88,7 +88,7 @@ matched a differs = refuse 12 a
 -- 13: the delimitation of a variable encloses both parties, and that of its value, if there is one, the variable's.
 -- (A delimitation of x that stands outside every one of v.)
 unfoldable pub outside : ℕ → ℕ → ℕ → Spot → Bool
-outside v x n z = holds (eqb x) (prefixed delimits (z .here)) && not (enclosed v (z .way))
+outside v x n z = delimitsAt x (z .here) && not (enclosed v (z .way))
 
 unfoldable pub inScope : Term → ℕ → ℕ → (ℕ × ℕ) → Bool
 inScope t a b p =

@@ -6,7 +6,7 @@ use Prim.Native.Nat.{ℕ, zero, suc, _+_, _%_}
 use lib.Dec.{ltb, eqb}
 use lib.ListN.{length}
 use Rattle.cows.specs.Basics.{any, member, holds, found, placeIf, orElse, firstFrom, Result, accept, _>>=_, _>>_, forbid}
-use Rattle.cows.specs.Terms.{Term, value, bindable, guard, uses, binders, delimits, prefixed}
+use Rattle.cows.specs.Terms.{Term, value, bindable, guard, uses, binders, delimits, delimitsAt, prefixed}
 use Rattle.cows.specs.Places.{Way, Spot, sub, first, enclosed, frameChooses}
 use Rattle.cows.specs.Format.{Node, rightRecord, node, records, children, decode}
 
@@ -44,7 +44,7 @@ unbound n z = any (λ a. bindable a && not (enclosed a (z .way))) (uses (z .here
 
 -- 7: a second delimitation of an atom (an earlier record of the table t delimits it) ..
 unfoldable pub delimitedBefore : Term → ℕ → ℕ → Bool
-delimitedBefore t n d = found (firstFrom (λ m. holds (eqb d) (prefixed delimits (sub t m))) 0 n)
+delimitedBefore t n d = found (firstFrom (λ m. delimitsAt d (sub t m)) 0 n)
 
 unfoldable pub again : Term → ℕ → Spot → Bool
 again t n z = holds (delimitedBefore t n) (prefixed delimits (z .here))

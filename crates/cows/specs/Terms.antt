@@ -120,6 +120,10 @@ replicates replication = some tt
 unfoldable pub delimitsAtom : ℕ → Prefix → Bool
 delimitsAtom d u = holds (eqb d) (delimits u)
 
+-- the term is a delimitation of d
+abbrev pub delimitsAt : ℕ → Term → Bool
+delimitsAt d t = holds (eqb d) (prefixed delimits t)
+
 -- what stands behind a prefix: a continuation, a body
 unfoldable pub below : Term → Term
 below (leaf x) = leaf nil

@@ -16,7 +16,7 @@ use Rattle.cows.specs.Within.{one}
 use Rattle.cows.proofs.Basics.{lt-case}
 use Rattle.cows.proofs.Places.{size-pos}
 use Rattle.cows.proofs.Stands.{delimits-is, prefixed-is, delimited-member}
-use Rattle.cows.proofs.Reach.{delimitsAt, is-delimitsAt, reachOf, before-reach, binders-reach}
+use Rattle.cows.proofs.Reach.{is-delimitsAt, reachOf, before-reach, binders-reach}
 use Rattle.tables.specs.Scopes.{enteredOf, markOf}
 
 no-delimits : (s : Term) → kindOf s ≢ 8 → prefixed delimits s ≡ none
@@ -36,7 +36,7 @@ entered-none t a = refl
 
 module _ (t : Term) (j : ℕ) (h : kindOf (sub t j) ≢ 8) (a : ℕ) where
   reach-pass : reachOf t a j ≡ reachOf t a (suc j)
-  unfolding reachOf delimitsAt holds
+  unfolding reachOf holds
   reach-pass = rw (no-delimits (sub t j) h)
 
   pub entered-pass : enteredOf t j a ≡ enteredOf t (suc j) a
@@ -54,7 +54,7 @@ module _ (t : Term) (j d : ℕ) {c : Term} (is : sub t j ≡ under (delimitation
   reach-here = rw (is-delimitsAt d (sub t j) c is)
 
   reach-other : (a : ℕ) → a ≢ d → reachOf t a (suc j) ≡ reachOf t a j
-  unfolding reachOf delimitsAt holds prefixed delimits
+  unfolding reachOf holds prefixed delimits
   reach-other a h = rw (is, ne-eqb a d h)
 
   pub entered-here : enteredOf t (suc j) d ≡ 1
