@@ -14,7 +14,7 @@ use Rattle.cows.specs.Within.{Right, Guarded, one, counts, restricted, n
 use Rattle.cows.specs.Moves.{Substitution, Matching, binds, differs, extend, match, closedEnds, fit, matched, outside, inScope, mapAtoms, image, instantiate, bind}
 use Rattle.cows.proofs.Basics.{never, cond-case, and-true, and-not, or-false, or-left, or-right, or-second, or-case, not-so, found-none, holds-some, same-accept}
 use Rattle.cows.proofs.Places.{Everywhere, at-first, at-under, at-left, at-right, Fails, first-none}
-use Rattle.cows.proofs.Renaming.{value-range, variable-range, label-range}
+use Rattle.cows.proofs.Sets.{value-range, variable-range, label-range}
 use Rattle.cows.proofs.Scopes.{Rule, inner, Used, local, Need, Inside, Weakens, And, inside-refl, need-weakens, all-map, used-mono, used-both, used-any, used-scoped, scoped-used, restricted-mono}
 use Rattle.cows.proofs.Mapping.{Carries, Fits, guarded-mapped, used-mapped, counts-mapped, right-mapped}
 use Rattle.cows.proofs.Parts.{Sound, Part, part-used, part-counts}

@@ -1,5 +1,6 @@
 pub mod Basics
 pub mod Places
+pub mod Sets
 pub mod Renaming
 pub mod Records
 pub mod Format

@@ -13,7 +13,7 @@ use Rattle.cows.specs.Terms.{nil, kill, invoke, receive, wait, protectio
 use Rattle.cows.specs.Format.{Bytes, bytes2, byte, word, Node, basic, prefix, join, layout, record16, unused, interval, distinct, data4, pattern4, empty4, Row, kinds, row, rowOf, slots, rightRow, rightRecord, tuple, node}
 use Rattle.cows.specs.Within.{RightTuple, RightBasic, RightPrefix}
 use Rattle.cows.proofs.Basics.{and-true, true-and, or-left}
-use Rattle.cows.proofs.Renaming.{set-case, value-range, variable-range, label-range}
+use Rattle.cows.proofs.Sets.{set-case, value-range, variable-range, label-range}
 
 -- what a right record may hold
 abbrev pub RightNode : Node → Type 0

@@ -11,7 +11,7 @@ use Rattle.cows.specs.Basics.{any, every, member}
 use Rattle.cows.specs.Terms.{value, variable, label, datum, atom}
 use Rattle.cows.specs.Format.{byte, word, unused, interval, distinct, data4, pattern4, empty4, row, kinds, rowOf, slots, rightRow, rightRecord}
 use Rattle.cows.proofs.Basics.{and-true as and-parts, true-and, lt-case, same-test, member-append}
-use Rattle.cows.proofs.Renaming.{variable-range}
+use Rattle.cows.proofs.Sets.{variable-range}
 use Rattle.records.specs.Rows.{quad, inRange, slotRight, tupleRow, plainRight}
 
 -- A test says a fact: it is true exactly if the fact holds. Two tests that say the same are equal.

@@ -16,7 +16,7 @@ use Rattle.cows.specs.Places.{spot, wayTo, sub, enclosed}
 use Rattle.cows.specs.Format.{byte, word, root, layout, record16, kindOf}
 use Rattle.cows.specs.Tables.{unbound, escaped}
 use Rattle.cows.proofs.Basics.{lt-case, and-true, true-and, or-left, or-right, or-false, or-none, or-case, any-append}
-use Rattle.cows.proofs.Renaming.{set-case, value-range, variable-range, label-range}
+use Rattle.cows.proofs.Sets.{set-case, value-range, variable-range, label-range}
 use Rattle.cows.proofs.Stands.{right-at}
 use Rattle.cows.proofs.Reach.{reachOf, reaches-on, reach-some, some-reach, enclosed-reach, binders-reach}
 use Rattle.cows.proofs.Format.{length-encode}
