@@ -1,4 +1,5 @@
 // Records: atoms and their three sets, the numbers in a record's bytes, and how many children a kind has.
+pub mod copying;
 pub mod ends;
 pub mod rows;
 

@@ -1,0 +1,86 @@
+-- Terms that stand at a byte of a table (specs/Rewrites): their first record, their children, their places in a table that holds a term.
+use mathlib.Core.Path.{_≡_, refl, sym, ap, subst, _∙_}
+use mathlib.Core.Logic.{_≢_}
+use mathlib.Core.List.{List, [], _∷_, _++_, append-nil}
+use Prim.Native.Nat.{ℕ, _+_, _*_, _≤_, _<_}
+use native.Mathlib.Omega.{arith}
+use lib.ListN.{length, take, drop, getD}
+use Rattle.cows.specs.Terms.{Basic, nil, kill, invoke, Prefix, receive, wait, protection, delimitation, replication, Join, choice, parallel, Term, leaf, under, both, size}
+use Rattle.cows.specs.Places.{sub}
+use Rattle.cows.specs.Format.{byte, Node, basic, prefix, join, nodes, root, layout, record16, kindOf, bytes, encode}
+use Rattle.cows.proofs.Places.{size-pos}
+use Rattle.cows.proofs.Records.{length-record16}
+use Rattle.cows.proofs.Format.{length-encode}
+use Rattle.cows.proofs.Fields.{append-bytes, first-bytes, table-at}
+use Rattle.records.specs.Holds.{Holds}
+use Rattle.records.specs.Rewrites.{Has, Stands}
+use Rattle.records.proofs.Put.{has-left, has-right, has-take, has-fits, has-byte}
+
+-- A term's bytes: its first record, then its children's.
+pub encode-leaf : (x : Basic) → encode (leaf x) ≡ record16 (basic x)
+unfolding encode nodes bytes
+encode-leaf x = append-nil (record16 (basic x))
+
+pub encode-under : (u : Prefix) (t : Term) → encode (under u t) ≡ record16 (prefix u) ++ encode t
+unfolding encode nodes bytes
+encode-under u t = refl
+
+pub encode-both : (j : Join) (s t : Term) → encode (both j s t) ≡ record16 (join j) ++ (encode s ++ encode t)
+unfolding encode nodes bytes
+encode-both j s t = ap (λ l. record16 (join j) ++ l) (append-bytes (nodes s) (nodes t))
+
+pub long : (t : Term) → 16 ≤ length (encode t)
+long t = omega (arith, length-encode t, size-pos t)
+
+-- the kinds by the number of children
+pub leaf-kind : (x : Basic) → kindOf (leaf x) < 3
+unfolding kindOf root record16 layout byte
+leaf-kind nil = omega arith
+leaf-kind (kill k) = omega arith
+leaf-kind (invoke p o ws) = omega arith
+
+pub under-kind : (u : Prefix) (t : Term) → (3 ≤ kindOf (under u t)) × (kindOf (under u t) ≢ 5) × (kindOf (under u t) ≢ 6)
+unfolding kindOf root record16 layout byte
+under-kind (receive p o ws) t = omega arith
+under-kind (wait n) t = omega arith
+under-kind protection t = omega arith
+under-kind (delimitation d) t = omega arith
+under-kind replication t = omega arith
+
+pub both-kind : (j : Join) (s t : Term) → (5 ≤ kindOf (both j s t)) × (kindOf (both j s t) < 7)
+unfolding kindOf root record16 layout byte
+both-kind choice s t = omega arith
+both-kind parallel s t = omega arith
+
+-- A term at byte i of s.
+module _ {s : List ℕ} {i : ℕ} where
+  pub stands-first : (t : Term) → Stands s i t → Has s i (record16 (root t))
+  stands-first t h = let (b, e) = first-bytes t in has-left (record16 (root t)) b (subst (Has s i) e h)
+
+  pub stands-record : (t : Term) → Stands s i t → take 16 (drop i s) ≡ record16 (root t)
+  stands-record t h = rw (length-record16 (root t)) at (has-take (record16 (root t)) (stands-first t h))
+
+  pub stands-kind : (t : Term) → Stands s i t → getD s i 0 ≡ kindOf t
+  unfolding kindOf byte
+  stands-kind t h =
+      let z : i ≡ i + 0 = omega arith in
+      ap (λ k. getD s k 0) z ∙ has-byte (record16 (root t)) 0 (omega (arith, length-record16 (root t))) (stands-first t h)
+
+  pub stands-fits : (t : Term) → Stands s i t → i + length (encode t) ≤ length s
+  stands-fits t h = has-fits (encode t) (omega (arith, long t)) h
+
+  pub stands-under : (u : Prefix) (t : Term) → Stands s i (under u t) → Stands s (i + 16) t
+  stands-under u t h = has-right (record16 (prefix u)) (encode t) (i + 16) (rw (length-record16 (prefix u))) (subst (Has s i) (encode-under u t) h)
+
+  stands-below : (j : Join) (l r : Term) → Stands s i (both j l r) → Has s (i + 16) (encode l ++ encode r)
+  stands-below j l r h = has-right (record16 (join j)) (encode l ++ encode r) (i + 16) (rw (length-record16 (join j))) (subst (Has s i) (encode-both j l r) h)
+
+  pub stands-left : (j : Join) (l r : Term) → Stands s i (both j l r) → Stands s (i + 16) l
+  stands-left j l r h = has-left (encode l) (encode r) (stands-below j l r h)
+
+  pub stands-right : (j : Join) (l r : Term) (p : ℕ) → p ≡ i + 16 + length (encode l) → Stands s i (both j l r) → Stands s p r
+  stands-right j l r p e h = has-right (encode l) (encode r) p e (stands-below j l r h)
+
+-- the part at a place of a table that holds a term stands there
+pub holds-stands : (s : List ℕ) (t : Term) (n : ℕ) → Holds s t → n < size t → Stands s (16 * n) (sub t n)
+holds-stands s t n h l = let (b, e) = table-at t n l in record { rest = b; is = ap (drop (16 * n)) (h .is) ∙ e }

@@ -1,0 +1,12 @@
+use borrow.Author.Needs.{needs}
+use Rattle.cows.specs.Format.{encode, nodes, bytes, record16, layout, bytes2}
+use Rattle.records.proofs.Rewrites.{nil-gives}
+use Rattle.records.proofs.copying.nil_at.Statement.{statement}
+use Rattle.records.proofs.copying.nil_at.Tie as tie
+
+returns : tie.Need-returns
+unfolding encode nodes bytes record16 layout bytes2
+returns c = nil-gives (search needs) (c .before .before .copy .ensures)
+
+pub nil-at-spec : {M : Type 1} → statement M
+nil-at-spec = tie.close (tie.spec (λ c. search needs) (λ c κs. search needs) (λ c. search needs) (λ c. search needs) returns)

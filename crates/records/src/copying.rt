@@ -1,0 +1,42 @@
+// Copying: bytes, whole terms, and nil in the place of a term. Places are bytes.
+ghost use mathlib.Core.Path.{_≡_};
+ghost use Prim.Native.Nat.{_+_, _≤_};
+ghost use lib.ListN.{length, take, drop};
+ghost use Rattle.records.specs.Rewrites.{put, Passes, Ready, Rewrites, same, gone};
+
+// Where reading and writing go on.
+pub struct Places(pub usize, pub usize);
+
+// Copies `len` bytes of src from byte `from` on into dst from byte `to` on.
+pub fn copy(src: &[u8], from: usize, len: usize, dst: &mut [u8], to: usize)
+    requires { ⌜ (from + len ≤ length (now src)) × (to + len ≤ length (now dst)) ⌝ }
+    ensures { λ _. ⌜ now (dst .exit) ≡ put (now (dst .entry)) to (take len (drop from (now (src .entry)))) ⌝ }
+{
+    let mut i = 0;
+    while i < len {
+        dst[to + i] = src[from + i];
+        i += 1;
+    }
+}
+
+// Copies the term at byte `at`, which ends at byte `end`.
+pub fn copy_term(src: &[u8], at: usize, end: usize, dst: &mut [u8], to: usize) -> Places
+    requires { ⌜ Ready same (now src) at (now dst) to ⌝ }
+    requires { ⌜ Passes (now src) at end ⌝ }
+    ensures { λ r. ⌜ Rewrites same (now (src .entry)) at (now (dst .entry)) to (now (dst .exit)) (r .0) (r .1) ⌝ }
+{
+    let len = end - at;
+    copy(src, at, len, dst, to);
+    Places(end, to + len)
+}
+
+// Writes nil for the term at byte `at`, which ends at byte `end`.
+pub fn nil_at(src: &[u8], at: usize, end: usize, dst: &mut [u8], to: usize) -> Places
+    requires { ⌜ Ready gone (now src) at (now dst) to ⌝ }
+    requires { ⌜ Passes (now src) at end ⌝ }
+    ensures { λ r. ⌜ Rewrites gone (now (src .entry)) at (now (dst .entry)) to (now (dst .exit)) (r .0) (r .1) ⌝ }
+{
+    let zeros = [0u8; 16];
+    copy(&zeros, 0, 16, dst, to);
+    Places(end, to + 16)
+}
