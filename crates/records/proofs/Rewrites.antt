@@ -1,15 +1,18 @@
 -- Rewriting (specs/Rewrites), once for every f: what one step of a recursion asks and gives, at a leaf, at one child and at two.
-use mathlib.Core.Path.{_≡_, refl, sym, ap, subst, _∙_}
+use mathlib.Core.Path.{_≡_, sym, ap, _∙_}
 use mathlib.Core.Logic.{_≢_}
 use mathlib.Core.List.{List, _++_}
-use Prim.Native.Nat.{ℕ, _+_, _-_, _≤_, _<_}
+use Prim.Native.Nat.{ℕ, _+_, _*_, _-_, _≤_, _<_}
 use native.Mathlib.Omega.{arith}
 use lib.ListN.{length, take, drop, getD, length-append}
 use Rattle.cows.specs.Terms.{Basic, nil, Prefix, Join, Term, leaf, under, both, size}
-use Rattle.cows.specs.Format.{root, record16, kindOf, encode}
-use Rattle.cows.proofs.Format.{length-encode}
+use Rattle.cows.specs.Format.{root, record16, encode}
+use Rattle.cows.specs.Within.{Right}
+use Rattle.cows.proofs.Format.{length-encode, encode-injective}
+use Rattle.records.specs.Ends.{endAt}
 use Rattle.records.specs.Rewrites.{put, Stands, Passes, Ready, Done, Rewrites, same, gone}
 use Rattle.records.proofs.Put.{and-then, has-take}
+use Rattle.records.proofs.Shapes.{end-stands}
 use Rattle.records.proofs.Stands.{long, leaf-kind, under-kind, both-kind, stands-kind, stands-record, stands-fits, stands-under, stands-left, stands-right}
 
 -- the contract's records, with the fields that follow filled in
@@ -19,6 +22,29 @@ module _ {f : Term → Term} {s : List ℕ} {i : ℕ} {d : List ℕ} {j : ℕ} w
 
   pub gives : {g : Term → Term} {e : List ℕ} {p q : ℕ} → Ready g s i d j → ((t : Term) → Stands s i t → Done f t i d j e p q) → Rewrites f s i d j e p q
   gives r h = record { past = omega (arith, long (r .term), h (r .term) (r .stands) .next); done = h }
+
+-- At most one right term stands at a byte, and all that stand there are of one size.
+module _ {s : List ℕ} {i : ℕ} where
+  stands-start : (t : Term) → Stands s i t → Stands (drop i s) (16 * 0) t
+  stands-start t h = record { rest = h .rest; is = h .is }
+
+  pub one-size : (t u : Term) → Stands s i t → Stands s i u → size t ≡ size u
+  one-size t u h k = omega (arith, end-stands (drop i s) t 0 (stands-start t h), end-stands (drop i s) u 0 (stands-start u k))
+
+  pub one-length : (t u : Term) → Stands s i t → Stands s i u → length (encode t) ≡ length (encode u)
+  one-length t u h k = omega (arith, length-encode t, length-encode u, one-size t u h k)
+
+  pub one-term : (t u : Term) → Right t → Right u → Stands s i t → Stands s i u → t ≡ u
+  one-term t u a b h k =
+      encode-injective t u a b (sym (has-take (encode t) h) ∙ rw (one-length t u h k) (has-take (encode u) k))
+
+  -- so the end of one of them is the end of all
+  pub passes : (t : Term) (p : ℕ) → Stands s i t → p ≡ i + length (encode t) → Passes s i p
+  passes t p h e =
+      record { past = omega (arith, long t); within = omega (arith, stands-fits t h); end = λ u k. omega (arith, one-length t u h k) }
+
+pub passes-end : (s : List ℕ) (t : Term) (m : ℕ) → Stands s (16 * m) t → Passes s (16 * m) (16 * endAt s m)
+passes-end s t m h = passes t (16 * endAt s m) h (omega (arith, end-stands s t m h, length-encode t))
 
 length-leaf : (x : Basic) → length (encode (leaf x)) ≡ 16
 unfolding size

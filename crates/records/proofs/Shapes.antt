@@ -1,11 +1,10 @@
 -- Where terms end (specs/Ends): one term after the other; the ends that a backward pass finds; the shape of a table by its first end.
-use mathlib.Core.Path.{_≡_, refl, sym, ap, _∙_}
+use mathlib.Core.Path.{_≡_, refl, sym, ap, subst, _∙_}
 use mathlib.Core.Option.{Option, none, some}
-use mathlib.Core.List.{List, [], _∷_, _++_, map, append-assoc}
+use mathlib.Core.List.{List, [], _∷_, map}
 use Prim.Native.Nat.{ℕ, zero, suc, _+_, _*_, _-_, _/_, _≤_, _<_}
 use native.Mathlib.Omega.{arith}
 use native.Mathlib.Nat.{zero-add, suc-add, sub-self}
-use native.Mathlib.Numerals.{add-one}
 use mathlib.Core.Bool.{true, not}
 use lib.Dec.{ltb, eqb}
 use lib.ListN.{length, getD, set, drop, length-set, length-drop, length-map, drop-of-length-le}
@@ -13,14 +12,15 @@ use lib.Seq.{drop-drop, drop-nil, getD-set-same, getD-set-other}
 use borrow.Author.Tests.{ltb-true, eqb-true, eqb-false, not-false}
 use Rattle.cows.specs.Basics.{placeIf}
 use Rattle.cows.specs.Terms.{nil, kill, invoke, receive, wait, protection, delimitation, replication, choice, parallel, Term, leaf, under, both, size}
-use Rattle.cows.specs.Places.{spot, sub}
-use Rattle.cows.specs.Format.{byte, rightRecord, kinds, Node, basic, prefix, join, nodes, layout, record16, bytes, encode, node, children, records}
+use Rattle.cows.specs.Places.{sub}
+use Rattle.cows.specs.Format.{byte, rightRecord, kinds, Node, basic, prefix, join, root, layout, record16, kindOf, encode, node, children, records}
 use Rattle.cows.specs.Tables.{firstWrong, misshapen}
-use Rattle.cows.proofs.Format.{records-bytes}
-use Rattle.cows.proofs.Fields.{nodes-spot}
+use Rattle.cows.proofs.Format.{length-encode}
 use Rattle.cows.proofs.Basics.{bool-case, and-true, orElse-none, placeIf-none}
 use Rattle.records.specs.Ends.{childrenOf, after, kindsOf, endAt, pickEnd, EndsFrom}
+use Rattle.records.specs.Rewrites.{Stands}
 use Rattle.records.proofs.Pieces.{first-piece, length-records, records-cons}
+use Rattle.records.proofs.Stands.{long, stands-kind, stands-fits, stands-under, stands-left, stands-right, part-stands}
 
 -- Terms read from place n on in records rs, with `over` past the last of them.
 module _ {A : Type 0} (wants : A → ℕ) (over : ℕ) where
@@ -210,7 +210,7 @@ end-shape s h =
     rw (after-same childrenOf children (suc (length s / 16)) 1 0 _ (map node (records s)) (map-children 0 (records s) h), ← l)
     (shape-after (suc (0 + length (map node (records s)))) 1 0 (map node (records s)) (omega arith))
 
--- A term's table: the records of the part at a place end the part's size behind it.
+-- A term that stands at a place ends its size behind it.
 node-children : (r : Node) → childrenOf (byte (record16 r) 0) ≡ children r
 unfolding record16 layout byte childrenOf children
 node-children (basic nil) = refl
@@ -224,28 +224,29 @@ node-children (prefix replication) = refl
 node-children (join choice) = refl
 node-children (join parallel) = refl
 
-map-nodes : (ns : List Node) → map childrenOf (map (λ b. byte b 0) (map record16 ns)) ≡ map children ns
-map-nodes [] = refl
-map-nodes (r ∷ ns) = rw (node-children r, map-nodes ns)
+few-children : (r : Node) → children r ≤ 2
+unfolding children
+few-children (basic x) = omega arith
+few-children (prefix u) = omega arith
+few-children (join j) = omega arith
 
-pub after-nodes : (over : ℕ) (t : Term) (w n : ℕ) (ns : List Node) → after children over (suc w) n (nodes t ++ ns) ≡ after children over w (n + size t) ns
-unfolding after nodes size children
-after-nodes over (leaf x) w n ns = rw (zero-add, add-one)
-after-nodes over (under u t) w n ns =
-    let e : 1 + w ≡ suc w = omega arith in
-    let f : n + suc (size t) ≡ suc n + size t = omega arith in
-    ap (λ v. after children over v (suc n) (nodes t ++ ns)) e ∙ rw f (after-nodes over t w (suc n) ns)
-after-nodes over (both j s t) w n ns =
-    let e : 2 + w ≡ suc (suc w) = omega arith in
-    let f : n + suc (size s + size t) ≡ suc n + size s + size t = omega arith in
-    ap (λ v. after children over v (suc n) ((nodes s ++ nodes t) ++ ns)) e
-    ∙ rw (f, append-assoc (nodes s) (nodes t) ns) (after-nodes over s (suc w) (suc n) (nodes t ++ ns) ∙ after-nodes over t w (suc n + size s) ns)
+module _ (s : List ℕ) where
+  end-first : (t : Term) (m : ℕ) → Stands s (16 * m) t → endAt s m ≡ pickEnd (children (root t)) (suc m) (endAt s (suc m)) (endAt s (endAt s (suc m)))
+  unfolding kindOf
+  end-first t m h =
+      end-pick s m (children (root t)) (omega (arith, long t, stands-fits t h)) (sym (ap childrenOf (stands-kind t h) ∙ node-children (root t))) (few-children (root t))
+
+  stands-next : (t : Term) (m : ℕ) → Stands s (16 * m + 16) t → Stands s (16 * suc m) t
+  stands-next t m h = subst (λ i. Stands s i t) (omega arith) h
+
+  pub end-stands : (t : Term) (m : ℕ) → Stands s (16 * m) t → endAt s m ≡ m + size t
+  unfolding size root children pickEnd
+  end-stands (leaf x) m h = end-first (leaf x) m h ∙ omega arith
+  end-stands (under u t) m h = end-first (under u t) m h ∙ (end-stands t (suc m) (stands-next t m (stands-under u t h)) ∙ omega arith)
+  end-stands (both j l r) m h =
+      let a = end-stands l (suc m) (stands-next l m (stands-left j l r h)) in
+      let b = end-stands r (suc m + size l) (stands-right j l r (16 * (suc m + size l)) (omega (arith, length-encode l)) h) in
+      end-first (both j l r) m h ∙ (ap (endAt s) a ∙ (b ∙ omega arith))
 
 pub end-term : (t : Term) (m : ℕ) → m < size t → endAt (encode t) m ≡ m + size (sub t m)
-unfolding endAt kindsOf encode sub
-end-term t m h =
-    let (ns, e) = nodes-spot t m h in
-    let over = suc (length (bytes (nodes t)) / 16) in
-    rw (records-bytes (nodes t), drop-map (λ b. byte b 0) m (map record16 (nodes t)), drop-map record16 m (nodes t), e)
-    (after-same childrenOf children over 1 m _ (nodes (spot t m .here) ++ ns) (map-nodes (nodes (spot t m .here) ++ ns))
-    ∙ (after-nodes over (spot t m .here) 0 m ns ∙ after-none children over (m + size (spot t m .here)) ns))
+end-term t m l = end-stands (encode t) (sub t m) m (part-stands t m l)

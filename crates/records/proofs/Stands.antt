@@ -1,13 +1,13 @@
 -- Terms that stand at a byte of a table (specs/Rewrites): their first record, their children, their places in a table that holds a term.
-use mathlib.Core.Path.{_≡_, refl, sym, ap, subst, _∙_}
+use mathlib.Core.Path.{_≡_, refl, ap, subst, _∙_}
 use mathlib.Core.Logic.{_≢_}
-use mathlib.Core.List.{List, [], _∷_, _++_, append-nil}
+use mathlib.Core.List.{List, _++_, append-nil}
 use Prim.Native.Nat.{ℕ, _+_, _*_, _≤_, _<_}
 use native.Mathlib.Omega.{arith}
 use lib.ListN.{length, take, drop, getD}
 use Rattle.cows.specs.Terms.{Basic, nil, kill, invoke, Prefix, receive, wait, protection, delimitation, replication, Join, choice, parallel, Term, leaf, under, both, size}
 use Rattle.cows.specs.Places.{sub}
-use Rattle.cows.specs.Format.{byte, Node, basic, prefix, join, nodes, root, layout, record16, kindOf, bytes, encode}
+use Rattle.cows.specs.Format.{byte, basic, prefix, join, nodes, root, layout, record16, kindOf, bytes, encode}
 use Rattle.cows.proofs.Places.{size-pos}
 use Rattle.cows.proofs.Records.{length-record16}
 use Rattle.cows.proofs.Format.{length-encode}
@@ -81,6 +81,9 @@ module _ {s : List ℕ} {i : ℕ} where
   pub stands-right : (j : Join) (l r : Term) (p : ℕ) → p ≡ i + 16 + length (encode l) → Stands s i (both j l r) → Stands s p r
   stands-right j l r p e h = has-right (encode l) (encode r) p e (stands-below j l r h)
 
--- the part at a place of a table that holds a term stands there
+-- the part at a place of a term stands there in its table
+pub part-stands : (t : Term) (n : ℕ) → n < size t → Stands (encode t) (16 * n) (sub t n)
+part-stands t n l = let (b, e) = table-at t n l in record { rest = b; is = e }
+
 pub holds-stands : (s : List ℕ) (t : Term) (n : ℕ) → Holds s t → n < size t → Stands s (16 * n) (sub t n)
-holds-stands s t n h l = let (b, e) = table-at t n l in record { rest = b; is = ap (drop (16 * n)) (h .is) ∙ e }
+holds-stands s t n h l = rw (h .is) (part-stands t n l)

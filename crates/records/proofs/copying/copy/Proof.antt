@@ -1,9 +1,9 @@
 use Rattle.records.proofs.copying.copy.Statement.{statement}
 use Rattle.records.proofs.copying.copy.Tie as tie
-use mathlib.Core.Path.{_≡_, refl, sym, ap, _∙_}
-use Prim.Native.Nat.{_≤_, _-_, _+_}
+use mathlib.Core.Path.{_≡_, refl, _∙_}
+use Prim.Native.Nat.{_≤_, _-_}
 use native.Mathlib.Omega.{arith}
-use lib.ListN.{length, take, drop, set, length-drop, length-set}
+use lib.ListN.{length, take, drop, length-drop, length-set}
 use lib.Seq.{getD-drop}
 use Rattle.records.specs.Rewrites.{put}
 use Rattle.records.proofs.Put.{put-more}
