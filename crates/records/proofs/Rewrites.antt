@@ -15,13 +15,9 @@ use Rattle.records.proofs.Put.{and-then, has-take}
 use Rattle.records.proofs.Shapes.{end-stands}
 use Rattle.records.proofs.Stands.{long, leaf-kind, under-kind, both-kind, stands-kind, stands-record, stands-fits, stands-under, stands-left, stands-right}
 
--- the contract's records, with the fields that follow filled in
-module _ {f : Term → Term} {s : List ℕ} {i : ℕ} {d : List ℕ} {j : ℕ} where
-  pub ready : (t : Term) → Stands s i t → j + length (encode (f t)) ≤ length d → Ready f s i d j
-  ready t h room = record { term = t; stands = h; room = room; inside = omega (arith, long t, stands-fits t h); space = omega (arith, long (f t)) }
-
-  pub gives : {g : Term → Term} {e : List ℕ} {p q : ℕ} → Ready g s i d j → ((t : Term) → Stands s i t → Done f t i d j e p q) → Rewrites f s i d j e p q
-  gives r h = record { past = omega (arith, long (r .term), h (r .term) (r .stands) .next); done = h }
+-- what is asked, with the fields that follow filled in
+pub ready : {f : Term → Term} {s : List ℕ} {i : ℕ} {d : List ℕ} {j : ℕ} (t : Term) → Stands s i t → j + length (encode (f t)) ≤ length d → Ready f s i d j
+ready {f} t h room = record { term = t; stands = h; room = room; inside = omega (arith, long t, stands-fits t h); space = omega (arith, long (f t)) }
 
 -- At most one right term stands at a byte, and all that stand there are of one size.
 module _ {s : List ℕ} {i : ℕ} where
@@ -55,8 +51,8 @@ module _ {s : List ℕ} {i : ℕ} {d : List ℕ} {j p : ℕ} where
   pub copy-asks : Ready same s i d j → Passes s i p → (i + (p - i) ≤ length s) × (j + (p - i) ≤ length d)
   copy-asks r w = omega (arith, r .room, w .past, w .within, w .end (r .term) (r .stands))
 
-  pub copy-gives : {e : List ℕ} → Ready same s i d j → Passes s i p → e ≡ put d j (take (p - i) (drop i s)) → Rewrites same s i d j e p (j + (p - i))
-  copy-gives r w h =
+  pub copy-gives : {e : List ℕ} → Passes s i p → e ≡ put d j (take (p - i) (drop i s)) → Rewrites same s i d j e p (j + (p - i))
+  copy-gives w h =
       record {
         past = w .past;
         done = λ t x.

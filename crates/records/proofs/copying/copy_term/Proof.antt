@@ -7,4 +7,4 @@ pub copy-term-spec : {M : Type 1} → statement M
 copy-term-spec =
     tie.close
     (tie.spec (λ c. search needs) (λ c κs. let r = c .before .before .before .pre in copy-asks (r .0) (r .1)) (λ c. search needs) (λ c. search needs)
-    (λ c. copy-gives (search needs) (search needs) (search needs)))
+    (λ c. copy-gives (search needs) (search needs)))
