@@ -3,9 +3,10 @@ use mathlib.Core.Path.{_≡_, refl, sym, ap, _∙_}
 use mathlib.Core.Bool.{Bool, true, false, cond, not, _&&_, _||_}
 use mathlib.Core.Option.{Option, none, some}
 use mathlib.Core.List.{List, [], _∷_, _++_}
-use Prim.Native.Nat.{ℕ, zero, suc, _+_, _≤_, _<_}
+use Prim.Native.Nat.{ℕ, zero, suc, _+_, _-_, _≤_, _<_}
 use native.Mathlib.Omega.{arith}
 use native.Mathlib.Nat.{zero-add, add-zero, suc-add}
+use native.Mathlib.Numerals.{add-one}
 use lib.Dec.{ltb, eqb}
 use borrow.Author.Tests.{ltb-true, ltb-false, eqb-true, eq-eqb}
 use Rattle.cows.specs.Basics.{any, every, member, same, holds, found, only, placeIf, orElse, firstFrom, Result, refuse, accept, _>>=_, _>>_, forbid, need}
@@ -66,6 +67,14 @@ or-both {a = false} {c = c} {d = d} f g h = or-right c d (g h)
 pub or-none : (a : Bool) → (a || false) ≡ a
 or-none true = refl
 or-none false = refl
+
+pub and-none : (a : Bool) → (a && false) ≡ false
+and-none true = refl
+and-none false = refl
+
+pub and-one : (a : Bool) → (a && true) ≡ a
+and-one true = refl
+and-one false = refl
 
 pub or-swap : (a b c : Bool) → (a || (b || c)) ≡ true → (b || (a || c)) ≡ true
 or-swap true b c h = or-right b true refl
@@ -209,6 +218,22 @@ firstFrom-append f n zero b = unfold orElse in rw (zero-add, add-zero)
 firstFrom-append f n (suc a) b =
     let z : n + suc a ≡ suc n + a = omega arith in
     rw (suc-add, firstFrom-append f (suc n) a b, z) (sym (orElse-assoc (placeIf (f n) n) _ _))
+
+-- a search among the places below n, from place j on: one place more, none left, and places passed over
+pub from-next : (f : ℕ → Bool) (j n : ℕ) → j < n → firstFrom f j (n - j) ≡ orElse (placeIf (f j) j) (firstFrom f (j + 1) (n - (j + 1)))
+unfolding firstFrom
+from-next f j n l = let e : n - j ≡ suc (n - (j + 1)) = omega arith in rw (e, add-one j)
+
+pub from-end : (f : ℕ → Bool) (j n : ℕ) → n ≤ j → firstFrom f j (n - j) ≡ none
+unfolding firstFrom
+from-end f j n l = let e : n - j ≡ 0 = omega arith in rw e
+
+pub from-skip : (f : ℕ → Bool) (j m n : ℕ) → j ≤ m → m ≤ n → ((i : ℕ) → j ≤ i → i < m → f i ≡ false) → firstFrom f j (n - j) ≡ firstFrom f m (n - m)
+unfolding orElse
+from-skip f j m n h l k =
+    let e : n - j ≡ (m - j) + (n - m) = omega arith in
+    let z : j + (m - j) ≡ m = omega arith in
+    rw e (firstFrom-append f j (m - j) (n - m) ∙ rw (none-firstFrom f j (m - j) (λ i x. k (j + i) (omega arith) (omega arith)), z))
 
 pub firstFrom-below : (f : ℕ → Bool) (n k p : ℕ) → firstFrom f n k ≡ some p → p < n + k
 unfolding firstFrom placeIf orElse

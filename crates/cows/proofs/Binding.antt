@@ -38,7 +38,7 @@ instead-weakens : (x v : ℕ) (K L : ℕ → Bool) → Inside L K → Weakens (I
 instead-weakens x v K L k a E F i h e = need-weakens K L k v E F i (h e)
 
 -- a prefix delimits one atom
-delimits-one : (a b : ℕ) (u : Prefix) → delimitsAtom a u ≡ true → delimitsAtom b u ≡ true → a ≡ b
+pub delimits-one : (a b : ℕ) (u : Prefix) → delimitsAtom a u ≡ true → delimitsAtom b u ≡ true → a ≡ b
 unfolding delimitsAtom
 delimits-one a b u h k =
     let (c, e, p) = holds-some (eqb a) (delimits u) h in
@@ -117,7 +117,7 @@ module _ (x v : ℕ) (vx : variable x ≡ true) (vv : value v ≡ true) where
   guarded-instantiate (both parallel s t) h = (tt, guarded-instantiate s (h .1), guarded-instantiate t (h .2))
 
   -- delimitations: there is no second [x]
-  counts-at : (t : Term) → counts x t ≡ 0 → (a : ℕ) → counts a (mapAtoms at t) ≡ counts a t
+  pub counts-at : (t : Term) → counts x t ≡ 0 → (a : ℕ) → counts a (mapAtoms at t) ≡ counts a t
   counts-at t z a =
       counts-mapped at a a t (λ d l. at-case (λ c. eqb a c ≡ eqb a d) d (λ e. absurd (omega (arith, ap (λ c. counts c t) (eqb-true d x e)))) (λ e. refl))
 
@@ -184,11 +184,11 @@ module _ (x v : ℕ) (vx : variable x ≡ true) (vv : value v ≡ true) where
         private = used-scoped _ nowhere (instantiate x v t) (private-instantiate _ _ (fewer t f) nowhere t (scoped-used _ nowhere t (f .private)) i);
       }
 
-  sound-instantiate : (t : Term) → Sound t → Used (Instead x v (Need (restricted t))) nowhere t → Sound (instantiate x v t)
+  pub sound-instantiate : (t : Term) → Sound t → Used (Instead x v (Need (restricted t))) nowhere t → Sound (instantiate x v t)
   sound-instantiate t (r, f) i = (right-instantiate t r, formed-instantiate t f i)
 
   -- the pairs that are still to be bound
-  all-instantiate : (t : Term) → Formed t → (σ : Substitution) → AllBind t σ → AllBind (instantiate x v t) σ
+  pub all-instantiate : (t : Term) → Formed t → (σ : Substitution) → AllBind t σ → AllBind (instantiate x v t) σ
   all-instantiate t f = all-bind t (instantiate x v t) (λ y w vy vw. instead-instantiate _ _ (fewer t f) y w vy vw nowhere t)
 
 pub part-bind : {g : Bool} {t r : Term} → Part g t r → (σ : Substitution) → AllBind t σ → AllBind r σ

@@ -10,6 +10,8 @@ pub mod Tables
 pub mod Step
 pub mod Stands
 pub mod Reach
+pub mod Ways
+pub mod Scans
 pub mod Meeting
 pub mod Scopes
 pub mod Atoms

@@ -19,7 +19,7 @@ use Rattle.cows.proofs.Parts.{Sound, part-sound, part-kill, part-silenc
 use Rattle.cows.proofs.Stands.{right-at, wanted-is, invokeOf, invokes-is, replicates-is, prefixed-is}
 use Rattle.cows.proofs.Step.{Accepted, allowed-accepted, step-accepted}
 use Rattle.cows.proofs.Extrusion.{part-extrude}
-use Rattle.cows.proofs.Binding.{sound-bind, part-bind, all-in-scope, values-fit, matched-binds, invokes-data}
+use Rattle.cows.proofs.Binding.{AllBind, sound-bind, part-bind, all-in-scope, values-fit, matched-binds, invokes-data}
 use Rattle.cows.proofs.Silence.{silence-prefix}
 use Rattle.cows.proofs.Unfolding.{sound-afterUnfold}
 
@@ -69,17 +69,17 @@ sound-unfold t s a e small h =
     let (x, ex, e₁) = bind-accept (wanted (prefixed replicates) t a) _ s e in
     subst Sound (same-accept e₁) (sound-afterUnfold t a (prefixed-is replicates (λ i. replication) replicates-is (sub t a) x (wanted-is (prefixed replicates) t a x ex)) small h)
 
--- a communication: the invoke is silenced, the receive continues, and the pattern's variables are bound
-sound-meeting : (t : Term) (a b : ℕ) (r m : Ends) (σ : Substitution) → prefixed receives (sub t a) ≡ some r → invokes (sub t b) ≡ some m → fit r m ≡ binds σ
-    → every (inScope t a b) σ ≡ true → Sound t → Sound (bind σ (continue (silence t b) a))
+-- A communication: the invoke is silenced, the receive continues, and the pattern's variables are bound. Before they are, the term is sound, and each may take its value in it.
+pub meeting-binds : (t : Term) (a b : ℕ) (r m : Ends) (σ : Substitution) → prefixed receives (sub t a) ≡ some r → invokes (sub t b) ≡ some m → fit r m ≡ binds σ
+    → every (inScope t a b) σ ≡ true → Sound t → Sound (continue (silence t b) a) × AllBind (continue (silence t b) a) σ
 unfolding receives
-sound-meeting t a b r m σ er em ef es h =
+meeting-binds t a b r m σ er em ef es h =
     let p = part-silence t b in
     let q = part-continue (silence t b) a (silence-prefix delimits t b (invokeOf m) (invokes-is (sub t b) m em) a ∙ other-delimits receives (λ d. refl) (sub t a) r er) .1 in
     let pairs = all-in-scope t a b (h .1) σ (values-fit r m σ (invokes-data (sub t b) m em (right-at t b (h .0))) ef) es in
-    sound-bind σ (continue (silence t b) a) (part-bind q σ (part-bind p σ pairs)) (part-sound q (part-sound p h))
+    (part-sound q (part-sound p h), part-bind q σ (part-bind p σ pairs))
 
-scopes-passed : (t : Term) (a b : ℕ) (m : Ends) (σ : Substitution) (x s : Term)
+pub scopes-passed : (t : Term) (a b : ℕ) (m : Ends) (σ : Substitution) (x s : Term)
     → (forbid 13 (placeIf (not (every (inScope t a b) σ)) a) >> (forbid 14 (first (heldBack a b) t) >> (forbid 15 (first (tighter m (length σ)) t) >> accept x))) ≡ accept s
     → (every (inScope t a b) σ ≡ true) × (x ≡ s)
 scopes-passed t a b m σ x s e =
@@ -95,8 +95,8 @@ sound-communicate t s a b e h =
     let (m, em, e₂) = bind-accept (wanted invokes t b) _ s e₁ in
     let (σ, eσ, e₃) = bind-accept (matched a (fit r m)) _ s e₂ in
     let (es, is) = scopes-passed t a b m σ (bind σ (continue (silence t b) a)) s e₃ in
-    subst Sound is
-    (sound-meeting t a b r m σ (wanted-is (prefixed receives) t a r er) (wanted-is invokes t b m em) (matched-binds a (fit r m) σ eσ) es h)
+    let (k, p) = meeting-binds t a b r m σ (wanted-is (prefixed receives) t a r er) (wanted-is invokes t b m em) (matched-binds a (fit r m) σ eσ) es h in
+    subst Sound is (sound-bind σ (continue (silence t b) a) p k)
 
 -- The successor of a term within the limits is right and well formed.
 pub successor-kept : (t s : Term) (m : Move) → Within t → successor t m ≡ accept s → Right s × Formed s

@@ -232,7 +232,7 @@ length-record16 (join choice) = refl
 length-record16 (join parallel) = refl
 
 -- A right node's bytes are bytes.
-small-atom : (a : ℕ) → atom a ≡ true → a < 65536
+pub small-atom : (a : ℕ) → atom a ≡ true → a < 65536
 small-atom a h = set-case (a < 65536) a h (λ e. omega (arith, value-range a e)) (λ e. omega (arith, variable-range a e)) (λ e. omega (arith, label-range a e))
 
 small-datum : (a : ℕ) → datum a ≡ true → a < 65536

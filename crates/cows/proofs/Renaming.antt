@@ -175,7 +175,7 @@ least-below c d h s = set-case (least d ≤ c) d h
     (λ e. let (l, u) = label-range d e in
     rw (in-labels d l u .0, in-labels d l u .1) (label-range c (s .labels ∙ e) .0))
 
-fresh-smallest : (taken : List ℕ) (d : ℕ) → atom d ≡ true → length taken < 16383 → Smallest taken d (fresh taken d)
+pub fresh-smallest : (taken : List ℕ) (d : ℕ) → atom d ≡ true → length taken < 16383 → Smallest taken d (fresh taken d)
 unfolding fresh
 fresh-smallest taken d h k = record {
   set = fresh-alike taken d h k;

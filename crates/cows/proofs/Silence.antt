@@ -12,7 +12,7 @@ use Rattle.cows.proofs.Basics.{cond-case₂}
 use Rattle.cows.proofs.Places.{replaced}
 
 -- the same term but for some leaves
-data Relieved : Term → Term → Type 0 where
+pub data Relieved : Term → Term → Type 0 where
   leaves : {x y : Basic} → Relieved (leaf x) (leaf y)
   down : {u : Prefix} {t r : Term} → Relieved t r → Relieved (under u t) (under u r)
   across : {j : Join} {s t q r : Term} → Relieved s q → Relieved t r → Relieved (both j s t) (both j q r)
@@ -28,7 +28,7 @@ relieved-plug (inside u) s r h = down h
 relieved-plug (leftOf j t) s r h = across h (relieved-refl t)
 relieved-plug (rightOf j t) s r h = across (relieved-refl t) h
 
-relieved-size : {t r : Term} → Relieved t r → size t ≡ size r
+pub relieved-size : {t r : Term} → Relieved t r → size t ≡ size r
 unfolding size
 relieved-size leaves = refl
 relieved-size (down h) = ap suc (relieved-size h)
@@ -45,7 +45,7 @@ relieved-prefix f (across {j = j} {s = s} {t = t} {q = q} {r = r} h k) v w (suc 
     (cond-case₂ (λ (x y : Spot). prefixed f (x .here) ≡ prefixed f (y .here)) (ltb n (size q))
     (λ e. relieved-prefix f h (leftOf j r ∷ v) (leftOf j t ∷ w) n) (λ e. relieved-prefix f k (rightOf j q ∷ v) (rightOf j s ∷ w) (n - size q)))
 
-relieved-silence : (t : Term) (b : ℕ) (x : Basic) → sub t b ≡ leaf x → Relieved t (silence t b)
+pub relieved-silence : (t : Term) (b : ℕ) (x : Basic) → sub t b ≡ leaf x → Relieved t (silence t b)
 unfolding silence
 relieved-silence t b x e = replaced Relieved relieved-plug t b (leaf nil) (rw e leaves)
 
