@@ -48,11 +48,11 @@ range-join l m h a p q =
     lt-case _ a m (λ k. rw (lt-ltb a m k, lt-leb m a k, lt-ltb a h (omega arith)) (or-false _))
     (λ k. rw (le-ltb a m k, le-leb m a k, le-leb l a (omega arith)))
 
-datum-range : (a : ℕ) → datum a ≡ inRange 1 49152 a
+pub datum-range : (a : ℕ) → datum a ≡ inRange 1 49152 a
 unfolding datum value variable
 datum-range a = range-join 1 32768 49152 a (omega arith) (omega arith)
 
-atom-range : (a : ℕ) → atom a ≡ inRange 1 65536 a
+pub atom-range : (a : ℕ) → atom a ≡ inRange 1 65536 a
 unfolding atom label
 atom-range a = rw (datum-range a) (range-join 1 49152 65536 a (omega arith) (omega arith))
 

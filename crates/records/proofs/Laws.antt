@@ -2,14 +2,19 @@
 use mathlib.Core.Path.{_≡_, refl}
 use mathlib.Core.Logic.{_≢_}
 use mathlib.Core.Bool.{Bool, true, false}
-use Prim.Native.Nat.{ℕ, _+_, _≤_, _<_}
+use mathlib.Core.List.{[], _∷_}
+use Prim.Native.Nat.{ℕ, zero, suc, _+_, _≤_, _<_}
 use native.Mathlib.Omega.{arith}
 use lib.Dec.{leb, eqb}
+use lib.ListN.{getD}
 use mir.Syntax.{w64}
 use mir.Val.{Fits, boolByte}
 use borrow.Author.Tests.{le-leb, lt-leb, ne-eqb, eqb-true}
+use mathlib.Core.Option.{Option, none, some}
+use Rattle.records.specs.declared.Found.the-variants.{At, Nothing}
+use Rattle.records.specs.Rows.{foundOf}
 use Rattle.cows.proofs.Basics.{bool-case, lt-case}
-use Rattle.records.specs.Ends.{oneIf, childrenOf}
+use Rattle.records.specs.Ends.{oneIf, childrenOf, pickEnd}
 
 pub test-sum : (a b : Bool) → (boolByte a + boolByte b ≡ oneIf a + oneIf b) × (boolByte a + boolByte b ≤ 2)
 test-sum true true = (refl, omega arith)
@@ -40,3 +45,20 @@ children-one k e = (
 pub children-two : (k : ℕ) → childrenOf k ≡ 2 → k ≢ 5 → k ≡ 6
 unfolding childrenOf
 children-two k e h = bool-case (k ≡ 6) (eqb k 6) (eqb-true k 6) (λ z. absurd (omega (arith, test-small (leb 3 k), rw (ne-eqb k 5 h, z) at e)))
+
+-- the choice among three ends, as a lookup
+pub pick-at : (c x a b : ℕ) → c ≤ 2 → getD (x ∷ a ∷ b ∷ []) c 0 ≡ pickEnd c x a b
+unfolding pickEnd
+pick-at zero x a b h = refl
+pick-at (suc zero) x a b h = refl
+pick-at (suc (suc zero)) x a b h = refl
+pick-at (suc (suc (suc c))) x a b h = absurd (omega arith)
+
+-- a place that the code found, or none
+pub found-at : (o : Option ℕ) (p : ℕ) → At p ≡ foundOf o → o ≡ some p
+found-at none p e = cc
+found-at (some q) p e = cc
+
+pub found-nothing : (o : Option ℕ) → Nothing ≡ foundOf o → o ≡ none
+found-nothing none e = refl
+found-nothing (some q) e = cc

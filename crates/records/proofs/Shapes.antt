@@ -211,7 +211,7 @@ end-shape s h =
     (shape-after (suc (0 + length (map node (records s)))) 1 0 (map node (records s)) (omega arith))
 
 -- A term that stands at a place ends its size behind it.
-node-children : (r : Node) → childrenOf (byte (record16 r) 0) ≡ children r
+pub node-children : (r : Node) → childrenOf (byte (record16 r) 0) ≡ children r
 unfolding record16 layout byte childrenOf children
 node-children (basic nil) = refl
 node-children (basic (kill k)) = refl

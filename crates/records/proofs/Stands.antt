@@ -2,16 +2,16 @@
 use mathlib.Core.Path.{_≡_, refl, ap, subst, _∙_}
 use mathlib.Core.Logic.{_≢_}
 use mathlib.Core.List.{List, _++_, append-nil}
-use Prim.Native.Nat.{ℕ, _+_, _*_, _≤_, _<_}
+use Prim.Native.Nat.{ℕ, _+_, _*_, _/_, _≤_, _<_}
 use native.Mathlib.Omega.{arith}
 use lib.ListN.{length, take, drop, getD}
 use Rattle.cows.specs.Terms.{Basic, nil, kill, invoke, Prefix, receive, wait, protection, delimitation, replication, Join, choice, parallel, Term, leaf, under, both, size}
 use Rattle.cows.specs.Places.{sub}
-use Rattle.cows.specs.Format.{byte, basic, prefix, join, nodes, root, layout, record16, kindOf, bytes, encode}
+use Rattle.cows.specs.Format.{byte, word, basic, prefix, join, nodes, root, layout, record16, kindOf, bytes, encode}
 use Rattle.cows.proofs.Places.{size-pos}
 use Rattle.cows.proofs.Records.{length-record16}
 use Rattle.cows.proofs.Format.{length-encode}
-use Rattle.cows.proofs.Fields.{append-bytes, first-bytes, table-at}
+use Rattle.cows.proofs.Fields.{append-bytes, first-bytes, table-at, kind-at, word-at}
 use Rattle.records.specs.Holds.{Holds}
 use Rattle.records.specs.Rewrites.{Has, Stands}
 use Rattle.records.proofs.Put.{has-left, has-right, has-take, has-fits, has-byte}
@@ -87,3 +87,13 @@ part-stands t n l = let (b, e) = table-at t n l in record { rest = b; is = e }
 
 pub holds-stands : (s : List ℕ) (t : Term) (n : ℕ) → Holds s t → n < size t → Stands s (16 * n) (sub t n)
 holds-stands s t n h l = rw (h .is) (part-stands t n l)
+
+-- A table that holds a term: as many records as the term has, and at each place the kind and the numbers of the part there.
+pub holds-size : (s : List ℕ) (t : Term) → Holds s t → length s / 16 ≡ size t
+holds-size s t h = omega (arith, ap length (h .is) ∙ length-encode t)
+
+pub holds-kind : (s : List ℕ) (t : Term) (j : ℕ) → Holds s t → j < size t → getD s (16 * j) 0 ≡ kindOf (sub t j)
+holds-kind s t j h l = ap (λ b. getD b (16 * j) 0) (h .is) ∙ kind-at t j l
+
+pub holds-word : (s : List ℕ) (t : Term) (j i : ℕ) → Holds s t → j < size t → i < 15 → word s (16 * j + i) ≡ word (record16 (root (sub t j))) i
+holds-word s t j i h l k = ap (λ b. word b (16 * j + i)) (h .is) ∙ word-at t j i l k

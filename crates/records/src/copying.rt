@@ -1,7 +1,9 @@
-// Copying: bytes, whole terms, and nil in the place of a term. Places are bytes.
+// Copying: bytes, 16-bit numbers, whole terms, and nil in the place of a term. Places are bytes.
 ghost use mathlib.Core.Path.{_≡_};
-ghost use Prim.Native.Nat.{_+_, _≤_};
+ghost use Prim.Native.Nat.{_+_, _≤_, _<_};
 ghost use lib.ListN.{length, take, drop};
+ghost use Rattle.cows.specs.Terms.{nil};
+ghost use Rattle.cows.specs.Format.{bytes2, basic, record16};
 ghost use Rattle.records.specs.Rewrites.{put, Passes, Ready, Rewrites, same, gone};
 
 // Where reading and writing go on.
@@ -17,6 +19,24 @@ pub fn copy(src: &[u8], from: usize, len: usize, dst: &mut [u8], to: usize)
         dst[to + i] = src[from + i];
         i += 1;
     }
+}
+
+// Writes the 16-bit number w at byte `to`.
+pub fn put_word(w: u16, dst: &mut [u8], to: usize)
+    requires { ⌜ to + 1 < length (now dst) ⌝ }
+    ensures { λ _. ⌜ now (dst .exit) ≡ put (now (dst .entry)) to (bytes2 w) ⌝ }
+{
+    dst[to] = (w % 256) as u8;
+    dst[to + 1] = (w / 256) as u8;
+}
+
+// Writes the record of a nil at byte `to`.
+pub fn put_nil(dst: &mut [u8], to: usize)
+    requires { ⌜ to + 15 < length (now dst) ⌝ }
+    ensures { λ _. ⌜ now (dst .exit) ≡ put (now (dst .entry)) to (record16 (basic nil)) ⌝ }
+{
+    let zeros = [0u8; 16];
+    copy(&zeros, 0, 16, dst, to);
 }
 
 // Copies the term at byte `at`, which ends at byte `end`.
@@ -36,7 +56,6 @@ pub fn nil_at(src: &[u8], at: usize, end: usize, dst: &mut [u8], to: usize) -> P
     requires { ⌜ Passes (now src) at end ⌝ }
     ensures { λ r. ⌜ Rewrites gone (now (src .entry)) at (now (dst .entry)) to (now (dst .exit)) (r .0) (r .1) ⌝ }
 {
-    let zeros = [0u8; 16];
-    copy(&zeros, 0, 16, dst, to);
+    put_nil(dst, to);
     Places(end, to + 16)
 }

@@ -6,17 +6,14 @@ ghost use Prim.Native.Nat.{_+_, _*_, _/_, _<_, _≤_};
 ghost use lib.ListN.{length};
 ghost use Rattle.records.specs.Ends.{pickEnd, EndsFrom};
 
-// Where the term of a record ends that has c children: at x with none, at a with one, at b with two.
+// Where the term of a record ends that has c children: at x with none, at a with one, at b with two. A lookup, since branches on the kind are hard to
+// predict.
 fn pick_end(c: usize, x: u16, a: u16, b: u16) -> u16
+    requires { ⌜ c ≤ 2 ⌝ }
     ensures { λ r. ⌜ r ≡ pickEnd c x a b ⌝ }
 {
-    if c == 0 {
-        return x;
-    }
-    if c == 1 {
-        return a;
-    }
-    b
+    let choices = [x, a, b];
+    choices[c]
 }
 
 // The place after the term at each place, from the last to the first; one more than the number of records where the records run out.

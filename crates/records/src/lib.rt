@@ -7,7 +7,7 @@ ghost use mathlib.Core.Path.{_≡_};
 ghost use Prim.Native.Nat.{_+_, _<_, _≤_};
 ghost use lib.ListN.{length};
 ghost use Rattle.cows.specs.Format.{word};
-ghost use Rattle.records.specs.Atoms.{classOf};
+ghost use Rattle.records.specs.Atoms.{classOf, takesAtom, imageOf};
 ghost use Rattle.records.specs.Ends.{childrenOf};
 
 // The three disjoint sets of atoms, each with a type of its own. Atoms are made only by the classifying read.
@@ -66,12 +66,60 @@ pub fn classify(n: u16) -> Atom
     Atom::Label(Label(n))
 }
 
+// The number of a label.
+pub fn label_number(k: Label) -> u16
+    ensures { λ r. ⌜ r ≡ k .0 ⌝ }
+{
+    k.0
+}
+
 // The classifying read of two bytes.
 pub fn atom_at(s: &[u8], k: usize) -> Atom
     requires { ⌜ k + 1 < length (now s) ⌝ }
     ensures { λ r. ⌜ r ≡ classOf (word (now (s .entry)) k) ⌝ }
 {
     classify(word_at(s, k))
+}
+
+// A variable and the value that it takes in a communication, or nothing: no other atom takes one, and only a value is taken.
+pub struct Takes {
+    variable: u16,
+    value: u16,
+}
+
+pub fn taking(x: Variable, v: Value) -> Takes
+    ensures { λ r. ⌜ (r .variable ≡ x .0) × (r .value ≡ v .0) ⌝ }
+{
+    Takes {
+        variable: x.0,
+        value: v.0,
+    }
+}
+
+pub fn takes_nothing() -> Takes
+    ensures { λ r. ⌜ (r .variable ≡ 0) × (r .value ≡ 0) ⌝ }
+{
+    Takes {
+        variable: 0,
+        value: 0,
+    }
+}
+
+// Whether the atom a is the variable.
+pub fn takes_atom(t: Takes, a: u16) -> bool
+    ensures { λ r. ⌜ r ≡ takesAtom t a ⌝ }
+{
+    t.variable == a
+}
+
+// What stands for the atom a: the value, if a is the variable.
+pub fn image(t: Takes, a: u16) -> u16
+    ensures { λ r. ⌜ r ≡ imageOf t a ⌝ }
+{
+    if a == t.variable {
+        return t.value;
+    }
+    a
 }
 
 // Kinds 3 and up have a child, 5 and 6 one more.

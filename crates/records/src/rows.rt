@@ -67,7 +67,7 @@ fn same_variable(a: u16, b: u16) -> bool
 }
 
 // No variable stands twice among four atoms.
-fn distinct4(a: u16, b: u16, c: u16, d: u16) -> bool
+pub fn distinct4(a: u16, b: u16, c: u16, d: u16) -> bool
     ensures { λ r. ⌜ r ≡ distinct (a ∷ b ∷ c ∷ d ∷ []) ⌝ }
 {
     let x = same_variable(a, b) | same_variable(a, c) | same_variable(a, d);

@@ -6,7 +6,7 @@ use Rattle.records.proofs.copying.nil_at.Tie as tie
 
 returns : tie.Need-returns
 unfolding encode nodes bytes record16 layout bytes2
-returns c = nil-gives (search needs) (c .before .before .copy .ensures)
+returns c = nil-gives (search needs) (c .before .before .put-nil .ensures)
 
 pub nil-at-spec : {M : Type 1} → statement M
-nil-at-spec = tie.close (tie.spec (λ c. search needs) (λ c κs. search needs) (λ c. search needs) (λ c. search needs) returns)
+nil-at-spec = tie.close (tie.spec (λ c κs. search needs) (λ c. search needs) (λ c. search needs) returns)
