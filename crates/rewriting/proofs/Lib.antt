@@ -1,0 +1,6 @@
+pub mod Placed
+pub mod Children
+pub mod Halts
+pub mod Asides
+pub mod Kills
+pub mod Elapses

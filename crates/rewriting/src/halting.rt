@@ -1,0 +1,59 @@
+// Halting: what a kill leaves of the terms around it.
+use crate::end_at;
+use records::children;
+use records::copying::Places;
+use records::copying::copy;
+use records::copying::copy_term;
+use records::copying::nil_at;
+ghost use Rattle.cows.specs.Moves.{halt};
+ghost use Rattle.records.specs.Rewrites.{Ready, Rewrites};
+ghost use Rattle.rewriting.specs.Placed.{Placed};
+ghost use Rattle.rewriting.specs.Halting.{haltAside, placeIn, PlaceOf};
+
+// Writes the term at byte `at` halted: a protection is kept whole; parallels, delimitations and replications are gone through; all else becomes nil.
+pub fn halt_at(s: &[u8], ends: &[u16], at: usize, dst: &mut [u8], to: usize) -> Places
+    requires { ⌜ Ready halt (now s) at (now dst) to ⌝ }
+    requires { ⌜ Placed (now s) (now ends) at ⌝ }
+    ensures { λ r. ⌜ Rewrites halt (now (s .entry)) at (now (dst .entry)) to (now (dst .exit)) (r .0) (r .1) ⌝ }
+{
+    let kind = s[at];
+    if kind < 6 {
+        return nil_at(s, at, end_at(ends, at), dst, to);
+    }
+    if kind == 7 {
+        return copy_term(s, at, end_at(ends, at), dst, to);
+    }
+    copy(s, at, 16, dst, to);
+    let first = halt_at(s, ends, at + 16, dst, to + 16);
+    if children(kind) == 2 {
+        let next = first.0;
+        let then = first.1;
+        return halt_at(s, ends, next, dst, then);
+    }
+    first
+}
+
+// Writes the term at byte `at` as a kill leaves it that fires at byte `a` of it: nil for the kill, and what stands beside the way down to it halted.
+pub fn aside_at(s: &[u8], ends: &[u16], at: usize, a: usize, dst: &mut [u8], to: usize) -> Places
+    requires { ⌜ Ready (haltAside (placeIn at a)) (now s) at (now dst) to ⌝ }
+    requires { ⌜ PlaceOf (now s) (now ends) at a ⌝ }
+    ensures { λ r. ⌜ Rewrites (haltAside (placeIn at a)) (now (s .entry)) at (now (dst .entry)) to (now (dst .exit)) (r .0) (r .1) ⌝ }
+{
+    if a == at {
+        return nil_at(s, at, end_at(ends, at), dst, to);
+    }
+    copy(s, at, 16, dst, to);
+    if a < end_at(ends, at + 16) {
+        let first = aside_at(s, ends, at + 16, a, dst, to + 16);
+        if children(s[at]) == 2 {
+            let next = first.0;
+            let then = first.1;
+            return halt_at(s, ends, next, dst, then);
+        }
+        return first;
+    }
+    let first = halt_at(s, ends, at + 16, dst, to + 16);
+    let next = first.0;
+    let then = first.1;
+    aside_at(s, ends, next, a, dst, then)
+}
