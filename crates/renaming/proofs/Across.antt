@@ -1,0 +1,86 @@
+-- The records of a table one after the other (specs/Mapped: along, across), from bytes and from the records of a term.
+use mathlib.Core.Path.{_≡_, refl, sym, ap, _∙_}
+use mathlib.Core.List.{List, [], _∷_, _++_, append-assoc}
+use Prim.Native.Nat.{ℕ, suc, _+_, _-_, _*_, _≤_, _<_}
+use native.Mathlib.Omega.{arith}
+use native.Mathlib.Numerals.{add-one}
+use lib.ListN.{length, take, drop, length-append}
+use Rattle.cows.specs.Terms.{Term, size}
+use Rattle.cows.specs.Format.{Node, nodes, record16, bytes, encode}
+use Rattle.cows.proofs.Records.{length-record16}
+use Rattle.cows.proofs.Format.{length-nodes}
+use Rattle.records.specs.Rewrites.{put, Has, Stands}
+use Rattle.records.proofs.Put.{put-put, has-left, has-right, has-take}
+use Rattle.records.proofs.Pieces.{piece}
+use Rattle.renaming.specs.Mapped.{along, across}
+
+-- what h makes of each record of a list
+unfoldable pub over : (Node → List ℕ) → List Node → List ℕ
+over h [] = []
+over h (n ∷ ns) = h n ++ over h ns
+
+pub over-append : (h : Node → List ℕ) (ms ns : List Node) → over h (ms ++ ns) ≡ over h ms ++ over h ns
+unfolding over
+over-append h [] ns = refl
+over-append h (m ∷ ms) ns = rw (over-append h ms ns) (sym (append-assoc (h m) (over h ms) (over h ns)))
+
+-- one turn of a loop from place i to place `to`, and its end
+module _ (g : ℕ → List ℕ → List ℕ) (s : List ℕ) (i to : ℕ) where
+  pub along-next : i < to → along g s i (to - i) ≡ g i (piece s (16 * i)) ++ along g s (i + 1) (to - (i + 1))
+  unfolding along
+  along-next l = let z : to - i ≡ suc (to - (i + 1)) = omega arith in rw (z, add-one i)
+
+  pub along-end : to ≤ i → along g s i (to - i) ≡ []
+  unfolding along
+  along-end l = let z : to - i ≡ 0 = omega arith in rw z
+
+module _ (g : List ℕ → List ℕ) (s : List ℕ) (i to : ℕ) where
+  pub across-next : i < to → across g s i (to - i) ≡ g (piece s (16 * i)) ++ across g s (i + 1) (to - (i + 1))
+  across-next = along-next (λ j. g) s i to
+
+  pub across-end : to ≤ i → across g s i (to - i) ≡ []
+  across-end = along-end (λ j. g) s i to
+
+-- Writing what g makes of the records: the whole is what was written so far, up to byte j, and what is left from place i on.
+pub record Writing (g : ℕ → List ℕ → List ℕ) (s d₀ : List ℕ) (at from to : ℕ) (d : List ℕ) (i j : ℕ) : Type 0 where
+  pub same : length d ≡ length d₀
+  pub bytes : put d₀ at (along g s from (to - from)) ≡ put d j (along g s i (to - i))
+  pub ends : at + length (along g s from (to - from)) ≡ j + length (along g s i (to - i))
+
+module _ (g : ℕ → List ℕ → List ℕ) (s d₀ : List ℕ) (at from to : ℕ) where
+  pub writing-start : {j : ℕ} → j ≡ at → Writing g s d₀ at from to d₀ from j
+  writing-start e = rw e (record { same = refl; bytes = refl; ends = refl })
+
+  module _ (d : List ℕ) (i j : ℕ) (w : Writing g s d₀ at from to d i j) where
+    -- where there is room for the whole, there is for what the next record becomes
+    pub writing-room : at + length (along g s from (to - from)) ≤ length d₀ → i < to → j + length (g i (piece s (16 * i))) ≤ length d
+    writing-room h l = omega (arith, w .same, w .ends, ap length (along-next g s i to l), length-append (g i (piece s (16 * i))) (along g s (i + 1) (to - (i + 1))))
+
+    pub writing-turn : {e : List ℕ} {k : ℕ} → i < to → length e ≡ length d → e ≡ put d j (g i (piece s (16 * i))) → k ≡ j + length (g i (piece s (16 * i)))
+        → Writing g s d₀ at from to e (i + 1) k
+    writing-turn {e} {k} l m p q =
+        let r = g i (piece s (16 * i)) in
+        let rest = along g s (i + 1) (to - (i + 1)) in
+        record {
+          same = m ∙ w .same;
+          bytes = w .bytes ∙ rw (along-next g s i to l, p) (sym (put-put d j k r rest q));
+          ends = w .ends ∙ rw (along-next g s i to l) (omega (arith, length-append r rest));
+        }
+
+    pub writing-end : to ≤ i → (d ≡ put d₀ at (along g s from (to - from))) × (j ≡ at + length (along g s from (to - from)))
+    unfolding put
+    writing-end l = let z = along-end g s i to l in (sym (rw z at (w .bytes)), omega (arith, w .ends, ap length z))
+
+-- the records that stand from place i on, and those of a term
+module _ (g : List ℕ → List ℕ) (h : Node → List ℕ) (same : (n : Node) → g (record16 n) ≡ h n) (s : List ℕ) where
+  across-nodes : (i : ℕ) (ns : List Node) → Has s (16 * i) (bytes ns) → across g s i (length ns) ≡ over h ns
+  unfolding along over bytes
+  across-nodes i [] k = refl
+  across-nodes i (n ∷ ns) k =
+      let l = length-record16 n in
+      let e : take 16 (drop (16 * i) s) ≡ record16 n = rw l at (has-take (record16 n) (has-left (record16 n) (bytes ns) k)) in
+      rw (e, same n) (ap (λ b. h n ++ b) (across-nodes (suc i) ns (has-right (record16 n) (bytes ns) (16 * suc i) (omega arith) k)))
+
+  pub across-term : (i : ℕ) (t : Term) → Stands s (16 * i) t → across g s i (size t) ≡ over h (nodes t)
+  unfolding encode
+  across-term i t k = rw (← length-nodes t) (across-nodes i (nodes t) k)

@@ -1,0 +1,27 @@
+use borrow.Author.Needs.{needs}
+use Rattle.renaming.proofs.Mapped.{record-read}
+use Rattle.renaming.proofs.binding.put_images.Statement.{statement}
+use Rattle.renaming.proofs.binding.put_images.Tie as tie
+
+pub put-images-spec : {M : Type 1} → statement M
+put-images-spec =
+    tie.close
+    (tie.spec
+    (λ c. search needs)
+    (λ c. search needs)
+    (λ c κs. search needs)
+    (λ c. search needs)
+    (λ c κs. search needs)
+    (λ c. search needs)
+    (λ c κs. search needs)
+    (λ c. search needs)
+    (λ c κs. search needs)
+    (λ c. search needs)
+    (λ c κs. search needs)
+    (λ c. search needs)
+    (λ c κs. search needs)
+    (λ c κs. search needs)
+    (λ c. search needs)
+    (λ c.
+    rw (← record-read _ _ _ (c .before .before .before .before .before .before .before .before .before .image-at .ensures) (c .before .before .before .before .before .before .before .before .image-at2 .ensures) (c .before .before .before .before .before .before .before .image-at3 .ensures) (c .before .before .before .before .before .before .image-at4 .ensures) (c .before .before .before .before .before .image-at5 .ensures) (c .before .before .before .before .image-at6 .ensures))
+    (c .before .before .put-record .ensures)))

@@ -1,0 +1,99 @@
+-- The names of atoms while a body is copied: an array that has a number for each atom, 0 where the atom does not occur.
+use mathlib.Core.Path.{_≡_}
+use mathlib.Core.Logic.{_≢_}
+use mathlib.Core.Bool.{true, false, cond}
+use mathlib.Core.List.{List, [], _∷_}
+use Prim.Native.Nat.{ℕ, zero, suc, _+_, _*_, _≤_, _<_}
+use lib.ListN.{length, getD, set}
+use Rattle.cows.specs.Basics.{member}
+use Rattle.cows.specs.Terms.{Term, atom, size, atoms, binders}
+use Rattle.cows.specs.Places.{sub}
+use Rattle.cows.specs.Format.{word, slots}
+use Rattle.cows.specs.Within.{counts}
+use Rattle.cows.specs.Moves.{image, fresh, renaming}
+use Rattle.records.specs.declared.Atom.{Atom}
+use Rattle.records.specs.declared.Atom.the-variants.{None, Value, Variable, Label}
+use Rattle.records.specs.Atoms.{classOf}
+use Rattle.records.specs.Holds.{Holds}
+
+-- the six fields for atoms of a record's 16 bytes
+unfoldable pub fields : List ℕ → List ℕ
+fields b = word b 2 ∷ word b 4 ∷ slots b
+
+-- Marking: each number of a list is entered under itself, one after the other.
+unfoldable pub entered : List ℕ → List ℕ → List ℕ
+entered names [] = names
+entered names (a ∷ l) = entered (set names a a) l
+
+-- the three sets of atoms counted (0 is no atom, and counts with the labels), and the first atom of each
+abbrev pub numberOf : Atom → ℕ
+numberOf (Value v) = 0
+numberOf (Variable x) = 1
+numberOf (Label k) = 2
+numberOf None = 2
+
+unfoldable pub setOf : ℕ → ℕ
+setOf a = numberOf (classOf a)
+
+unfoldable pub startOf : ℕ → ℕ
+startOf zero = 1
+startOf (suc zero) = 32768
+startOf (suc (suc k)) = 49152
+
+-- r is the first place from `from` on where no atom occurs, or behind all names.
+pub record NextFree (names : List ℕ) (from r : ℕ) : Type 0 where
+  pub past : from ≤ r
+  pub used : (a : ℕ) → from ≤ a → a < r → getD names a 0 ≢ 0
+  pub free : r < length names → getD names r 0 ≡ 0
+
+-- The names while the atoms `taken` occur, and for each set an atom of it below which all are taken.
+pub record Taking (names next taken : List ℕ) : Type 0 where
+  pub room : length names ≡ 65536
+  pub sets : length next ≡ 3
+  pub none : getD names 0 0 ≡ 0
+  pub used : (a : ℕ) → member a taken ≡ true → getD names a 0 ≢ 0
+  pub free : (a : ℕ) → member a taken ≡ false → getD names a 0 ≡ 0
+  pub from : (k : ℕ) → k < 3 → startOf k ≤ getD next k 0
+  pub passed : (k : ℕ) → k < 3 → (a : ℕ) → startOf k ≤ a → a < getD next k 0 → member a taken ≡ true
+
+-- An atom d that occurs is to be renamed, and there are few enough for a new one.
+pub record Wanting (names next taken : List ℕ) (d : ℕ) : Type 0 where
+  pub taking : Taking names next taken
+  pub few : length taken < 16383
+  pub right : atom d ≡ true
+  pub known : member d taken ≡ true
+
+pub record Wanted (names next : List ℕ) (d : ℕ) : Type 0 where
+  pub taken : List ℕ
+  pub wanting : Wanting names next taken d
+
+-- d is renamed to the smallest atom of its set that is not taken, and this is then taken.
+pub record Renamed (names next : List ℕ) (d : ℕ) (names′ next′ taken : List ℕ) : Type 0 where
+  pub is : names′ ≡ set (set names d (fresh taken d)) (fresh taken d) (fresh taken d)
+  pub taking : Taking names′ next′ (fresh taken d ∷ taken)
+
+-- The table s of t, within the limits, has a part at places `from` to `to` (not included).
+pub record Part (s : List ℕ) (from to : ℕ) (t : Term) : Type 0 where
+  pub holds : Holds s t
+  pub unique : (a : ℕ) → counts a t ≤ 1
+  pub small : size t ≤ 2048
+  pub inside : from < size t
+  pub end : to ≡ from + size (sub t from)
+
+-- Such a part is to be copied. (`ordered` and `fits` follow; they are here for `omega`.)
+pub record Body (s : List ℕ) (from to : ℕ) : Type 0 where
+  pub term : Term
+  pub part : Part s from to term
+  pub ordered : from ≤ to
+  pub fits : 16 * to ≤ length s
+
+-- The names are the atoms of its table themselves.
+pub record Marked (s : List ℕ) (from to : ℕ) (names : List ℕ) : Type 0 where
+  pub body : Body s from to
+  pub room : length names ≡ 65536
+  pub marked : (a : ℕ) → getD names a 0 ≡ cond (member a (atoms (body .term))) a 0
+
+-- The names are those of the atoms in a copy of it.
+pub record Chosen (t : Term) (from : ℕ) (names : List ℕ) : Type 0 where
+  pub none : getD names 0 0 ≡ 0
+  pub new : (a : ℕ) → member a (atoms t) ≡ true → getD names a 0 ≡ image (renaming (atoms t) (binders (sub t from))) a

@@ -1,0 +1,107 @@
+// Binding: the records of a part of a table after a communication. Up to four variables become values, their delimitations go, and the invoke becomes nil.
+use crate::fields::put_record;
+use records::Takes;
+use records::copying::put_nil;
+use records::image;
+use records::takes_atom;
+use records::word_at;
+ghost use mathlib.Core.Path.{_≡_};
+ghost use Prim.Native.Nat.{_+_, _-_, _*_, _<_, _≤_};
+ghost use lib.ListN.{length, take, drop};
+ghost use Rattle.cows.specs.Format.{word};
+ghost use Rattle.records.specs.Rewrites.{put};
+ghost use Rattle.renaming.specs.Mapped.{mapRecord};
+ghost use Rattle.renaming.specs.Bound.{imageOfAll, goes, boundRecord, bound};
+
+// Whether the record at place i is a delimitation of an atom that one of the four takes.
+fn delimits_taken(s: &[u8], i: usize, t0: Takes, t1: Takes, t2: Takes, t3: Takes) -> bool
+    requires { ⌜ 16 * i + 15 < length (now s) ⌝ }
+    ensures { λ r. ⌜ r ≡ goes t0 t1 t2 t3 (take 16 (drop (16 * i) (now (s .entry)))) ⌝ }
+{
+    let d = word_at(s, 16 * i + 2);
+    let taken = takes_atom(t0, d) | takes_atom(t1, d) | takes_atom(t2, d) | takes_atom(t3, d);
+    (s[16 * i] == 8) & taken
+}
+
+// What stands for the atom at byte k.
+fn image_at(s: &[u8], k: usize, t0: Takes, t1: Takes, t2: Takes, t3: Takes) -> u16
+    requires { ⌜ k + 1 < length (now s) ⌝ }
+    ensures { λ r. ⌜ r ≡ imageOfAll t0 t1 t2 t3 (word (now (s .entry)) k) ⌝ }
+{
+    image(t3, image(t2, image(t1, image(t0, word_at(s, k)))))
+}
+
+// Writes the record at place i with what stands for its atoms.
+fn put_images(
+    s: &[u8],
+    i: usize,
+    t0: Takes,
+    t1: Takes,
+    t2: Takes,
+    t3: Takes,
+    dst: &mut [u8],
+    at: usize,
+)
+    requires { ⌜ (16 * i + 15 < length (now s)) × (at + 15 < length (now dst)) ⌝ }
+    ensures { λ _. ⌜ now (dst .exit) ≡ put (now (dst .entry)) at (mapRecord (imageOfAll t0 t1 t2 t3) (take 16 (drop (16 * i) (now (s .entry))))) ⌝ }
+{
+    let k = 16 * i;
+    let p = image_at(s, k + 2, t0, t1, t2, t3);
+    let o = image_at(s, k + 4, t0, t1, t2, t3);
+    let w = image_at(s, k + 6, t0, t1, t2, t3);
+    let x = image_at(s, k + 8, t0, t1, t2, t3);
+    let y = image_at(s, k + 10, t0, t1, t2, t3);
+    let z = image_at(s, k + 12, t0, t1, t2, t3);
+    put_record(s, i, p, o, w, x, y, z, dst, at);
+}
+
+// Writes what becomes of the record at place i, nil at place b, from byte `at` on; the answer is where writing goes on.
+fn put_bound(
+    s: &[u8],
+    i: usize,
+    b: usize,
+    t0: Takes,
+    t1: Takes,
+    t2: Takes,
+    t3: Takes,
+    dst: &mut [u8],
+    at: usize,
+) -> usize
+    requires { ⌜ (16 * i + 15 < length (now s)) × (at + length (boundRecord t0 t1 t2 t3 b i (take 16 (drop (16 * i) (now s)))) ≤ length (now dst)) ⌝ }
+    ensures { λ r. ⌜ (now (dst .exit) ≡ put (now (dst .entry)) at (boundRecord t0 t1 t2 t3 b i (take 16 (drop (16 * i) (now (s .entry)))))) × (r ≡ at + length (boundRecord t0 t1 t2 t3 b i (take 16 (drop (16 * i) (now (s .entry)))))) ⌝ }
+{
+    if i == b {
+        put_nil(dst, at);
+        return at + 16;
+    }
+    if delimits_taken(s, i, t0, t1, t2, t3) {
+        return at;
+    }
+    put_images(s, i, t0, t1, t2, t3, dst, at);
+    at + 16
+}
+
+// Writes what becomes of the records at places `from` to `to` (not included), nil at place b, from byte `at` on; the answer is where writing goes on.
+pub fn write_bound(
+    s: &[u8],
+    from: usize,
+    to: usize,
+    b: usize,
+    t0: Takes,
+    t1: Takes,
+    t2: Takes,
+    t3: Takes,
+    dst: &mut [u8],
+    at: usize,
+) -> usize
+    requires { ⌜ (16 * to ≤ length (now s)) × (at + length (bound t0 t1 t2 t3 b (now s) from (to - from)) ≤ length (now dst)) ⌝ }
+    ensures { λ r. ⌜ (now (dst .exit) ≡ put (now (dst .entry)) at (bound t0 t1 t2 t3 b (now (s .entry)) from (to - from))) × (r ≡ at + length (bound t0 t1 t2 t3 b (now (s .entry)) from (to - from))) ⌝ }
+{
+    let mut i = from;
+    let mut next = at;
+    while i < to {
+        next = put_bound(s, i, b, t0, t1, t2, t3, dst, next);
+        i += 1;
+    }
+    next
+}
