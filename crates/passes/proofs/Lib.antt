@@ -1,0 +1,13 @@
+pub mod Climbing
+pub mod Frames
+pub mod Tables
+pub mod Starts
+pub mod Deep
+pub mod Losing
+pub mod Seeking
+pub mod Matches
+pub mod Held
+pub mod Marking
+pub mod Parties
+pub mod Conflicting
+pub mod InScope

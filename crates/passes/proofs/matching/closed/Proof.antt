@@ -1,0 +1,29 @@
+use borrow.Author.Needs.{needs}
+use Rattle.passes.specs.Matching.{closedAt}
+use Rattle.passes.proofs.matching.closed.Statement.{statement}
+use Rattle.passes.proofs.matching.closed.Tie as tie
+
+pub closed-spec : {M : Type 1} → statement M
+unfolding closedAt
+closed-spec =
+    tie.close
+    (tie.spec
+    (λ c. search needs)
+    (λ c κs. search needs)
+    (λ c κs. search needs)
+    (λ c. search needs)
+    (λ c κs. search needs)
+    (λ c κs. search needs)
+    (λ c. search needs)
+    (λ c κs. search needs)
+    (λ c κs. search needs)
+    (λ c. search needs)
+    (λ c κs. search needs)
+    (λ c κs. search needs)
+    (λ c. search needs)
+    (λ c κs. search needs)
+    (λ c κs. search needs)
+    (λ c. search needs)
+    (λ c κs. search needs)
+    (λ c κs. search needs)
+    (λ c. rw (c .is-variable6 .ensures, c .before .word-at6 .ensures, c .before .before .is-variable5 .ensures, c .before .before .before .word-at5 .ensures, c .before .before .before .before .is-variable4 .ensures, c .before .before .before .before .before .word-at4 .ensures, c .before .before .before .before .before .before .is-variable3 .ensures, c .before .before .before .before .before .before .before .word-at3 .ensures, c .before .before .before .before .before .before .before .before .is-variable2 .ensures, c .before .before .before .before .before .before .before .before .before .word-at2 .ensures, c .before .before .before .before .before .before .before .before .before .before .is-variable .ensures, c .before .before .before .before .before .before .before .before .before .before .before .word-at .ensures)))

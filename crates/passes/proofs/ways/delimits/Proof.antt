@@ -1,0 +1,16 @@
+use borrow.Author.Needs.{needs}
+use mathlib.Core.Path.{_≡_}
+use Rattle.passes.proofs.Frames.{delimits-bytes}
+use Rattle.passes.proofs.ways.delimits.Statement.{statement}
+use Rattle.passes.proofs.ways.delimits.Tie as tie
+
+pub delimits-spec : {M : Type 1} → statement M
+delimits-spec =
+    tie.close
+    (tie.spec
+    (λ c. search needs)
+    (λ c. search needs)
+    (λ c. search needs)
+    (λ c. search needs)
+    (λ c κs. search needs)
+    (λ c t h l. rw (c .word-at .ensures) (delimits-bytes _ t _ _ h l)))

@@ -1,0 +1,48 @@
+-- Matching as the code answers it: how many variables are bound, or that something differs; an endpoint and a tuple by the bytes of a record.
+use mathlib.Core.Path.{_≡_}
+use mathlib.Core.Bool.{Bool, true, false, not, _&&_, _||_}
+use mathlib.Core.List.{List}
+use Prim.Native.Nat.{ℕ, _+_, _*_, _≤_}
+use lib.Dec.{eqb}
+use lib.ListN.{length, getD}
+use Rattle.cows.specs.Terms.{Ends, variable}
+use Rattle.cows.specs.Format.{byte, word}
+use Rattle.cows.specs.Moves.{Matching, binds, differs}
+use Rattle.records.specs.Ends.{oneIf}
+use Rattle.passes.specs.declared.matching.Fit.{Fit}
+use Rattle.passes.specs.declared.matching.Fit.the-variants.{Binds, Differs}
+
+-- the answer of a matching
+abbrev pub fitOf : Matching → Fit
+fitOf (binds σ) = Binds (length σ)
+fitOf differs = Differs
+
+-- in one slot: a variable takes the value there, a value equals it (slots that are not used are 0, and agree)
+abbrev pub agree : ℕ → ℕ → Bool
+agree w v = variable w || eqb w v
+
+-- how many of four atoms are variables; whether none of the six atoms of the record at byte k is one
+abbrev pub variables4 : ℕ → ℕ → ℕ → ℕ → ℕ
+variables4 w x y z = oneIf (variable w) + oneIf (variable x) + oneIf (variable y) + oneIf (variable z)
+
+unfoldable pub closedAt : List ℕ → ℕ → Bool
+closedAt s k =
+    not
+    (variable (word s (k + 2)) || (variable (word s (k + 4)) || (variable (word s (k + 6)) || (variable (word s (k + 8)) || (variable (word s (k + 10)) || variable (word s (k + 12)))))))
+
+-- the four slots of the records at bytes k and m agree
+unfoldable pub agreeAt : List ℕ → ℕ → ℕ → Bool
+agreeAt s k m =
+    agree (word s (k + 6)) (word s (m + 6))
+    && (agree (word s (k + 8)) (word s (m + 8)) && (agree (word s (k + 10)) (word s (m + 10)) && agree (word s (k + 12)) (word s (m + 12))))
+
+-- The record at place j has the endpoint and the tuple of r.
+pub record EndsAt (s : List ℕ) (j : ℕ) (r : Ends) : Type 0 where
+  pub partner : word s (16 * j + 2) ≡ r .partner
+  pub operation : word s (16 * j + 4) ≡ r .operation
+  pub few : length (r .tuple) ≤ 4
+  pub count : byte s (16 * j + 1) ≡ length (r .tuple)
+  pub slot0 : word s (16 * j + 6) ≡ getD (r .tuple) 0 0
+  pub slot1 : word s (16 * j + 8) ≡ getD (r .tuple) 1 0
+  pub slot2 : word s (16 * j + 10) ≡ getD (r .tuple) 2 0
+  pub slot3 : word s (16 * j + 12) ≡ getD (r .tuple) 3 0
