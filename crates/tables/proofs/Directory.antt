@@ -154,7 +154,7 @@ module _ (pages marks : List ℕ) (b : Blank pages marks) where
   pub blank-keeps : Keeps pages marks (λ a. 0)
   blank-keeps = record { kept = λ a i. b .fresh (slotOf pages a); empty = λ a i h. refl }
 
-blank-replicate : (n i : ℕ) → _≡_ {A = ℕ} (getD (replicate n 0) i 0) 0
+pub blank-replicate : (n i : ℕ) → _≡_ {A = ℕ} (getD (replicate n 0) i 0) 0
 blank-replicate zero i = refl
 blank-replicate (suc n) zero = refl
 blank-replicate (suc n) (suc i) = blank-replicate n i

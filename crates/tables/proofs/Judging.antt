@@ -14,8 +14,6 @@ use Rattle.cows.specs.Format.{Bytes, node, records, decode}
 use Rattle.cows.specs.Tables.{wrongLength, firstWrong, unbound, clash, judgeTerm, judge}
 use Rattle.cows.proofs.Tables.{records-hold}
 use Rattle.records.specs.Holds.{Holds}
-use Rattle.records.specs.declared.Found.the-variants.{At, Nothing}
-use Rattle.records.specs.Rows.{foundOf}
 use Rattle.records.specs.Ends.{endAt}
 use Rattle.records.proofs.Shapes.{end-shape}
 use Rattle.tables.specs.declared.readers.Reading.{Reading}
@@ -23,6 +21,7 @@ use Rattle.tables.specs.declared.scopes.Scoping.the-variants.{Fine, Open
 use Rattle.tables.specs.declared.Verdict.{Verdict}
 use Rattle.tables.specs.declared.Verdict.the-variants.{Accepted, Length, Record, Shape, Deep, Choice, Open as OpenUse, Clash as Clashes}
 use Rattle.tables.specs.Scopes.{scopingOf}
+use Rattle.tables.specs.Quick.{shallow, guarded, bound}
 use Rattle.tables.specs.Verdict.{replyOf, checkReply, judgeScopes, judgeShape}
 use Rattle.tables.proofs.Reading.{Tells}
 
@@ -42,9 +41,12 @@ scoping-clash none none i e = (refl, cc)
 scoping-clash none (some q) i e = (refl, cc)
 scoping-clash (some p) q i e = (cc, cc)
 
-pub judge-fine : (t : Term) (n : ℕ) → Fine ≡ scopingOf (first unbound t) (first (clash t) t) → n ≡ size t → replyOf (Accepted n) ≡ checkReply (judgeScopes t)
+pub judge-bound : (t : Term) (n : ℕ) → bound t → n ≡ size t → replyOf (Accepted n) ≡ checkReply (judgeScopes t)
 unfolding judgeScopes _>>_ forbid
-judge-fine t n e h = let (p, q) = scoping-fine (first unbound t) (first (clash t) t) e in rw (p, q, h)
+judge-bound t n b h = rw (b .0, b .1, h)
+
+pub judge-fine : (t : Term) (n : ℕ) → Fine ≡ scopingOf (first unbound t) (first (clash t) t) → n ≡ size t → replyOf (Accepted n) ≡ checkReply (judgeScopes t)
+judge-fine t n e h = judge-bound t n (scoping-fine (first unbound t) (first (clash t) t) e) h
 
 pub judge-open : (t : Term) (i : ℕ) → Open i ≡ scopingOf (first unbound t) (first (clash t) t) → replyOf (OpenUse i) ≡ checkReply (judgeScopes t)
 unfolding judgeScopes _>>_ forbid
@@ -71,6 +73,11 @@ judge-rest t r n v h e l f q =
     let d = h .shallow .1 (omega (arith, h .whole)) in
     rw (d, h .guarded d (f ∙ e)) q
 
+-- neither 4 nor 5
+pub judge-read : (t : Term) (v : Verdict) → shallow t → guarded t → replyOf v ≡ checkReply (judgeScopes t) → replyOf v ≡ checkReply (judgeTerm t)
+unfolding judgeTerm judgeScopes _>>_ forbid
+judge-read t v d g q = rw (d, g) q
+
 -- the bytes of a slice are bytes
 pub slice-bytes : (s : List ℕ) → ((k : ℕ) → getD s k 0 < 256) → Bytes s
 slice-bytes [] h = tt
@@ -93,15 +100,6 @@ module _ (b : List ℕ) (e : ℕ) (right : firstWrong 0 (records b) ≡ none) (e
       let q = end-shape b right .0 (omega arith) in
       let (y, g) = records-hold b k z right q in
       rw q (f (decode (map node (records b))) (record { is = sym y; right = g }))
-
--- what is found, of a place that may be missing
-pub found-at : (o : Option ℕ) (p : ℕ) → At p ≡ foundOf o → o ≡ some p
-found-at none p e = cc
-found-at (some q) p e = cc
-
-pub found-nothing : (o : Option ℕ) → Nothing ≡ foundOf o → o ≡ none
-found-nothing none e = refl
-found-nothing (some q) e = cc
 
 -- 1 and 2
 pub judge-length : (b : List ℕ) → wrongLength b ≡ true → replyOf Length ≡ checkReply (judge b)

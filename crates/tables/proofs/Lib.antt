@@ -5,3 +5,6 @@ pub mod Steps
 pub mod Pass
 pub mod Reading
 pub mod Judging
+pub mod Heights
+pub mod Entries
+pub mod Fields

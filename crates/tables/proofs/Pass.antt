@@ -7,7 +7,6 @@ use mathlib.Core.Option.{Option, none, some}
 use Prim.Native.Nat.{ℕ, suc, _+_, _-_, _*_, _/_, _≤_, _<_}
 use native.Mathlib.Omega.{arith}
 use native.Mathlib.Nat.{sub-zero}
-use native.Mathlib.Numerals.{add-one}
 use lib.Dec.{ltb, eqb}
 use lib.ListN.{length, getD}
 use borrow.Author.Tests.{lt-ltb, le-ltb, eq-eqb, ne-eqb}
@@ -15,21 +14,12 @@ use Rattle.cows.specs.Basics.{any, placeIf, orElse, firstFrom}
 use Rattle.cows.specs.Terms.{Term, size, uses}
 use Rattle.cows.specs.Places.{spot, sub, first}
 use Rattle.cows.specs.Tables.{unbound, again, escaped, clash}
-use Rattle.cows.proofs.Basics.{cond-case, lt-case, or-none}
+use Rattle.cows.proofs.Basics.{cond-case, lt-case, or-none, from-next, from-end}
 use Rattle.records.specs.Holds.{Holds}
 use Rattle.tables.specs.declared.scopes.Scoping.the-variants.{Fine, Open, Clash}
 use Rattle.tables.specs.Scopes.{scopingOf, Passed, level, firstClash}
 use Rattle.tables.proofs.Marks.{none-again}
 use Rattle.tables.proofs.Uses.{kind-here, none-used, holds-size}
-
--- a search from place j on
-from-next : (f : ℕ → Bool) (j n : ℕ) → j < n → firstFrom f j (n - j) ≡ orElse (placeIf (f j) j) (firstFrom f (j + 1) (n - (j + 1)))
-unfolding firstFrom
-from-next f j n l = let e : n - j ≡ suc (n - (j + 1)) = omega arith in rw (e, add-one j)
-
-from-end : (f : ℕ → Bool) (j n : ℕ) → n ≤ j → firstFrom f j (n - j) ≡ none
-unfolding firstFrom
-from-end f j n l = let e : n - j ≡ 0 = omega arith in rw e
 
 -- what was found so far, and one place more
 clash-next : (c n j : ℕ) (b : Bool) (q : Option ℕ) → c ≤ n → j < n → orElse (placeIf (ltb c n) c) (orElse (placeIf b j) q) ≡ orElse (placeIf (ltb (firstClash c n j b) n) (firstClash c n j b)) q

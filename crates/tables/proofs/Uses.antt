@@ -167,7 +167,7 @@ module _ (s : List ℕ) (t : Term) (h : Holds s t) (j : ℕ) (i : j < length s /
       }
 
   -- one of the two
-  endpoint-here : (eqb (kindOf (sub t j)) 2 || eqb (kindOf (sub t j)) 3) ≡ true → (p : ℕ) × (o : ℕ) × (ws : List ℕ) × Endpoint s t j p o ws
+  pub endpoint-here : (eqb (kindOf (sub t j)) 2 || eqb (kindOf (sub t j)) 3) ≡ true → (p : ℕ) × (o : ℕ) × (ws : List ℕ) × Endpoint s t j p o ws
   endpoint-here h =
       or-case ((p : ℕ) × (o : ℕ) × (ws : List ℕ) × Endpoint s t j p o ws) (eqb (kindOf (sub t j)) 2) (eqb (kindOf (sub t j)) 3) h
       (λ k. let (p, o, ws, e) = kind-invoke (sub t j) (eqb-true _ _ k) in (p, o, ws, invoke-here p o ws e))
@@ -182,10 +182,10 @@ module _ (s : List ℕ) (t : Term) (h : Holds s t) (j : ℕ) (i : j < length s /
       let z : word s (16 * j + 2) ≡ i = word-here 2 (omega arith) ∙ (rw e (first-kill i)) in
       rw z (or-right (datum i) (label i) (rw e at (right-at t j (h .right))), rw e)
 
-  kill-here : kindOf (sub t j) ≡ 1 → (atom (word s (16 * j + 2)) ≡ true) × (uses (sub t j) ≡ word s (16 * j + 2) ∷ [])
+  pub kill-here : kindOf (sub t j) ≡ 1 → (atom (word s (16 * j + 2)) ≡ true) × (uses (sub t j) ≡ word s (16 * j + 2) ∷ [])
   kill-here k = let (i, e) = kind-kill (sub t j) k in kill-is i e
 
-  delimitation-is : (d : ℕ) (c : Term) → sub t j ≡ under (delimitation d) c → (word s (16 * j + 2) ≡ d) × (atom d ≡ true)
+  pub delimitation-is : (d : ℕ) (c : Term) → sub t j ≡ under (delimitation d) c → (word s (16 * j + 2) ≡ d) × (atom d ≡ true)
   delimitation-is d c e = (word-here 2 (omega arith) ∙ (rw e (first-delimitation d c)), (rw e at (right-at t j (h .right))) .0)
 
   pub delimitation-here : kindOf (sub t j) ≡ 8 → (sub t j ≡ under (delimitation (word s (16 * j + 2))) (below (sub t j))) × (atom (word s (16 * j + 2)) ≡ true)

@@ -1,3 +1,6 @@
+pub mod Index
+pub mod Quick
+pub mod Ranges
 pub mod Reads
 pub mod Scopes
 pub mod Verdict

@@ -1,11 +1,13 @@
 -- The verdict on a table, and document 01's number and place for each of its cases.
+use mathlib.Core.Path.{_≡_}
 use mathlib.Core.List.{List, map}
 use Prim.Native.Nat.{ℕ}
 use Rattle.cows.specs.Basics.{Result, refuse, accept, _>>=_, _>>_, forbid}
 use Rattle.cows.specs.Terms.{Term, size}
 use Rattle.cows.specs.Places.{first}
 use Rattle.cows.specs.Format.{node, records, decode}
-use Rattle.cows.specs.Tables.{misshapen, unbound, clash, judgeTerm}
+use Rattle.cows.specs.Tables.{misshapen, unbound, clash, judgeTerm, judge}
+use Rattle.records.specs.Ends.{EndsFrom}
 use Rattle.tables.specs.declared.Verdict.{Verdict}
 use Rattle.tables.specs.declared.Verdict.the-variants.{Accepted, Length, Record, Shape, Deep, Choice, Open, Clash}
 use Rattle.tables.specs.declared.Reply.{Reply}
@@ -24,6 +26,11 @@ replyOf (Clash p) = record { answer = 7; place = p; records = 0 }
 abbrev pub checkReply : Result Term → Reply
 checkReply (refuse n p) = record { answer = n; place = p; records = 0 }
 checkReply (accept t) = record { answer = 0; place = 0; records = size t }
+
+-- What the check of a table gives: the reply, and the ends of the terms of an accepted table.
+pub record Checked (s ends : List ℕ) (r : Reply) : Type 0 where
+  pub reply : r ≡ checkReply (judge s)
+  pub end : r .answer ≡ 0 → EndsFrom s ends 0
 
 -- the rules on scopes, of a term whose depth and choices are in order
 unfoldable pub judgeScopes : Term → Result Term

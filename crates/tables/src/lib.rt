@@ -1,4 +1,7 @@
 // Tables: whether bytes are a well-formed table, or the refusal of 1 to 7 with its place.
+mod index;
+mod quick;
+mod ranges;
 mod readers;
 mod scopes;
 
@@ -6,14 +9,14 @@ use records::Found;
 use scopes::Scoping;
 ghost use mathlib.Core.Path.{_≡_};
 ghost use mathlib.Core.Option.{none};
-ghost use Prim.Native.Nat.{_%_, _≤_};
+ghost use Prim.Native.Nat.{_%_, _<_, _≤_};
 ghost use lib.ListN.{length};
 ghost use Rattle.cows.specs.Terms.{Term};
 ghost use Rattle.cows.specs.Format.{records};
 ghost use Rattle.cows.specs.Tables.{firstWrong, judgeTerm, judge};
 ghost use Rattle.records.specs.Holds.{Holds};
 ghost use Rattle.records.specs.Ends.{EndsFrom};
-ghost use Rattle.tables.specs.Verdict.{replyOf, checkReply, judgeScopes, judgeShape};
+ghost use Rattle.tables.specs.Verdict.{replyOf, checkReply, Checked, judgeScopes, judgeShape};
 
 // What the author of a table is told.
 pub enum Verdict {
@@ -68,6 +71,9 @@ fn judge_scopes(s: &[u8], ends: &[u16]) -> Verdict
     requires { ⌜ EndsFrom (now s) (now ends) 0 ⌝ }
     ensures { λ v. ⌜ ((t : Term) → Holds (now (s .entry)) t → replyOf v ≡ checkReply (judgeScopes t)) ⌝ }
 {
+    if index::scopes_right(s, ends) {
+        return Verdict::Accepted(s.len() / 16);
+    }
     let found = scopes::scope_faults(s, ends);
     match found {
         Scoping::Fine => Verdict::Accepted(s.len() / 16),
@@ -81,6 +87,9 @@ fn judge_term(s: &[u8], ends: &[u16]) -> Verdict
     requires { ⌜ EndsFrom (now s) (now ends) 0 ⌝ }
     ensures { λ v. ⌜ ((t : Term) → Holds (now (s .entry)) t → replyOf v ≡ checkReply (judgeTerm t)) ⌝ }
 {
+    if quick::reading_right(s, ends) {
+        return judge_scopes(s, ends);
+    }
     let n = s.len() / 16;
     let r = readers::service(s, 0, 1);
     if n < r.next {
@@ -92,14 +101,13 @@ fn judge_term(s: &[u8], ends: &[u16]) -> Verdict
     judge_scopes(s, ends)
 }
 
-// Refusals 3 to 7 of right records.
-fn judge_records(s: &[u8]) -> Verdict
-    requires { ⌜ (length (now s) ≤ 32768) × (length (now s) % 16 ≡ 0) × (firstWrong 0 (records (now s)) ≡ none) ⌝ }
-    ensures { λ v. ⌜ replyOf v ≡ checkReply (judgeShape (now (s .entry))) ⌝ }
+// Refusals 3 to 7 of right records; `ends` takes the ends of the terms.
+fn judge_records(s: &[u8], ends: &mut [u16]) -> Verdict
+    requires { ⌜ (length (now s) ≤ 32768) × (length (now s) % 16 ≡ 0) × (firstWrong 0 (records (now s)) ≡ none) × (2049 < length (now ends)) ⌝ }
+    ensures { λ v. ⌜ (replyOf v ≡ checkReply (judgeShape (now (s .entry)))) × EndsFrom (now (s .entry)) (now (ends .exit)) 0 ⌝ }
 {
     let n = s.len() / 16;
-    let mut ends = [0u16; 2050];
-    records::ends::ends(s, &mut ends);
+    records::ends::ends(s, ends);
     let end = records::wide16(ends[0]);
     if end < n {
         return Verdict::Shape(end);
@@ -107,27 +115,40 @@ fn judge_records(s: &[u8]) -> Verdict
     if n < end {
         return Verdict::Shape(n);
     }
-    judge_term(s, &ends)
+    judge_term(s, ends)
 }
 
-// All refusals of a table.
-fn judge_table(s: &[u8]) -> Verdict
-    ensures { λ v. ⌜ replyOf v ≡ checkReply (judge (now (s .entry))) ⌝ }
+// All refusals of a table; `ends` takes the ends of the terms of an accepted one.
+fn judge_table(s: &[u8], ends: &mut [u16]) -> Verdict
+    requires { ⌜ 2049 < length (now ends) ⌝ }
+    ensures { λ v. ⌜ Checked (now (s .entry)) (now (ends .exit)) (replyOf v) ⌝ }
 {
     let n = s.len();
     if (n == 0) | (32768 < n) | (n % 16 != 0) {
         return Verdict::Length;
     }
+    if ranges::records_right(s) {
+        return judge_records(s, ends);
+    }
     let wrong = records::rows::first_wrong(s);
     if let Found::At(p) = wrong {
         return Verdict::Record(p);
     }
-    judge_records(s)
+    judge_records(s, ends)
+}
+
+// Whether bytes are a well-formed table, as `check` says, with the ends of its terms if it is.
+pub fn check_ends(table: &[u8], ends: &mut [u16]) -> Reply
+    requires { ⌜ 2049 < length (now ends) ⌝ }
+    ensures { λ r. ⌜ Checked (now (table .entry)) (now (ends .exit)) r ⌝ }
+{
+    answer_of(judge_table(table, ends))
 }
 
 // Whether bytes are a well-formed table: 0, 0 and the number of records, or the refusal of 1 to 7, its place and 0.
 pub fn check(table: &[u8]) -> Reply
     ensures { λ r. ⌜ r ≡ checkReply (judge (now (table .entry))) ⌝ }
 {
-    answer_of(judge_table(table))
+    let mut ends = [0u16; 2050];
+    check_ends(table, &mut ends)
 }

@@ -1,7 +1,7 @@
 use borrow.Author.Needs.{needs}
 use mathlib.Core.Path.{sym, _∙_}
 use Rattle.tables.proofs.Reading.{holds-size}
-use Rattle.tables.proofs.Judging.{judge-fine, judge-open, judge-clash}
+use Rattle.tables.proofs.Judging.{judge-bound, judge-fine, judge-open, judge-clash}
 use Rattle.tables.proofs.judge_scopes.Statement.{statement}
 use Rattle.tables.proofs.judge_scopes.Tie as tie
 
@@ -9,6 +9,8 @@ pub judge-scopes-spec : {M : Type 1} → statement M
 judge-scopes-spec =
     tie.close
     (tie.spec
+    (λ c κs. search needs)
+    (λ c t h. judge-bound t _ (c .before .scopes-right .ensures (c .if1 .taken) t h) (holds-size h))
     (λ c κs. search needs)
     (λ c. search needs)
     (λ c. search needs)
