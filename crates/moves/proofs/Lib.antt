@@ -1,0 +1,16 @@
+pub mod Planning
+pub mod Joining
+pub mod Continuing
+pub mod Timeouts
+pub mod Killing
+pub mod Kills
+pub mod Elapses
+pub mod Extrudes
+pub mod Unfolds
+pub mod Silences
+pub mod Binds
+pub mod Meets
+pub mod Scoping
+pub mod Communicates
+pub mod Replacing
+pub mod Exchanges
