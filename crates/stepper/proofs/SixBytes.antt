@@ -1,0 +1,71 @@
+-- The move that six bytes are (specs/Replies), by its kind.
+use mathlib.Core.Path.{_≡_, refl}
+use mathlib.Core.Logic.{_≢_}
+use mathlib.Core.Bool.{true, false, _&&_, _||_}
+use mathlib.Core.List.{List, [], _∷_}
+use mathlib.Core.Option.{none, some}
+use Prim.Native.Nat.{ℕ, zero, suc, _≤_}
+use native.Mathlib.Omega.{arith}
+use lib.Dec.{eqb}
+use lib.ListN.{length, getD, getElem?}
+use borrow.Author.Tests.{eqb-true, eq-eqb, ne-eqb}
+use Rattle.cows.specs.Basics.{only}
+use Rattle.cows.specs.Format.{byte, word}
+use Rattle.cows.proofs.Basics.{and-true}
+use Rattle.cows.specs.Moves as moves
+use Rattle.cows.specs.Step.{rightMove, readMove}
+
+-- what the bytes of a move are tested for
+pub wrong-length : (m : List ℕ) → length m ≢ 6 → false ≡ rightMove m
+unfolding rightMove
+wrong-length m h = rw (ne-eqb (length m) 6 h)
+
+pub right-tests : (m : List ℕ) (b : ℕ) → length m ≡ 6 → b ≡ word m 4 → (eqb (getD m 1 0) 0 && (eqb (getD m 0 0) 1 || eqb b 0)) ≡ rightMove m
+unfolding rightMove byte
+right-tests m b h e = rw (eq-eqb (length m) 6 h, e)
+
+-- no move: wrong bytes, or no kind
+pub wrong-move : (m : List ℕ) → rightMove m ≡ false → none ≡ readMove m
+unfolding readMove only
+wrong-move m e = rw e
+
+beyond : {A : Type 0} (l : List A) (k : ℕ) → length l ≤ k → none ≡ getElem? l k
+beyond [] k h = refl
+beyond (a ∷ l) zero h = absurd (omega arith)
+beyond (a ∷ l) (suc k) h = beyond l k (omega arith)
+
+pub right-length : (m : List ℕ) → rightMove m ≡ true → length m ≡ 6
+unfolding rightMove
+right-length m e = eqb-true (length m) 6 (and-true (eqb (length m) 6) _ (and-true (eqb (length m) 6 && eqb (byte m 1) 0) _ e .0) .0)
+
+-- the kinds
+module _ (m : List ℕ) (right : rightMove m ≡ true) where
+  pub no-kind : 6 ≤ getD m 0 0 → none ≡ readMove m
+  unfolding readMove only byte
+  no-kind h = rw right
+      (beyond (moves.Kill (word m 2) ∷ moves.Communicate (word m 2) (word m 4) ∷ moves.Timeout (word m 2) ∷ moves.Elapse (word m 2) ∷ moves.Unfold (word m 2) ∷ moves.Extrude (word m 2) ∷ [])
+      (getD m 0 0) h)
+
+  pub kill-read : (a : ℕ) → a ≡ word m 2 → getD m 0 0 ≡ 0 → some (moves.Kill a) ≡ readMove m
+  unfolding readMove only byte
+  kill-read a w e = rw (right, e, w)
+
+  pub communicate-read : (a b : ℕ) → a ≡ word m 2 → b ≡ word m 4 → getD m 0 0 ≡ 1 → some (moves.Communicate a b) ≡ readMove m
+  unfolding readMove only byte
+  communicate-read a b w x e = rw (right, e, w, x)
+
+  pub timeout-read : (a : ℕ) → a ≡ word m 2 → getD m 0 0 ≡ 2 → some (moves.Timeout a) ≡ readMove m
+  unfolding readMove only byte
+  timeout-read a w e = rw (right, e, w)
+
+  pub elapse-read : (d : ℕ) → d ≡ word m 2 → getD m 0 0 ≡ 3 → some (moves.Elapse d) ≡ readMove m
+  unfolding readMove only byte
+  elapse-read d w e = rw (right, e, w)
+
+  pub unfold-read : (a : ℕ) → a ≡ word m 2 → getD m 0 0 ≡ 4 → some (moves.Unfold a) ≡ readMove m
+  unfolding readMove only byte
+  unfold-read a w e = rw (right, e, w)
+
+  pub extrude-read : (a : ℕ) → a ≡ word m 2 → getD m 0 0 ≡ 5 → some (moves.Extrude a) ≡ readMove m
+  unfolding readMove only byte
+  extrude-read a w e = rw (right, e, w)

@@ -1,0 +1,86 @@
+-- From the check of the table and the move that is read to the step on bytes (specs/Replies): one law for each answer.
+use mathlib.Core.Path.{_≡_, refl, sym, ap, _∙_}
+use mathlib.Core.Logic.{_≢_}
+use mathlib.Core.Bool.{Bool, true, false}
+use mathlib.Core.Option.{Option, none, some}
+use mathlib.Core.List.{List, []}
+use Prim.Native.Nat.{ℕ, suc, _+_, _*_, _/_, _≤_, _<_}
+use native.Mathlib.Omega.{arith}
+use lib.Dec.{ltb}
+use lib.ListN.{length}
+use Rattle.cows.specs.Basics.{placeIf, Result, refuse, accept, _>>=_, _>>_, forbid, need}
+use Rattle.cows.specs.Terms.{Term, size}
+use Rattle.cows.specs.Format.{Bytes, encode}
+use Rattle.cows.specs.Tables.{judge}
+use Rattle.cows.specs.Moves as moves
+use Rattle.cows.specs.Step.{readMove, overLimits, allowed, stepTerm, judgeStep, reply, written, stepReply, stepOutput}
+use Rattle.cows.proofs.Basics.{bool-case, accept-bind}
+use Rattle.cows.proofs.Format.{length-encode}
+use Rattle.cows.proofs.Tables.{judge-encode, judge-within}
+use Rattle.cows.proofs.Step.{Numbered, step-numbered}
+use Rattle.passes.specs.Known.{Table, Known}
+use Rattle.tables.specs.declared.Reply.{Reply}
+use Rattle.tables.specs.Verdict.{checkReply, Checked}
+use Rattle.stepper.specs.Replies.{replyOf, refusal, finished, Answers, Moved, Stepped}
+
+-- 10: no move is read
+pub none-read : (t : Term) (m out : List ℕ) (r : Reply) → none ≡ readMove m → r ≡ refusal 10 0 → Answers (stepTerm t m (length out)) out out r
+unfolding stepTerm allowed need _>>=_ reply written
+none-read t m out r e h = rw (← e, h) (record { replies = refl; output = refl })
+
+-- a move that is read
+step-read : (t : Term) (m : List ℕ) (room : ℕ) (v : moves.Move) → some v ≡ readMove m → finished room (moves.successor t v) ≡ stepTerm t m room
+unfolding stepTerm allowed finished need _>>=_ _>>_ forbid placeIf
+step-read t m room v e = rw (← e) (go (moves.successor t v))
+  where
+    go : (x : Result Term) → finished room x ≡ ((x >>= (λ s. forbid 20 (placeIf (overLimits s) 0) >> accept s)) >>= (λ s. forbid 21 (placeIf (ltb room (16 * size s)) 0) >> accept s))
+    go (refuse n p) = refl
+    go (accept s) = bool-case _ (overLimits s) (λ q. rw q) (λ q. rw q)
+
+pub move-read : (t : Term) (m out after : List ℕ) (r : Reply) (v : moves.Move) → some v ≡ readMove m → Moved (moves.successor t v) out after r → Answers (stepTerm t m (length out)) out after r
+move-read t m out after r v e h = rw (← step-read t m (length out) v e) h
+
+-- 1 to 7: a refused table
+pub table-refused : (s ends m out : List ℕ) (r : Reply) → Checked s ends r → r .answer ≢ 0 → Stepped s m out out r
+unfolding stepReply stepOutput judgeStep _>>=_ reply written
+table-refused s ends m out r h z = go (judge s) refl
+  where
+    go : (x : Result Term) → judge s ≡ x → Stepped s m out out r
+    go (refuse n p) e = record { replies = h .reply ∙ (rw e); output = rw e }
+    go (accept t) e = absurd (z (ap (λ q. q .answer) (h .reply) ∙ (rw e)))
+
+-- an accepted table is the table of a term
+pub record Read (s ends : List ℕ) : Type 0 where
+  pub term : Term
+  pub judged : judge s ≡ accept term
+  pub table : Table s ends term
+
+pub table-read : (s ends : List ℕ) (r : Reply) → Bytes s → Checked s ends r → r .answer ≡ 0 → Read s ends
+unfolding judgeStep _>>=_
+table-read s ends r b h z = go (judge s) refl
+  where
+    go : (x : Result Term) → judge s ≡ x → Read s ends
+    go (refuse n p) e =
+        let k = rw e at (step-numbered s [] 0) in
+        let q = rw e at (sym (ap (λ q. q .answer) (h .reply)) ∙ z) in
+        absurd (omega arith)
+    go (accept t) e = record {
+      term = t;
+      judged = e;
+      table = record { holds = record { is = sym (judge-encode s t b e); right = judge-within s t b e .right }; within = judge-within s t b e; end = h .end z };
+    }
+
+pub read-known : (s ends : List ℕ) → Read s ends → Known s ends
+read-known s ends q = record {
+  term = q .term;
+  table = q .table;
+  whole = omega (arith, ap length (q .table .holds .is), length-encode (q .term));
+  few = q .table .end .few;
+  room = q .table .end .room;
+}
+
+pub read-stepped : (s ends m out after : List ℕ) (r : Reply) (q : Read s ends) → Answers (stepTerm (q .term) m (length out)) out after r → Stepped s m out after r
+unfolding stepReply stepOutput judgeStep
+read-stepped s ends m out after r q h =
+    let e = accept-bind (judge s) (λ t. stepTerm t m (length out)) (q .term) (q .judged) in
+    record { replies = h .replies ∙ (rw e); output = h .output ∙ (rw e) }

@@ -1,0 +1,48 @@
+// The six bytes of a move: kind, a zero byte, number a, number b, which only a communication uses.
+use crate::Move;
+use records::wide16;
+use records::word_at;
+ghost use mathlib.Core.Path.{_≡_};
+ghost use Rattle.cows.specs.Step.{rightMove, readMove};
+ghost use Rattle.stepper.specs.Replies.{moveOf};
+
+// Whether the bytes have the form of a move, whatever its kind.
+fn right_move(m: &[u8]) -> bool
+    ensures { λ r. ⌜ r ≡ rightMove (now (m .entry)) ⌝ }
+{
+    if m.len() != 6 {
+        return false;
+    }
+    (m[1] == 0) & ((m[0] == 1) | (word_at(m, 4) == 0))
+}
+
+// The move that the bytes are, or none: refusal 10.
+pub fn read_move(m: &[u8]) -> Move
+    ensures { λ r. ⌜ moveOf r ≡ readMove (now (m .entry)) ⌝ }
+{
+    if !right_move(m) {
+        return Move::None;
+    }
+    let kind = m[0];
+    let d = word_at(m, 2);
+    let a = wide16(d);
+    if kind == 0 {
+        return Move::Kill(a);
+    }
+    if kind == 1 {
+        return Move::Communicate(a, wide16(word_at(m, 4)));
+    }
+    if kind == 2 {
+        return Move::Timeout(a);
+    }
+    if kind == 3 {
+        return Move::Elapse(d);
+    }
+    if kind == 4 {
+        return Move::Unfold(a);
+    }
+    if kind == 5 {
+        return Move::Extrude(a);
+    }
+    Move::None
+}
