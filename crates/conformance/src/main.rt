@@ -1,5 +1,7 @@
 // Cases of the papers that are no theorem, through public operations only. Standard input has a case on each line: its name, and the table's bytes
 // in hexadecimal, with xN for N more of the last 16. A line of output has the name and the reply: answer, place, records.
+// A case of a step goes on with the word >, the move's bytes in hexadecimal (- for none) and the output's length in decimal. Each byte of the output
+// is aa before, and the line of output goes on with a sum over its bytes afterwards and with the first 64 of them in hexadecimal.
 use libc::STDIN_FILENO;
 use libc::STDOUT_FILENO;
 ghost use mathlib.Core.Path.{_≡_};
@@ -44,6 +46,7 @@ fn number(text: &[u8], from: usize, to: usize) -> usize
 
 fn wide(x: u8) -> usize
     ensures { λ r. ⌜ r ≡ x ⌝ }
+    ensures { λ r. ⌜ r < 256 ⌝ }
 {
     x as usize
 }
@@ -129,27 +132,110 @@ fn check_first(table: &[u8], len: usize) -> tables::Reply {
     tables::check(table)
 }
 
-// One case: the line from a place to its end.
-fn run(text: &[u8], from: usize, to: usize, table: &mut [u8])
-    requires { ⌜ (from ≤ to) × (to ≤ length (now text)) ⌝ }
-{
-    let name = bytes::scan::find(text, from, to, b' ');
-    let len = spell(text, name, to, table);
-    let r = check_first(table, len);
-    io::write_all(STDOUT_FILENO, &text[from..name]);
+fn print_reply(r: tables::Reply) {
     print_number(wide(r.answer));
     print_number(r.place);
     print_number(r.records);
+}
+
+// A hexadecimal digit.
+fn letter(d: u8) -> u8
+    requires { ⌜ d < 16 ⌝ }
+{
+    if d < 10 {
+        return b'0' + d;
+    }
+    b'a' - 10 + d
+}
+
+fn print_byte(b: u8) {
+    let pair = [letter(b / 16), letter(b % 16)];
+    io::write_all(STDOUT_FILENO, &pair);
+}
+
+// The first 64 bytes in hexadecimal, or all where there are fewer.
+fn print_first(bytes: &[u8]) {
+    io::write_all(STDOUT_FILENO, b" ");
+    let mut i = 0;
+    while i < bytes.len() {
+        if 64 <= i {
+            return;
+        }
+        print_byte(bytes[i]);
+        i += 1;
+    }
+}
+
+// A sum in which each byte and its place count.
+fn checksum(bytes: &[u8]) -> usize {
+    let mut sum: usize = 1;
+    let mut i = 0;
+    while i < bytes.len() {
+        sum = (31 * sum + wide(bytes[i])) % 65521;
+        i += 1;
+    }
+    sum
+}
+
+fn fill(out: &mut [u8]) {
+    let mut i = 0;
+    while i < out.len() {
+        out[i] = 0xaa;
+        i += 1;
+    }
+}
+
+// A step with all of the output: its reply, and what it left there.
+fn print_step(table: &[u8], m: &[u8], out: &mut [u8]) {
+    fill(out);
+    let r = stepper::step(table, m, out);
+    print_reply(r);
+    print_number(checksum(out));
+    print_first(out);
+}
+
+// A step of the table's first `len` bytes and the move's first `got`, with `room` bytes of output.
+fn step_first(table: &[u8], len: usize, m: &[u8], got: usize, out: &mut [u8], room: usize)
+    requires { ⌜ (len ≤ length (now table)) × (got ≤ length (now m)) ⌝ }
+{
+    if room <= out.len() {
+        print_step(&table[..len], &m[..got], &mut out[..room]);
+    }
+}
+
+// The reply to the table, or to a step if there is a word > at a place before the line's end; its move begins two bytes behind.
+fn run_table(text: &[u8], mark: usize, to: usize, table: &[u8], len: usize, out: &mut [u8])
+    requires { ⌜ (mark ≤ to) × (to ≤ length (now text)) × (len ≤ length (now table)) ⌝ }
+{
+    if to - mark < 2 {
+        print_reply(check_first(table, len));
+        return;
+    }
+    let mut m = io::buffer();
+    let e = bytes::scan::find(text, mark + 2, to, b' ');
+    let got = put_word(text, mark + 2, e, &mut m, 0);
+    step_first(table, len, &m, got, out, number(text, e, to));
+}
+
+// One case: the line from a place to its end.
+fn run(text: &[u8], from: usize, to: usize, table: &mut [u8], out: &mut [u8])
+    requires { ⌜ (from ≤ to) × (to ≤ length (now text)) ⌝ }
+{
+    let name = bytes::scan::find(text, from, to, b' ');
+    let mark = bytes::scan::find(text, name, to, b'>');
+    let len = spell(text, name, mark, table);
+    io::write_all(STDOUT_FILENO, &text[from..name]);
+    run_table(text, mark, to, table, len, out);
     io::write_all(STDOUT_FILENO, b"\n");
 }
 
 // Every line of a text.
-fn run_all(text: &[u8], table: &mut [u8]) {
+fn run_all(text: &[u8], table: &mut [u8], out: &mut [u8]) {
     let n = text.len();
     let mut from = 0;
     while from < n {
         let to = bytes::scan::find(text, from, n, b'\n');
-        run(text, from, to, table);
+        run(text, from, to, table, out);
         from = to + 1;
     }
 }
@@ -158,5 +244,6 @@ fn main() {
     let mut input = io::large_buffer();
     let got = io::read_full(STDIN_FILENO, &mut input);
     let mut table = io::large_buffer();
-    run_all(&input[..got], &mut table);
+    let mut out = io::large_buffer();
+    run_all(&input[..got], &mut table, &mut out);
 }

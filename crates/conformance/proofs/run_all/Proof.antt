@@ -7,10 +7,10 @@ use Rattle.conformance.proofs.run_all.Statement.{statement}
 use Rattle.conformance.proofs.run_all.Tie as tie
 
 abbrev Inv-loop : tie.InvT-loop
-Inv-loop text table₀ n from₀ table from = (n ≡ length text) × (from ≤ n + 1) × (length table ≡ length table₀)
+Inv-loop text table₀ out₀ n from₀ table out from = (n ≡ length text) × (from ≤ n + 1) × (length table ≡ length table₀) × (length out ≡ length out₀)
 
 abbrev μ-loop : tie.MeasureT-loop
-μ-loop text table₀ n from₀ table from = n + 1 - from
+μ-loop text table₀ out₀ n from₀ table out from = n + 1 - from
 
 pub run-all-spec : {M : Type 1} → statement M
 run-all-spec =
@@ -21,6 +21,7 @@ run-all-spec =
     (λ c. omega arith)
     (λ c κs. search needs)
     (λ c κs. search needs)
+    (λ c. omega arith)
     (λ c. omega arith)
     (λ c. omega arith)
     (λ c. omega arith)
