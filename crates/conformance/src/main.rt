@@ -241,7 +241,7 @@ fn run_all(text: &[u8], table: &mut [u8], out: &mut [u8]) {
 }
 
 fn main() {
-    let mut input = io::large_buffer();
+    let mut input = [0; 131072];
     let got = io::read_full(STDIN_FILENO, &mut input);
     let mut table = io::large_buffer();
     let mut out = io::large_buffer();
