@@ -15,6 +15,7 @@ use Rattle.passes.specs.Ways.{OnWay}
 use Rattle.records.specs.declared.Atom.{Atom}
 use Rattle.records.specs.declared.Atom.the-variants.{None, Value, Variable, Label}
 
+-- a label, by the class of an atom
 abbrev pub isLabel : Atom → Bool
 isLabel None = false
 isLabel (Value v) = false

@@ -27,7 +27,7 @@ use Rattle.records.specs.Holds.{Holds}
 use Rattle.records.proofs.Pieces.{word-piece, first-piece}
 use Rattle.records.proofs.Stands.{holds-stands}
 use Rattle.renaming.specs.Mapped.{across}
-use Rattle.renaming.specs.Names.{startOf, Taking, Wanting, Wanted, Renamed, Part, Body, Marked, Chosen}
+use Rattle.renaming.specs.Names.{leastOf, Taking, Wanting, Wanted, Renamed, Part, Body, Marked, Chosen}
 use Rattle.renaming.proofs.Across.{over, over-append, across-next, across-end, across-term}
 use Rattle.renaming.proofs.Occurring.{atoms-right, not-zero}
 use Rattle.renaming.proofs.Fresh.{new-apart, names-after}
@@ -174,7 +174,7 @@ abbrev pub starts : List ℕ
 starts = 1 ∷ 32768 ∷ 49152 ∷ []
 
 marked-taking : (names known : List ℕ) → length names ≡ 65536 → ((a : ℕ) → member a known ≡ true → atom a ≡ true) → ((a : ℕ) → getD names a 0 ≡ cond (member a known) a 0) → Taking names starts known
-unfolding startOf
+unfolding leastOf
 marked-taking names known room right marked = record {
   room = room;
   sets = refl;
@@ -185,7 +185,7 @@ marked-taking names known room right marked = record {
   passed = λ k l a m n. absurd (omega (arith, first k l .1));
 }
   where
-    first : (k : ℕ) → k < 3 → (startOf k ≤ getD starts k 0) × (getD starts k 0 ≤ startOf k)
+    first : (k : ℕ) → k < 3 → (leastOf k ≤ getD starts k 0) × (getD starts k 0 ≤ leastOf k)
     first zero l = (omega arith, omega arith)
     first (suc zero) l = (omega arith, omega arith)
     first (suc (suc zero)) l = (omega arith, omega arith)

@@ -18,37 +18,37 @@ use Rattle.cows.proofs.Sets.{in-values, in-variables, in-labels, Set, alike-set
 use Rattle.cows.proofs.Renaming.{fresh-smallest, smallest-least}
 use Rattle.cows.proofs.Records.{small-atom}
 use Rattle.records.specs.Atoms.{classOf}
-use Rattle.renaming.specs.Names.{setOf, startOf, NextFree, Wanting, Wanted, Renamed}
+use Rattle.renaming.specs.Names.{setOf, leastOf, NextFree, Wanting, Wanted, Renamed}
 use Rattle.renaming.proofs.Occurring.{eq-case, after-store, not-zero}
 
--- The sets by their numbers: set k goes from startOf k to endOf k (not included).
+-- The sets by their numbers: set k goes from leastOf k to endOf k (not included).
 endOf : ℕ → ℕ
 endOf zero = 32768
 endOf (suc zero) = 49152
 endOf (suc (suc k)) = 65536
 
 record InSet (d k : ℕ) : Type 0 where
-  start : least d ≡ startOf k
+  start : least d ≡ leastOf k
   number : k < 3
-  first : 1 ≤ startOf k
+  first : 1 ≤ leastOf k
   last : endOf k ≤ 65536
-  range : (c : ℕ) → SameSet c d → (startOf k ≤ c) × (c < endOf k)
-  alike : (c : ℕ) → startOf k ≤ c → c < endOf k → SameSet c d
+  range : (c : ℕ) → SameSet c d → (leastOf k ≤ c) × (c < endOf k)
+  alike : (c : ℕ) → leastOf k ≤ c → c < endOf k → SameSet c d
 
 -- as the three tests on d say
-in-row : (p q r : Bool) (d k : ℕ) → setOf d ≡ k → k < 3 → Set p q r d → ((c : ℕ) → startOf k ≤ c → c < endOf k → Set p q r c) → ((c : ℕ) → SameSet c d → (startOf k ≤ c) × (c < endOf k))
-    → least d ≡ startOf k → InSet d (setOf d)
-unfolding startOf endOf
+in-row : (p q r : Bool) (d k : ℕ) → setOf d ≡ k → k < 3 → Set p q r d → ((c : ℕ) → leastOf k ≤ c → c < endOf k → Set p q r c) → ((c : ℕ) → SameSet c d → (leastOf k ≤ c) × (c < endOf k))
+    → least d ≡ leastOf k → InSet d (setOf d)
+unfolding leastOf endOf
 in-row p q r d k e l h on back s =
     rw e (record { start = s; number = l; first = bounds k .0; last = bounds k .1; range = back; alike = λ c m n. alike-sets p q r c d (on c m n) h })
   where
-    bounds : (k : ℕ) → (1 ≤ startOf k) × (endOf k ≤ 65536)
+    bounds : (k : ℕ) → (1 ≤ leastOf k) × (endOf k ≤ 65536)
     bounds zero = (omega arith, omega arith)
     bounds (suc zero) = (omega arith, omega arith)
     bounds (suc (suc k)) = (omega arith, omega arith)
 
 in-set : (d : ℕ) → atom d ≡ true → InSet d (setOf d)
-unfolding setOf classOf startOf endOf least
+unfolding setOf classOf leastOf endOf least
 in-set d h =
     set-case (InSet d (setOf d)) d h
     (λ e.
@@ -76,7 +76,7 @@ module _ (names next taken : List ℕ) (d : ℕ) (w : Wanting names next taken d
   place = in-set d (w .right)
 
   -- the new atom is of d's set
-  new-low : startOf (setOf d) ≤ new
+  new-low : leastOf (setOf d) ≤ new
   new-low = place .range new (new-smallest .set) .0
 
   new-high : new < endOf (setOf d)
@@ -125,7 +125,7 @@ module _ (names next taken : List ℕ) (d : ℕ) (w : Wanting names next taken d
       let (p, q) = or-false (eqb a new) (any (eqb a) taken) m in
       names-after a ∙ rw (p, ne-eqb a d (λ e. clash (w .known) (unfold member any in ap (λ b. any (eqb b) taken) (sym e) ∙ q))) (w .taking .free a (unfold member any in q))
 
-  new-passed : (k : ℕ) → k < 3 → (a : ℕ) → startOf k ≤ a → a < getD (set next (setOf d) (new + 1)) k 0 → member a (new ∷ taken) ≡ true
+  new-passed : (k : ℕ) → k < 3 → (a : ℕ) → leastOf k ≤ a → a < getD (set next (setOf d) (new + 1)) k 0 → member a (new ∷ taken) ≡ true
   unfolding member any fresh
   new-passed k h a l u = go (eqb k (setOf d)) refl (rw (next-after k) at u)
     where
@@ -147,7 +147,7 @@ module _ (names next taken : List ℕ) (d : ℕ) (w : Wanting names next taken d
           none = names-after 0 ∙ rw (ne-eqb 0 new (λ e. omega (arith, new-small)), ne-eqb 0 d (λ e. not-zero d (w .right) (sym e))) (w .taking .none);
           used = new-used;
           free = new-free;
-          from = λ k h. rw (next-after k) (cond-case (λ n. startOf k ≤ n) (eqb k (setOf d)) (λ e. rw (eqb-true k (setOf d) e) (omega (arith, new-low))) (λ e. w .taking .from k h));
+          from = λ k h. rw (next-after k) (cond-case (λ n. leastOf k ≤ n) (eqb k (setOf d)) (λ e. rw (eqb-true k (setOf d) e) (omega (arith, new-low))) (λ e. w .taking .from k h));
           passed = new-passed;
         };
       }

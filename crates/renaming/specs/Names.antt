@@ -35,10 +35,10 @@ numberOf None = 2
 unfoldable pub setOf : ℕ → ℕ
 setOf a = numberOf (classOf a)
 
-unfoldable pub startOf : ℕ → ℕ
-startOf zero = 1
-startOf (suc zero) = 32768
-startOf (suc (suc k)) = 49152
+unfoldable pub leastOf : ℕ → ℕ
+leastOf zero = 1
+leastOf (suc zero) = 32768
+leastOf (suc (suc k)) = 49152
 
 -- r is the first place from `from` on where no atom occurs, or behind all names.
 pub record NextFree (names : List ℕ) (from r : ℕ) : Type 0 where
@@ -53,8 +53,8 @@ pub record Taking (names next taken : List ℕ) : Type 0 where
   pub none : getD names 0 0 ≡ 0
   pub used : (a : ℕ) → member a taken ≡ true → getD names a 0 ≢ 0
   pub free : (a : ℕ) → member a taken ≡ false → getD names a 0 ≡ 0
-  pub from : (k : ℕ) → k < 3 → startOf k ≤ getD next k 0
-  pub passed : (k : ℕ) → k < 3 → (a : ℕ) → startOf k ≤ a → a < getD next k 0 → member a taken ≡ true
+  pub from : (k : ℕ) → k < 3 → leastOf k ≤ getD next k 0
+  pub passed : (k : ℕ) → k < 3 → (a : ℕ) → leastOf k ≤ a → a < getD next k 0 → member a taken ≡ true
 
 -- An atom d that occurs is to be renamed, and there are few enough for a new one.
 pub record Wanting (names next taken : List ℕ) (d : ℕ) : Type 0 where

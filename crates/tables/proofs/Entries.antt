@@ -27,7 +27,8 @@ use Rattle.tables.specs.Scopes.{EndsOf, opens, strays}
 use Rattle.tables.specs.Index.{Listed, Inside, Index, entryOf, delimitsHere, agreesOf, fineBy, fineAt, threeFine, tupleFine}
 use Rattle.tables.proofs.Directory.{eq-case, blank-replicate}
 use Rattle.tables.proofs.Heights.{set-all}
-use Rattle.tables.proofs.Uses.{holds-size, place-inside, kind-here, delimitation-is, delimitation-here, endpoint-here, kill-here, none-used}
+use Rattle.records.proofs.Stands.{holds-size}
+use Rattle.tables.proofs.Uses.{place-inside, kind-here, delimitation-is, delimitation-here, endpoint-here, kill-here, none-used}
 
 -- a test as a number
 pub test-number : (b : Bool) → (boolByte b ≤ 1) × (b ≡ true → boolByte b ≡ 1)

@@ -19,7 +19,8 @@ use Rattle.records.specs.Holds.{Holds}
 use Rattle.tables.specs.declared.scopes.Scoping.the-variants.{Fine, Open, Clash}
 use Rattle.tables.specs.Scopes.{scopingOf, Passed, level, firstClash}
 use Rattle.tables.proofs.Marks.{none-again}
-use Rattle.tables.proofs.Uses.{kind-here, none-used, holds-size}
+use Rattle.records.proofs.Stands.{holds-size}
+use Rattle.tables.proofs.Uses.{kind-here, none-used}
 
 -- what was found so far, and one place more
 clash-next : (c n j : ℕ) (b : Bool) (q : Option ℕ) → c ≤ n → j < n → orElse (placeIf (ltb c n) c) (orElse (placeIf b j) q) ≡ orElse (placeIf (ltb (firstClash c n j b) n) (firstClash c n j b)) q

@@ -18,7 +18,8 @@ use Rattle.records.proofs.Shapes.{end-within, end-term}
 use Rattle.tables.specs.Scopes.{slotOf, Paged, Keeps, enteredOf, markOf, Passed, EndsOf}
 use Rattle.tables.proofs.Directory.{eq-case, keeps-as, store-keeps}
 use Rattle.tables.proofs.Marks.{entered-pass, mark-pass, entered-here, entered-other, mark-other, mark-there, mark-farther, mark-nearer, mark-again}
-use Rattle.tables.proofs.Uses.{atom-small, kind-here, delimitation-here, holds-size, place-inside}
+use Rattle.records.proofs.Stands.{holds-size}
+use Rattle.tables.proofs.Uses.{atom-small, kind-here, delimitation-here, place-inside}
 
 -- past a record that is no delimitation
 module _ (s pages marks : List ℕ) (j : ℕ) (l : j < length s / 16) (k : getD s (16 * j) 0 ≢ 8) (t : Term) where

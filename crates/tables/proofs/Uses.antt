@@ -19,15 +19,12 @@ use Rattle.cows.proofs.Basics.{lt-case, and-true, true-and, or-left, or-right, 
 use Rattle.cows.proofs.Sets.{set-case, value-range, variable-range, label-range}
 use Rattle.cows.proofs.Stands.{right-at}
 use Rattle.cows.proofs.Reach.{reachOf, reaches-on, reach-some, some-reach, enclosed-reach, binders-reach}
-use Rattle.cows.proofs.Format.{length-encode}
+use Rattle.records.proofs.Stands.{holds-size}
 use Rattle.cows.proofs.Fields.{kind-at, byte-at, word-at, kind-kill, kind-invoke, kind-receive, kind-delimitation, first-kill, first-delimitation, first-invoke, second-invoke, count-invoke, slot-invoke, first-receive, second-receive, count-receive, slot-receive}
 use Rattle.records.specs.Holds.{Holds}
 use Rattle.tables.specs.Scopes.{slotOf, markOf, Passed, level, opens, strays, faultBy, Levels, worseOf, TupleAt}
 
 -- The places of a table that holds a term.
-pub holds-size : (s : List ℕ) (t : Term) → Holds s t → length s / 16 ≡ size t
-holds-size s t h = omega (arith, ap length (h .is) ∙ length-encode t)
-
 pub place-inside : (s : List ℕ) (t : Term) (j : ℕ) → Holds s t → j < length s / 16 → j < size t
 place-inside s t j h l = omega (arith, holds-size s t h)
 

@@ -9,7 +9,7 @@ use Rattle.records.specs.Holds.{Holds}
 use Rattle.tables.specs.Scopes.{Keeps, Growing, enteredOf}
 use Rattle.tables.proofs.Directory.{keeps-as, growing-top, blank-growing, blank-keeps, store-growing}
 use Rattle.tables.proofs.Marks.{entered-none, entered-all}
-use Rattle.tables.proofs.Uses.{holds-size}
+use Rattle.records.proofs.Stands.{holds-size}
 use Rattle.tables.proofs.Steps.{enter-pass, enter-turn}
 use Rattle.tables.proofs.scopes.enter_all.Statement.{statement}
 use Rattle.tables.proofs.scopes.enter_all.Tie as tie
