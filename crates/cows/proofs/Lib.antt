@@ -27,4 +27,5 @@ pub mod Corollaries
 pub mod Steps
 pub mod Load
 pub mod Run
+pub mod Lists
 pub mod Theorems
