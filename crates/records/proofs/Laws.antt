@@ -1,5 +1,5 @@
 -- Laws of the numbers that code makes of tests, and of the number of children.
-use mathlib.Core.Path.{_≡_, refl}
+use mathlib.Core.Path.{_≡_, refl, sym, ap}
 use mathlib.Core.Logic.{_≢_}
 use mathlib.Core.Bool.{Bool, true, false}
 use mathlib.Core.List.{[], _∷_}
@@ -12,7 +12,7 @@ use mir.Val.{Fits, boolByte}
 use borrow.Author.Tests.{le-leb, lt-leb, ne-eqb, eqb-true}
 use mathlib.Core.Option.{Option, none, some}
 use Rattle.records.specs.declared.Found.the-variants.{At, Nothing}
-use Rattle.records.specs.Rows.{foundOf}
+use Rattle.records.specs.Rows.{foundOf, placeOr}
 use Rattle.cows.proofs.Basics.{bool-case, lt-case}
 use Rattle.records.specs.Ends.{oneIf, childrenOf, pickEnd}
 
@@ -62,3 +62,8 @@ found-at (some q) p e = cc
 pub found-nothing : (o : Option ℕ) → Nothing ≡ foundOf o → o ≡ none
 found-nothing none e = refl
 found-nothing (some q) e = cc
+
+-- a place below n, or n
+pub place-tells : (n m : ℕ) (g : Option ℕ) → ((p : ℕ) → g ≡ some p → p < n) → m ≡ placeOr n g → (m ≡ n → g ≡ none) × (m ≢ n → (g ≡ some m) × (m < n))
+place-tells n m none below e = (λ h. refl, λ h. absurd (h e))
+place-tells n m (some p) below e = let l = below p refl in (λ h. absurd (omega arith), λ h. (ap some (sym e), omega arith))

@@ -10,6 +10,7 @@ use lib.ListN.{length, getD, take, drop, drop-of-length-le, List·getD-eq-defaul
 use lib.Seq.{getD-take, getD-drop, drop-drop}
 use Rattle.cows.specs.Basics.{placeIf, orElse}
 use Rattle.cows.specs.Format.{byte, word, slots, rightRow, rightRecord, pieces, records}
+use Rattle.cows.proofs.Lists.{length-pieces}
 use Rattle.cows.specs.Tables.{firstWrong}
 use Rattle.cows.proofs.Basics.{lt-case}
 use Rattle.records.specs.Rows.{quad, tupleRow, plainRight}
@@ -65,11 +66,6 @@ module _ (s : List ℕ) (k : ℕ) where
       (plain-code (piece s k) (small-piece h) (λ e. m (sym first-piece ∙ e)) (λ e. n (sym first-piece ∙ e)))
 
 -- the records from a place on
-length-pieces : (w n : ℕ) (b : List ℕ) → length (pieces w n b) ≡ n
-unfolding pieces
-length-pieces w zero b = refl
-length-pieces w (suc n) b = ap suc (length-pieces w n (drop w b))
-
 pieces-cons : (w n i : ℕ) (b : List ℕ) → i < n → drop i (pieces w n b) ≡ take w (drop (w * i) b) ∷ drop (suc i) (pieces w n b)
 unfolding pieces
 pieces-cons w zero i b h = absurd (omega arith)

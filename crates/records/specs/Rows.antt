@@ -14,6 +14,11 @@ abbrev pub foundOf : Option ℕ → Found
 foundOf none = Nothing
 foundOf (some p) = At p
 
+-- a place, or n
+abbrev pub placeOr : ℕ → Option ℕ → ℕ
+placeOr n none = n
+placeOr n (some p) = p
+
 -- the 64-bit number at byte k
 unfoldable pub quad : List ℕ → ℕ → ℕ
 quad b k = word b k + 65536 * word b (k + 2) + 4294967296 * word b (k + 4) + 281474976710656 * word b (k + 6)

@@ -1,5 +1,4 @@
 // The rules for single records (refusal 2): the table of kinds, tested on the 16 bytes of a record.
-use crate::Found;
 use crate::word_at;
 ghost use mathlib.Core.Path.{_≡_};
 ghost use mathlib.Core.Bool.{_&&_};
@@ -8,9 +7,8 @@ ghost use Prim.Native.Nat.{_+_, _*_, _<_, _≤_};
 ghost use lib.ListN.{length, take, drop};
 ghost use lib.Dec.{eqb};
 ghost use Rattle.cows.specs.Terms.{variable};
-ghost use Rattle.cows.specs.Format.{word, distinct, rightRow, rightRecord, records};
-ghost use Rattle.cows.specs.Tables.{firstWrong};
-ghost use Rattle.records.specs.Rows.{quad, slotRight, tupleRow, plainRight, foundOf};
+ghost use Rattle.cows.specs.Format.{word, distinct, rightRow, rightRecord};
+ghost use Rattle.records.specs.Rows.{quad, slotRight, tupleRow, plainRight};
 
 fn wide8(x: u8) -> u64
     ensures { λ r. ⌜ (r ≡ x) × (r < 256) ⌝ }
@@ -112,19 +110,4 @@ pub fn record_right(s: &[u8], i: usize) -> bool
         return tuple_right(s, k, 32768) & d;
     }
     plain_right(kind, quad_at(s, k), quad_at(s, k + 8))
-}
-
-// Refusal 2: the first record that breaks a rule for single records.
-pub fn first_wrong(s: &[u8]) -> Found
-    ensures { λ r. ⌜ r ≡ foundOf (firstWrong 0 (records (now (s .entry)))) ⌝ }
-{
-    let n = s.len() / 16;
-    let mut i = 0;
-    while i < n {
-        if !record_right(s, i) {
-            return Found::At(i);
-        }
-        i += 1;
-    }
-    Found::Nothing
 }

@@ -16,14 +16,14 @@ use Rattle.cows.proofs.Tables.{records-hold}
 use Rattle.records.specs.Holds.{Holds}
 use Rattle.records.specs.Ends.{endAt}
 use Rattle.records.proofs.Shapes.{end-shape}
-use Rattle.tables.specs.declared.readers.Reading.{Reading}
-use Rattle.tables.specs.declared.scopes.Scoping.the-variants.{Fine, Open, Clash}
+use Rattle.readers.specs.declared.Reading.{Reading}
+use Rattle.scopes.specs.declared.Scoping.the-variants.{Fine, Open, Clash}
 use Rattle.tables.specs.declared.Verdict.{Verdict}
 use Rattle.tables.specs.declared.Verdict.the-variants.{Accepted, Length, Record, Shape, Deep, Choice, Open as OpenUse, Clash as Clashes}
-use Rattle.tables.specs.Scopes.{scopingOf}
-use Rattle.tables.specs.Quick.{shallow, guarded, bound}
+use Rattle.scopes.specs.Scopes.{scopingOf}
+use Rattle.quick.specs.Quick.{shallow, guarded, bound}
 use Rattle.tables.specs.Verdict.{replyOf, checkReply, judgeScopes, judgeShape}
-use Rattle.tables.proofs.Reading.{Tells}
+use Rattle.readers.proofs.Readings.{Tells}
 
 -- 6 and 7
 scoping-fine : (p q : Option ℕ) → Fine ≡ scopingOf p q → (p ≡ none) × (q ≡ none)

@@ -1,10 +1,1 @@
-pub mod Directory
-pub mod Marks
-pub mod Uses
-pub mod Steps
-pub mod Pass
-pub mod Reading
 pub mod Judging
-pub mod Heights
-pub mod Entries
-pub mod Fields

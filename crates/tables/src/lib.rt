@@ -1,15 +1,8 @@
 // Tables: whether bytes are a well-formed table, or the refusal of 1 to 7 with its place.
-mod index;
-mod quick;
-mod ranges;
-mod readers;
-mod scopes;
-
-use records::Found;
 use scopes::Scoping;
 ghost use mathlib.Core.Path.{_≡_};
 ghost use mathlib.Core.Option.{none};
-ghost use Prim.Native.Nat.{_%_, _<_, _≤_};
+ghost use Prim.Native.Nat.{_+_, _/_, _%_, _<_, _≤_, min};
 ghost use lib.ListN.{length};
 ghost use Rattle.cows.specs.Terms.{Term};
 ghost use Rattle.cows.specs.Format.{records};
@@ -67,6 +60,19 @@ fn refusal(answer: u8, place: usize) -> Reply
 }
 
 // Refusals 6 and 7 of a table that holds a term.
+fn find_scopes(s: &[u8], ends: &[u16]) -> Verdict
+    requires { ⌜ EndsFrom (now s) (now ends) 0 ⌝ }
+    ensures { λ v. ⌜ ((t : Term) → Holds (now (s .entry)) t → replyOf v ≡ checkReply (judgeScopes t)) ⌝ }
+{
+    let found = scopes::scope_faults(s, ends);
+    match found {
+        Scoping::Fine => Verdict::Accepted(s.len() / 16),
+        Scoping::Open(p) => Verdict::Open(p),
+        Scoping::Clash(p) => Verdict::Clash(p),
+    }
+}
+
+// The same, with the quick test first.
 fn judge_scopes(s: &[u8], ends: &[u16]) -> Verdict
     requires { ⌜ EndsFrom (now s) (now ends) 0 ⌝ }
     ensures { λ v. ⌜ ((t : Term) → Holds (now (s .entry)) t → replyOf v ≡ checkReply (judgeScopes t)) ⌝ }
@@ -74,12 +80,7 @@ fn judge_scopes(s: &[u8], ends: &[u16]) -> Verdict
     if index::scopes_right(s, ends) {
         return Verdict::Accepted(s.len() / 16);
     }
-    let found = scopes::scope_faults(s, ends);
-    match found {
-        Scoping::Fine => Verdict::Accepted(s.len() / 16),
-        Scoping::Open(p) => Verdict::Open(p),
-        Scoping::Clash(p) => Verdict::Clash(p),
-    }
+    find_scopes(s, ends)
 }
 
 // Refusals 4 to 7 of a table that holds a term.
@@ -98,12 +99,12 @@ fn judge_term(s: &[u8], ends: &[u16]) -> Verdict
     if r.fault != n {
         return Verdict::Choice(r.fault);
     }
-    judge_scopes(s, ends)
+    find_scopes(s, ends)
 }
 
 // Refusals 3 to 7 of right records; `ends` takes the ends of the terms.
 fn judge_records(s: &[u8], ends: &mut [u16]) -> Verdict
-    requires { ⌜ (length (now s) ≤ 32768) × (length (now s) % 16 ≡ 0) × (firstWrong 0 (records (now s)) ≡ none) × (2049 < length (now ends)) ⌝ }
+    requires { ⌜ (length (now s) ≤ 32768) × (length (now s) % 16 ≡ 0) × (firstWrong 0 (records (now s)) ≡ none) × (length (now s) / 16 + 1 < length (now ends)) ⌝ }
     ensures { λ v. ⌜ (replyOf v ≡ checkReply (judgeShape (now (s .entry)))) × EndsFrom (now (s .entry)) (now (ends .exit)) 0 ⌝ }
 {
     let n = s.len() / 16;
@@ -120,26 +121,23 @@ fn judge_records(s: &[u8], ends: &mut [u16]) -> Verdict
 
 // All refusals of a table; `ends` takes the ends of the terms of an accepted one.
 fn judge_table(s: &[u8], ends: &mut [u16]) -> Verdict
-    requires { ⌜ 2049 < length (now ends) ⌝ }
+    requires { ⌜ min (length (now s) / 16) 2048 + 1 < length (now ends) ⌝ }
     ensures { λ v. ⌜ Checked (now (s .entry)) (now (ends .exit)) (replyOf v) ⌝ }
 {
     let n = s.len();
     if (n == 0) | (32768 < n) | (n % 16 != 0) {
         return Verdict::Length;
     }
-    if ranges::records_right(s) {
-        return judge_records(s, ends);
-    }
-    let wrong = records::rows::first_wrong(s);
-    if let Found::At(p) = wrong {
-        return Verdict::Record(p);
+    let wrong = reader::read_records(s);
+    if wrong != n / 16 {
+        return Verdict::Record(wrong);
     }
     judge_records(s, ends)
 }
 
 // Whether bytes are a well-formed table, as `check` says, with the ends of its terms if it is.
 pub fn check_ends(table: &[u8], ends: &mut [u16]) -> Reply
-    requires { ⌜ 2049 < length (now ends) ⌝ }
+    requires { ⌜ min (length (now table) / 16) 2048 + 1 < length (now ends) ⌝ }
     ensures { λ r. ⌜ Checked (now (table .entry)) (now (ends .exit)) r ⌝ }
 {
     answer_of(judge_table(table, ends))
@@ -149,6 +147,10 @@ pub fn check_ends(table: &[u8], ends: &mut [u16]) -> Reply
 pub fn check(table: &[u8]) -> Reply
     ensures { λ r. ⌜ r ≡ checkReply (judge (now (table .entry))) ⌝ }
 {
+    if table.len() <= 4096 {
+        let mut few = [0u16; 258];
+        return check_ends(table, &mut few);
+    }
     let mut ends = [0u16; 2050];
     check_ends(table, &mut ends)
 }

@@ -1,7 +1,6 @@
 use borrow.Author.Needs.{needs}
-use mathlib.Core.Path.{sym, _∙_}
-use Rattle.tables.proofs.Reading.{holds-size}
-use Rattle.tables.proofs.Judging.{judge-bound, judge-fine, judge-open, judge-clash}
+use Rattle.records.proofs.Stands.{holds-size}
+use Rattle.tables.proofs.Judging.{judge-bound}
 use Rattle.tables.proofs.judge_scopes.Statement.{statement}
 use Rattle.tables.proofs.judge_scopes.Tie as tie
 
@@ -10,11 +9,6 @@ judge-scopes-spec =
     tie.close
     (tie.spec
     (λ c κs. search needs)
-    (λ c t h. judge-bound t _ (c .before .scopes-right .ensures (c .if1 .taken) t h) (holds-size h))
+    (λ c t h. judge-bound t _ (c .before .scopes-right .ensures (c .if1 .taken) t h) (holds-size _ t h))
     (λ c κs. search needs)
-    (λ c. search needs)
-    (λ c. search needs)
-    (λ c. search needs)
-    (λ c t h. judge-fine t _ (sym (c .enum-told .given .1) ∙ c .before .before .scope-faults .ensures t h) (holds-size h))
-    (λ c t h. judge-open t _ (sym (c .before .found .given .1) ∙ c .before .before .before .scope-faults .ensures t h))
-    (λ c t h. judge-clash t _ (sym (c .before .found2 .given .1) ∙ c .before .before .before .scope-faults .ensures t h)))
+    (λ c t h. c .find-scopes .ensures t h))

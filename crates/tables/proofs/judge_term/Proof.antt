@@ -1,5 +1,6 @@
 use borrow.Author.Needs.{needs}
-use Rattle.tables.proofs.Reading.{holds-size, reads-tells}
+use Rattle.records.proofs.Stands.{holds-size}
+use Rattle.readers.proofs.Readings.{reads-tells}
 use Rattle.tables.proofs.Judging.{judge-deep, judge-choice, judge-rest, judge-read}
 use Rattle.tables.proofs.judge_term.Statement.{statement}
 use Rattle.tables.proofs.judge_term.Tie as tie
@@ -16,9 +17,9 @@ judge-term-spec =
     (λ c. search needs)
     (λ c. search needs)
     (λ c t h. let s = c .before .before .before .service in
-    judge-deep t (s .result) _ (reads-tells _ t _ h (s .ensures)) (holds-size h) (c .before .if2 .taken))
+    judge-deep t (s .result) _ (reads-tells _ t _ h (s .ensures)) (holds-size _ t h) (c .before .if2 .taken))
     (λ c t h. let s = c .before .before .before .before .service in
-    judge-choice t (s .result) _ (reads-tells _ t _ h (s .ensures)) (holds-size h) (c .before .before .if2 .left) (c .if3 .taken))
+    judge-choice t (s .result) _ (reads-tells _ t _ h (s .ensures)) (holds-size _ t h) (c .before .before .if2 .left) (c .if3 .taken))
     (λ c κs. search needs)
     (λ c t h. let s = c .before .before .before .before .before .service in
-    judge-rest t (s .result) _ (c .judge-scopes2 .result) (reads-tells _ t _ h (s .ensures)) (holds-size h) (c .before .before .before .if2 .left) (c .before .if3 .left) (c .judge-scopes2 .ensures t h)))
+    judge-rest t (s .result) _ (c .find-scopes .result) (reads-tells _ t _ h (s .ensures)) (holds-size _ t h) (c .before .before .before .if2 .left) (c .before .if3 .left) (c .find-scopes .ensures t h)))

@@ -1,0 +1,63 @@
+use mathlib.Core.Path.{_≡_, refl}
+use mathlib.Core.Bool.{true}
+use Prim.Native.Nat.{ℕ, _*_, _-_, _/_, _≤_, _<_}
+use native.Mathlib.Omega.{arith}
+use borrow.Author.Count.{below-more}
+use lib.ListN.{length}
+use Rattle.cows.proofs.Basics.{and-true}
+use Rattle.ranges.specs.Ranges.{kindLowest, kindGreatest, countLowest, countGreatest, ranged}
+use Rattle.ranges.proofs.fields_right.Statement.{statement}
+use Rattle.ranges.proofs.fields_right.Tie as tie
+
+abbrev Inv-loop : tie.InvT-loop
+Inv-loop s low top slot-low slot-top n right₀ i₀ right i =
+    (n ≡ length s / 16) × (i ≤ n) × (right ≡ true → (j : ℕ) → j < i → ranged s (16 * j) ≡ true)
+
+abbrev μ-loop : tie.MeasureT-loop
+μ-loop s low top slot-low slot-top n right₀ i₀ right i = n - i
+
+loop-again : tie.Need-loop-again Inv-loop μ-loop
+unfolding kindLowest kindGreatest countLowest countGreatest ranged
+loop-again c =
+    let v = c .before .before .before .before .before .before .before .before .before .before .before .before .before .loop .inv in (
+      v .0,
+      omega arith,
+      λ e.
+          let (p, q) = and-true _ _ e in
+          below-more _ _ (v .2 p) (rw (c .at-most2 .ensures, c .before .before .at-least2 .ensures, c .before .before .before .before .at-most .ensures, c .before .before .before .before .before .before .at-least .ensures, c .before .before .before .before .before .before .before .before .wide82 .ensures .0, c .before .before .before .before .before .before .before .before .before .before .wide8 .ensures .0) at q),
+    )
+
+pub fields-right-spec : {M : Type 1} → statement M
+fields-right-spec =
+    tie.close
+    (tie.spec
+    Inv-loop
+    μ-loop
+    (λ c. (refl, omega arith, λ e j l. absurd (omega arith)))
+    (λ c. omega arith)
+    (λ c. omega arith)
+    (λ c κs. tt)
+    (λ c. omega arith)
+    (λ c. omega arith)
+    (λ c. omega arith)
+    (λ c κs. tt)
+    (λ c. omega arith)
+    (λ c. omega arith)
+    (λ c. omega arith)
+    (λ c κs. omega arith)
+    (λ c. omega arith)
+    (λ c. omega arith)
+    (λ c. omega arith)
+    (λ c κs. omega arith)
+    (λ c. omega arith)
+    (λ c. omega arith)
+    (λ c. omega arith)
+    (λ c κs. omega arith)
+    (λ c. omega arith)
+    (λ c. omega arith)
+    (λ c. omega arith)
+    (λ c κs. omega arith)
+    (λ c. omega arith)
+    (λ c. omega arith)
+    loop-again
+    (λ c e i l. c .before .loop .inv .2 e i (omega arith)))

@@ -1,0 +1,187 @@
+// Ranges: the rules for single records (refusal 2) as ranges of the eight 16-bit fields of a record, by its kind and by its count: a quick test that only ever
+// accepts, without branches on the kind.
+pub mod places;
+
+use places::places;
+use records::rows::distinct4;
+use records::wide16;
+use records::word_at;
+ghost use mathlib.Core.Path.{_≡_};
+ghost use mathlib.Core.Bool.{true};
+ghost use mathlib.Core.Option.{none};
+ghost use Prim.Native.Nat.{ℕ, _+_, _*_, _/_, _<_, _≤_};
+ghost use lib.ListN.{length, getD};
+ghost use Rattle.cows.specs.Format.{records};
+ghost use Rattle.cows.specs.Tables.{firstWrong};
+ghost use Rattle.ranges.specs.Lists.{Inside};
+ghost use Rattle.ranges.specs.Ranges.{atLeast, atMost, ranged, patternRight};
+
+// The lowest and the greatest number in each field, by the kind: kind and count, first atom, second atom, four slots, of which the count tells, interval.
+const KIND_LOWEST: [[u16; 8]; 16] = [
+    [0, 0, 0, 0, 0, 0, 0, 0],
+    [1, 49152, 0, 0, 0, 0, 0, 0],
+    [2, 1, 1, 0, 0, 0, 0, 0],
+    [3, 1, 1, 0, 0, 0, 0, 0],
+    [4, 0, 0, 0, 0, 0, 0, 0],
+    [5, 0, 0, 0, 0, 0, 0, 0],
+    [6, 0, 0, 0, 0, 0, 0, 0],
+    [7, 0, 0, 0, 0, 0, 0, 0],
+    [8, 1, 0, 0, 0, 0, 0, 0],
+    [9, 0, 0, 0, 0, 0, 0, 0],
+    [10, 0, 0, 0, 0, 0, 0, 0],
+    [11, 0, 0, 0, 0, 0, 0, 0],
+    [12, 0, 0, 0, 0, 0, 0, 0],
+    [13, 0, 0, 0, 0, 0, 0, 0],
+    [14, 0, 0, 0, 0, 0, 0, 0],
+    [15, 0, 0, 0, 0, 0, 0, 0],
+];
+
+const KIND_GREATEST: [[u16; 8]; 16] = [
+    [0, 0, 0, 65535, 65535, 65535, 65535, 0],
+    [1, 65535, 0, 65535, 65535, 65535, 65535, 0],
+    [1026, 49151, 49151, 65535, 65535, 65535, 65535, 0],
+    [1027, 32767, 32767, 65535, 65535, 65535, 65535, 0],
+    [4, 0, 0, 65535, 65535, 65535, 65535, 65535],
+    [5, 0, 0, 65535, 65535, 65535, 65535, 0],
+    [6, 0, 0, 65535, 65535, 65535, 65535, 0],
+    [7, 0, 0, 65535, 65535, 65535, 65535, 0],
+    [8, 65535, 0, 65535, 65535, 65535, 65535, 0],
+    [9, 0, 0, 65535, 65535, 65535, 65535, 0],
+    [10, 0, 0, 65535, 65535, 65535, 65535, 0],
+    [11, 0, 0, 65535, 65535, 65535, 65535, 0],
+    [12, 0, 0, 65535, 65535, 65535, 65535, 0],
+    [13, 0, 0, 65535, 65535, 65535, 65535, 0],
+    [14, 0, 0, 65535, 65535, 65535, 65535, 0],
+    [15, 0, 0, 65535, 65535, 65535, 65535, 0],
+];
+
+// The same by the count, which tells of the slots only.
+const COUNT_LOWEST: [[u16; 8]; 8] = [
+    [0, 0, 0, 0, 0, 0, 0, 0],
+    [0, 0, 0, 1, 0, 0, 0, 0],
+    [0, 0, 0, 1, 1, 0, 0, 0],
+    [0, 0, 0, 1, 1, 1, 0, 0],
+    [0, 0, 0, 1, 1, 1, 1, 0],
+    [0, 0, 0, 1, 1, 1, 1, 0],
+    [0, 0, 0, 1, 1, 1, 1, 0],
+    [0, 0, 0, 1, 1, 1, 1, 0],
+];
+
+const COUNT_GREATEST: [[u16; 8]; 8] = [
+    [65535, 65535, 65535, 0, 0, 0, 0, 65535],
+    [65535, 65535, 65535, 49151, 0, 0, 0, 65535],
+    [65535, 65535, 65535, 49151, 49151, 0, 0, 65535],
+    [65535, 65535, 65535, 49151, 49151, 49151, 0, 65535],
+    [65535, 65535, 65535, 49151, 49151, 49151, 49151, 65535],
+    [65535, 65535, 65535, 49151, 49151, 49151, 49151, 65535],
+    [65535, 65535, 65535, 49151, 49151, 49151, 49151, 65535],
+    [65535, 65535, 65535, 49151, 49151, 49151, 49151, 65535],
+];
+
+fn wide8(x: u8) -> usize
+    ensures { λ r. ⌜ (r ≡ x) × (r < 256) ⌝ }
+{
+    x as usize
+}
+
+// The fields of the record at byte k are no less than those of a row.
+fn at_least(s: &[u8], k: usize, low: [u16; 8]) -> bool
+    requires { ⌜ k + 15 < length (now s) ⌝ }
+    ensures { λ r. ⌜ r ≡ atLeast (now (s .entry)) k low ⌝ }
+{
+    (low[0] <= word_at(s, k))
+        & (low[1] <= word_at(s, k + 2))
+        & (low[2] <= word_at(s, k + 4))
+        & (low[3] <= word_at(s, k + 6))
+        & (low[4] <= word_at(s, k + 8))
+        & (low[5] <= word_at(s, k + 10))
+        & (low[6] <= word_at(s, k + 12))
+        & (low[7] <= word_at(s, k + 14))
+}
+
+// The fields of the record at byte k are no greater than those of a row.
+fn at_most(s: &[u8], k: usize, top: [u16; 8]) -> bool
+    requires { ⌜ k + 15 < length (now s) ⌝ }
+    ensures { λ r. ⌜ r ≡ atMost (now (s .entry)) k top ⌝ }
+{
+    (word_at(s, k) <= top[0])
+        & (word_at(s, k + 2) <= top[1])
+        & (word_at(s, k + 4) <= top[2])
+        & (word_at(s, k + 6) <= top[3])
+        & (word_at(s, k + 8) <= top[4])
+        & (word_at(s, k + 10) <= top[5])
+        & (word_at(s, k + 12) <= top[6])
+        & (word_at(s, k + 14) <= top[7])
+}
+
+// The fields of every record are within the ranges of its kind and of its count.
+fn fields_right(s: &[u8]) -> bool
+    ensures { λ r. ⌜ (r ≡ true → (i : ℕ) → i < length (now (s .entry)) / 16 → ranged (now (s .entry)) (16 * i) ≡ true) ⌝ }
+{
+    let low = KIND_LOWEST;
+    let top = KIND_GREATEST;
+    let slot_low = COUNT_LOWEST;
+    let slot_top = COUNT_GREATEST;
+    let n = s.len() / 16;
+    let mut right = true;
+    let mut i = 0;
+    while i < n {
+        let kind = s[16 * i];
+        let e = wide8(kind % 16);
+        let f = wide8(s[16 * i + 1] % 8);
+        right = right
+            & ((kind < 10)
+                & at_least(s, 16 * i, low[e])
+                & at_most(s, 16 * i, top[e])
+                & at_least(s, 16 * i, slot_low[f])
+                & at_most(s, 16 * i, slot_top[f]));
+        i += 1;
+    }
+    right
+}
+
+// No variable stands twice in the patterns at the first m places of the list.
+fn patterns_right(s: &[u8], list: &[u16], m: usize) -> bool
+    requires { ⌜ Inside (now s) (now list) m ⌝ }
+    ensures { λ r. ⌜ (r ≡ true → (q : ℕ) → q < m → patternRight (now (s .entry)) (16 * getD (now (list .entry)) q 0) ≡ true) ⌝ }
+{
+    let mut i = 0;
+    while i < m {
+        let k = 16 * wide16(list[i]);
+        if !distinct4(
+            word_at(s, k + 6),
+            word_at(s, k + 8),
+            word_at(s, k + 10),
+            word_at(s, k + 12),
+        ) {
+            return false;
+        }
+        i += 1;
+    }
+    true
+}
+
+// No variable stands twice in a pattern of the table; the list takes the places of the patterns.
+fn distinct_right(s: &[u8], list: &mut [u16]) -> bool
+    requires { ⌜ (length (now s) / 16 ≤ 2048) × (length (now s) / 16 < length (now list)) ⌝ }
+    ensures { λ r. ⌜ (r ≡ true → (i : ℕ) → i < length (now (s .entry)) / 16 → getD (now (s .entry)) (16 * i) 0 ≡ 3 → patternRight (now (s .entry)) (16 * i) ≡ true) ⌝ }
+{
+    let m = places(s, 3, 3, list);
+    patterns_right(s, list, m)
+}
+
+// Refusal 2 does not apply. A short table takes a short list, since its numbers are cleared first.
+pub fn records_right(s: &[u8]) -> bool
+    requires { ⌜ length (now s) / 16 ≤ 2048 ⌝ }
+    ensures { λ r. ⌜ (r ≡ true → firstWrong 0 (records (now (s .entry))) ≡ none) ⌝ }
+{
+    if !fields_right(s) {
+        return false;
+    }
+    if s.len() <= 4096 {
+        let mut few = [0u16; 257];
+        return distinct_right(s, &mut few);
+    }
+    let mut list = [0u16; 2050];
+    distinct_right(s, &mut list)
+}

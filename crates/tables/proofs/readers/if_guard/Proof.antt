@@ -1,5 +1,0 @@
-use Rattle.tables.proofs.readers.if_guard.Statement.{statement}
-use Rattle.tables.proofs.readers.if_guard.Tie as tie
-
-pub if-guard-spec : {M : Type 1} → statement M
-if-guard-spec = tie.close (tie.spec (λ c. rw (c .if1 .taken)) (λ c. rw (c .if1 .left)))

@@ -1,7 +1,0 @@
-use Rattle.tables.specs.Scopes.{firstClash}
-use Rattle.tables.proofs.scopes.first_clash.Statement.{statement}
-use Rattle.tables.proofs.scopes.first_clash.Tie as tie
-
-pub first-clash-spec : {M : Type 1} → statement M
-unfolding firstClash
-first-clash-spec = tie.close (tie.spec (λ c. rw (c .if1 .taken)) (λ c. rw (c .if1 .left)))
