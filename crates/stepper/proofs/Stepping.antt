@@ -70,14 +70,11 @@ table-read s ends r b h z = go (judge s) refl
       table = record { holds = record { is = sym (judge-encode s t b e); right = judge-within s t b e .right }; within = judge-within s t b e; end = h .end z };
     }
 
+pub table-known : (s ends : List ℕ) (t : Term) → Table s ends t → Known s ends
+table-known s ends t h = record { term = t; table = h; whole = omega (arith, ap length (h .holds .is), length-encode t); few = h .end .few; room = h .end .room }
+
 pub read-known : (s ends : List ℕ) → Read s ends → Known s ends
-read-known s ends q = record {
-  term = q .term;
-  table = q .table;
-  whole = omega (arith, ap length (q .table .holds .is), length-encode (q .term));
-  few = q .table .end .few;
-  room = q .table .end .room;
-}
+read-known s ends q = table-known s ends (q .term) (q .table)
 
 pub read-stepped : (s ends m out after : List ℕ) (r : Reply) (q : Read s ends) → Answers (stepTerm (q .term) m (length out)) out after r → Stepped s m out after r
 unfolding stepReply stepOutput judgeStep

@@ -1,6 +1,6 @@
 // Stepper: one move on a table, any bytes for both: the reply, and the successor in the output.
 mod moving;
-mod reading;
+pub mod reading;
 
 use tables::Reply;
 ghost use lib.ListN.{length};
@@ -21,7 +21,7 @@ pub enum Move {
 }
 
 // A move on a known table: refusals 10 to 21.
-fn step_known(s: &[u8], ends: &[u16], m: &[u8], out: &mut [u8]) -> Reply
+pub fn step_known(s: &[u8], ends: &[u16], m: &[u8], out: &mut [u8]) -> Reply
     requires { ⌜ Known (now s) (now ends) ⌝ }
     ensures { λ r. ⌜ ((t : Term) → Table (now (s .entry)) (now (ends .entry)) t → Answers (stepTerm t (now (m .entry)) (length (now (out .entry)))) (now (out .entry)) (now (out .exit)) r) ⌝ }
 {

@@ -1,0 +1,6 @@
+pub mod Loading
+pub mod Turning
+pub mod Writing
+pub mod Playing
+pub mod Whole
+pub mod Theorems

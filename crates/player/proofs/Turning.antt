@@ -1,0 +1,311 @@
+-- One move of a list (specs/Turns): what an accepted move copies, what its judgement gives the run, and the table then kept.
+use mathlib.Core.Path.{_≡_, refl, sym, ap, subst, _∙_}
+use mathlib.Core.Logic.{_≢_}
+use mathlib.Core.Bool.{Bool, true, false, not, cond}
+use mathlib.Core.List.{List, _++_}
+use mathlib.Core.Option.{some}
+use Prim.Native.Nat.{ℕ, zero, suc, _+_, _*_, _/_, _≤_, _<_}
+use native.Mathlib.Omega.{arith}
+use lib.Dec.{eqb}
+use lib.ListN.{length, getD, take, drop, length-append, length-drop}
+use lib.Seq.{take-at, length-take-le}
+use borrow.Author.Tests.{ne-eqb}
+use Rattle.cows.specs.Basics.{Result, refuse, accept}
+use Rattle.cows.specs.Terms.{Term, under, replication, size, prefixed, replicates, below}
+use Rattle.cows.specs.Places.{sub}
+use Rattle.cows.specs.Format.{byte, word, encode}
+use Rattle.cows.specs.Active.{wanted}
+use Rattle.cows.specs.Within.{Within}
+use Rattle.cows.specs.Allows.{Live}
+use Rattle.cows.specs.Moves.{Move, Unfold, unfoldAt, successor}
+use Rattle.cows.specs.Step.{readMove, stepTerm, reply, written}
+use Rattle.cows.specs.Load.{load, copies}
+use Rattle.cows.specs.Run.{noTally, Run, judgement, enter, turn, kept, count}
+use Rattle.cows.proofs.Basics.{bind-accept}
+use Rattle.cows.proofs.Format.{length-encode}
+use Rattle.cows.proofs.Stands.{replicates-is, prefixed-is, wanted-live}
+use Rattle.cows.proofs.Step as steps
+use Rattle.cows.proofs.Step.{Below, below-step, read-case}
+use Rattle.cows.proofs.Preserving.{step-within}
+use Rattle.records.specs.Ends.{EndsFrom}
+use Rattle.passes.specs.Known.{Table, Known}
+use Rattle.passes.proofs.Tables.{one-table, table-size}
+use Rattle.tables.specs.declared.Reply.{Reply}
+use Rattle.stepper.specs.Replies.{replyOf, Answers}
+use Rattle.stepper.proofs.Stepping.{table-known}
+use Rattle.tally.specs.declared.Tally.{Tally}
+use Rattle.tally.specs.Counted.{tallyOf, countedBy, Room, Small}
+use Rattle.tally.proofs.Counting.{counted-reads, counted-small, small-later, small-room}
+use Rattle.player.specs.declared.turns.Kept.{Kept}
+use Rattle.player.specs.declared.turns.Tried.{Tried}
+use Rattle.player.specs.Loads.{loadBetween}
+use Rattle.player.specs.Turns.{held, Accepted, Copied, Asks, Judged, Begins, Turned, Keeps, Going, keptAfter, Goes}
+use Rattle.player.proofs.Loading.{body-load}
+
+-- only a move of kind 4, an unfolding, copies anything
+pub copied-none : (s ends m : List ℕ) → getD m 0 0 ≢ 4 → Copied s ends m 0
+unfolding copies byte
+copied-none s ends m h = record {
+  is = λ t _ v e. read-case (λ kind v. kind ≢ 4 → 0 ≡ copies t v) m (λ _. refl) (λ _. refl) (λ _. refl) (λ _. refl) (λ k. absurd (k refl)) (λ _. refl) v e h;
+  few = omega arith;
+}
+
+read-unfold : (m : List ℕ) (v : Move) → readMove m ≡ some v → getD m 0 0 ≡ 4 → Unfold (word m 2) ≡ v
+unfolding byte
+read-unfold m v e h =
+    read-case (λ kind v. kind ≡ 4 → Unfold (word m 2) ≡ v) m (λ z. absurd (omega arith)) (λ z. absurd (omega arith)) (λ z. absurd (omega arith)) (λ z. absurd (omega arith)) (λ _. refl) (λ z. absurd (omega arith)) v e h
+
+unfold-live : (t s : Term) (a : ℕ) → unfoldAt t a ≡ accept s → Live t a (under replication (below (sub t a)))
+unfolding unfoldAt
+unfold-live t s a e =
+    let (x, ex, es) = bind-accept (wanted (prefixed replicates) t a) _ s e in
+    wanted-live (prefixed replicates) t a x (under replication (below (sub t a))) (prefixed-is replicates (λ _. replication) replicates-is (sub t a) x) ex
+
+pub accepted-unfolds : (s ends m : List ℕ) (h : Accepted s ends m) → getD m 0 0 ≡ 4 → Live (h .known .term) (word m 2) (under replication (below (sub (h .known .term) (word m 2))))
+accepted-unfolds s ends m h k =
+    let a = steps.step-accepted (h .known .term) (h .successor) m 32768 (h .accepted) in
+    unfold-live (h .known .term) (h .successor) (word m 2)
+    (unfold successor in subst (λ v. successor (h .known .term) v ≡ accept (h .successor)) (sym (read-unfold m (a .move) (a .reads) k)) (a .moves))
+
+pub unfold-inside : (s ends m : List ℕ) (h : Accepted s ends m) → getD m 0 0 ≡ 4 → (a : ℕ) → a ≡ word m 2 → a < length s / 16
+unfold-inside s ends m h k a e = omega (arith, accepted-unfolds s ends m h k .at .placed, table-size s ends (h .known .term) (h .known .table), e)
+
+pub copied-body : (s ends m : List ℕ) (h : Accepted s ends m) → getD m 0 0 ≡ 4 → (a r : ℕ) → a ≡ word m 2 → r ≡ loadBetween s (a + 1) (getD ends a 0) → r ≤ 2048 → Copied s ends m r
+unfolding copies
+copied-body s ends m h k a r ea er few = record {
+  is = λ t ht v e.
+      let l = accepted-unfolds s ends m h k in
+      let same = one-table s ends t (h .known .term) ht (h .known .table) in
+      let is : loadBetween s (word m 2 + 1) (getD ends (word m 2) 0) ≡ load (below (sub t (word m 2))) =
+      rw same (body-load s ends (h .known .term) (h .known .table) (word m 2) (l .at .placed) replication _ (l .at .stands)) in
+      subst (λ w. r ≡ copies t w) (read-unfold m v e k) (er ∙ (ap (λ (b : ℕ). loadBetween s (b + 1) (getD ends b 0)) ea ∙ is));
+  few = few;
+}
+
+-- what a reply says of the result that it answers
+answer-refused : (x : Result Term) (r : Reply) → r ≡ replyOf (reply x) → r .answer ≢ 0 → (n : ℕ) × (p : ℕ) × (x ≡ refuse n p)
+unfolding reply
+answer-refused (refuse n p) r e h = (n, p, refl)
+answer-refused (accept s) r e h = absurd (h (ap (λ q. q .answer) e))
+
+answer-accepted : (b : ℕ) (x : Result Term) (r : Reply) → Below b x → r ≡ replyOf (reply x) → r .answer ≡ 0 → (s : Term) × (x ≡ accept s)
+unfolding reply
+answer-accepted b (refuse n p) r k e h = absurd (omega (arith, k .0, ap (λ q. q .answer) e, h))
+answer-accepted b (accept s) r k e h = (s, refl)
+
+pub judgement-accepted : (q : Run) (m : List ℕ) (r : Reply) → r ≡ replyOf (reply (judgement q m)) → r .answer ≡ 0 → (s : Term) × (judgement q m ≡ accept s)
+unfolding judgement
+judgement-accepted q m r e h =
+    let b = suc (size (q .table) + word m 2 + word m 4) in
+    answer-accepted b (stepTerm (q .table) m 32768) r (below-step (q .table) b (omega arith) m 32768 (omega arith) (omega arith)) e h
+
+-- the step's answer with a buffer for any successor is the run's; an accepted move
+pub answers-run : (q : Run) (m to after : List ℕ) (r : Reply) → length to ≡ 32768 → Answers (stepTerm (q .table) m (length to)) to after r → Answers (judgement q m) to after r
+unfolding judgement
+answers-run q m to after r e a = subst (λ n. Answers (stepTerm (q .table) m n) to after r) e a
+
+pub accepted-by : (s ends m to after : List ℕ) (c : Tally) (r : Reply) → Asks s ends m to c → ((t : Term) → Table s ends t → Answers (stepTerm t m (length to)) to after r) → r .answer ≡ 0 → Accepted s ends m
+unfolding judgement
+accepted-by s ends m to after c r h a z =
+    let q : Run = record { table = h .known .term; tally = noTally } in
+    let (u, e) = judgement-accepted q m r (answers-run q m to after r (h .room) (a (h .known .term) (h .known .table)) .replies) z in
+    record { known = h .known; successor = u; accepted = e; six = h .six }
+
+pub room-less : (c : Tally) (l : ℕ) → Room c 2048 → l ≤ 2048 → Room c l
+room-less c l r h = record { communications-fit = r .communications-fit; kills-fit = r .kills-fit; timeouts-fit = r .timeouts-fit; copied-fits = omega arith }
+
+-- some run that keeps a known table
+abbrev pub runOf : {s ends : List ℕ} → Known s ends → Run
+runOf k = record { table = k .term; tally = noTally }
+
+-- the run goes on by an accepted move only
+turn-refused : (q : Run) (m : List ℕ) (n p : ℕ) → judgement q m ≡ refuse n p → turn q m ≡ q
+unfolding turn enter
+turn-refused q m n p e = rw e
+
+turn-accepted : (q : Run) (m : List ℕ) (s : Term) (v : Move) → judgement q m ≡ accept s → readMove m ≡ some v → turn q m ≡ record { table = s; tally = count (q .tally) (q .table) v }
+unfolding turn enter
+turn-accepted q m s v e h = rw (e, h)
+
+accepted-move : (q : Run) (m : List ℕ) (s : Term) → judgement q m ≡ accept s → (v : Move) × (readMove m ≡ some v)
+unfolding judgement
+accepted-move q m s e = let a = steps.step-accepted (q .table) s m 32768 e in (a .move, a .reads)
+
+-- the tally after a refused and after an accepted move
+pub judged-refused : (q : Run) (m : List ℕ) (c : Tally) (to after : List ℕ) (r : Reply) → Answers (judgement q m) to after r → r .answer ≢ 0 → Judged q m c to after (record { reply = r; tally = c })
+judged-refused q m c to after r a h =
+    let (n, p, e) = answer-refused (judgement q m) r (a .replies) h in
+    record { answers = a; tallied = λ t. rw (turn-refused q m n p e) t; grows = λ i s. small-later c i s }
+
+pub judged-accepted : (q : Run) (s ends m : List ℕ) (c : Tally) (to after : List ℕ) (r : Reply) (l : ℕ) (d : Tally) → Table s ends (q .table) → Answers (judgement q m) to after r → r .answer ≡ 0
+    → Copied s ends m l → d ≡ countedBy c (getD m 0 0) l → Judged q m c to after (record { reply = r; tally = d })
+judged-accepted q s ends m c to after r l d h a z k e =
+    let (u, eu) = judgement-accepted q m r (a .replies) z in
+    let (v, ev) = accepted-move q m u eu in
+    record {
+      answers = a;
+      tallied = λ t.
+          rw (turn-accepted q m u v eu ev)
+          (e ∙ (ap (λ (x : Tally). countedBy x (getD m 0 0) l) t ∙ (ap (countedBy (tallyOf (q .tally)) (getD m 0 0)) (k .is (q .table) h v ev) ∙ (unfold byte in counted-reads (q .tally) (q .table) m v ev))));
+      grows = λ i s. subst (λ x. Small x (i + 1)) (sym e) (counted-small c i (getD m 0 0) l s (k .few));
+    }
+
+-- the records of a table that lies in a buffer
+pub held-size : (n : ℕ) (x ends : List ℕ) (t : Term) → 16 * n ≤ length x → Table (held n x) ends t → n ≡ size t
+held-size n x ends t h k = omega (arith, table-size (held n x) ends t k, length-take-le (16 * n) x h)
+
+pub held-few : (n : ℕ) (x ends : List ℕ) → n ≤ 2048 → length x ≡ 32768 → 2049 < length ends → (length (held n x) / 16 ≤ 2048) × (length (held n x) / 16 + 1 < length ends)
+held-few n x ends h l k = let e = length-take-le (16 * n) x (omega arith) in (omega (arith, e), omega (arith, e))
+
+pub held-small : (n : ℕ) (x ends : List ℕ) → 16 * n ≤ length x → Known (held n x) ends → n ≤ 2048
+held-small n x ends h k = omega (arith, k .few, length-take-le (16 * n) x h)
+
+-- a refused move: the table stays where it is
+module _ (q : Run) (n : ℕ) (from ends m to after : List ℕ) (c : Tally) (r : Tried) (inside : 16 * n ≤ length from) (room : length to ≡ 32768) (t : Table (held n from) ends (q .table))
+    (e : c ≡ tallyOf (q .tally)) (j : Judged q m c to after r) (z : r .reply .answer ≢ 0) where
+  refused-is : (a p : ℕ) → judgement q m ≡ refuse a p → Turned q n from m after ends (record { reply = record { answer = r .reply .answer; place = r .reply .place; records = n }; tally = r .tally })
+  unfolding reply written kept
+  refused-is a p x =
+      let y : r .reply ≡ record { answer = a; place = p; records = 0 } = rw x at (j .answers .replies) in
+      record {
+        replies = rw (x, y, held-size n from ends (q .table) inside t);
+        tallied = j .tallied e;
+        length-is = ap length (j .answers .output) ∙ (rw x room);
+        stays = λ _. rw (turn-refused q m a p x) t;
+        goes = λ g. absurd (z g);
+      }
+
+  pub turned-refused : Turned q n from m after ends (record { reply = record { answer = r .reply .answer; place = r .reply .place; records = n }; tally = r .tally })
+  turned-refused = let (a, p, x) = answer-refused (judgement q m) (r .reply) (j .answers .replies) z in refused-is a p x
+
+-- an accepted move: the successor u lies in the other buffer
+module _ (q : Run) (m to after : List ℕ) (c : Tally) (r : Tried) (room : length to ≡ 32768) (w : Within (q .table)) (j : Judged q m c to after r) where
+  module _ (u : Term) (accepted : judgement q m ≡ accept u) where
+    next-within : Within u
+    unfolding judgement
+    next-within = step-within (q .table) u m 32768 w accepted
+
+    reply-is : r .reply ≡ record { answer = 0; place = 0; records = size u }
+    unfolding reply
+    reply-is = rw accepted at (j .answers .replies)
+
+    after-is : after ≡ encode u ++ drop (16 * size u) to
+    unfolding written
+    after-is = rw accepted at (j .answers .output)
+
+    records-are : r .reply .records ≡ size u
+    records-are = ap (λ (x : Reply). x .records) reply-is
+
+    places : (r .reply .records ≤ 2048) × (length after ≡ 32768)
+    places = (
+      omega (arith, records-are, next-within .small),
+      ap length after-is ∙ (length-append (encode u) (drop (16 * size u) to) ∙ omega (arith, length-encode u, length-drop (16 * size u) to, next-within .small, room)),
+    )
+
+    turned : (n : ℕ) (from ends : List ℕ) → c ≡ tallyOf (q .tally) → r .reply .answer ≡ 0 → EndsFrom (take (16 * r .reply .records) after) ends 0 → Turned q n from m after ends r
+    unfolding kept
+    turned n from ends e z h =
+        let (v, ev) = accepted-move q m u accepted in
+        let is : take (16 * r .reply .records) after ≡ encode u = rw (records-are, after-is) (take-at (encode u) (drop (16 * size u) to) (16 * size u) (length-encode u)) in
+        record {
+          replies = rw accepted reply-is;
+          tallied = j .tallied e;
+          length-is = places .1;
+          stays = λ g. absurd (g z);
+          goes = λ _. rw (turn-accepted q m u v accepted ev) (record { holds = record { is = is; right = next-within .right }; within = next-within; end = h });
+        }
+
+  pub successor-places : r .reply .answer ≡ 0 → (r .reply .records ≤ 2048) × (length after ≡ 32768)
+  successor-places z = let (u, e) = judgement-accepted q m (r .reply) (j .answers .replies) z in places u e
+
+  pub turned-accepted : (n : ℕ) (from ends : List ℕ) → c ≡ tallyOf (q .tally) → r .reply .answer ≡ 0 → EndsFrom (take (16 * r .reply .records) after) ends 0 → Turned q n from m after ends r
+  turned-accepted n from ends t z h = let (u, e) = judgement-accepted q m (r .reply) (j .answers .replies) z in turned u e n from ends t z h
+
+-- the table that is kept, and the next move on it
+pub going-begins : (x y ends m : List ℕ) (k : Kept) (i : ℕ) → Going x y ends k i → length m ≡ 6 → Begins (k .records) (cond (k .second) y x) ends m (cond (k .second) x y) (k .tally)
+going-begins x y ends m k i g six = record {
+  asks = record {
+    known = table-known _ _ _ (g .keeps .table);
+    six = six;
+    room = cond-length (k .second) y x (g .keeps .second-room) (g .keeps .first-room);
+    counts = small-room (k .tally) i 2048 (g .small) (g .early) (omega arith);
+  };
+  inside = omega (arith, cond-length (k .second) x y (g .keeps .first-room) (g .keeps .second-room), g .keeps .count, g .keeps .table .within .small);
+  ends-room = g .keeps .ends-room;
+}
+  where
+    cond-length : (b : Bool) (u v : List ℕ) → length u ≡ 32768 → length v ≡ 32768 → length (cond b v u) ≡ 32768
+    cond-length true u v h l = l
+    cond-length false u v h l = h
+
+pub kept-records : (q : Run) (m : List ℕ) → kept q (judgement q m) .records ≡ size (turn q m .table)
+unfolding kept
+kept-records q m = go (judgement q m) refl
+  where
+    go : (x : Result Term) → judgement q m ≡ x → kept q x .records ≡ size (turn q m .table)
+    go (refuse n p) e = rw (turn-refused q m n p e)
+    go (accept s) e = let (v, ev) = accepted-move q m s e in rw (turn-accepted q m s v e ev)
+
+-- what is kept then: r is the turn of the table in the buffer `from`, and `to` is the other
+module _ (q : Run) (m from to ends : List ℕ) (n : ℕ) (r : Tried) (t : Turned q n from m to ends r) (from-room : length from ≡ 32768) (room : 2049 < length ends) where
+  kept-table : Table (held (r .reply .records) (cond (eqb (r .reply .answer) 0) to from)) ends (turn q m .table)
+  kept-table = go (r .reply .answer) (t .stays) (t .goes)
+    where
+      go : (a : ℕ) → (a ≢ 0 → Table (held (r .reply .records) from) ends (turn q m .table)) → (a ≡ 0 → Table (held (r .reply .records) to) ends (turn q m .table))
+          → Table (held (r .reply .records) (cond (eqb a 0) to from)) ends (turn q m .table)
+      go zero s g = g refl
+      go (suc a) s g = rw (ne-eqb (suc a) 0 (λ e. absurd (omega arith))) (s (λ e. absurd (omega arith)))
+
+  -- in the second buffer before, and in the first
+  pub second-keeps : Keeps (turn q m) to from ends (keptAfter true r .kept)
+  unfolding keptAfter
+  second-keeps = record {
+    table = subst (λ x. Table (held (r .reply .records) x) ends (turn q m .table)) (sym (other (eqb (r .reply .answer) 0))) kept-table;
+    count = ap (λ (x : Reply). x .records) (t .replies) ∙ kept-records q m;
+    tallied = t .tallied;
+    first-room = t .length-is;
+    second-room = from-room;
+    ends-room = room;
+  }
+    where
+      other : (b : Bool) → cond (cond b (not true) true) from to ≡ cond b to from
+      other true = refl
+      other false = refl
+
+  pub first-keeps : Keeps (turn q m) from to ends (keptAfter false r .kept)
+  unfolding keptAfter
+  first-keeps = record {
+    table = subst (λ x. Table (held (r .reply .records) x) ends (turn q m .table)) (sym (other (eqb (r .reply .answer) 0))) kept-table;
+    count = ap (λ (x : Reply). x .records) (t .replies) ∙ kept-records q m;
+    tallied = t .tallied;
+    first-room = from-room;
+    second-room = t .length-is;
+    ends-room = room;
+  }
+    where
+      other : (b : Bool) → cond (cond b (not false) false) to from ≡ cond b to from
+      other true = refl
+      other false = refl
+
+-- a move on the table in the second buffer, and in the first
+module _ (x y ends m : List ℕ) (k : Kept) where
+  pub begins-second : (i : ℕ) → Going x y ends k i → length m ≡ 6 → k .second ≡ true → Begins (k .records) y ends m x (k .tally)
+  begins-second i g six e = subst (λ b. Begins (k .records) (cond b y x) ends m (cond b x y) (k .tally)) e (going-begins x y ends m k i g six)
+
+  pub begins-first : (i : ℕ) → Going x y ends k i → length m ≡ 6 → k .second ≡ false → Begins (k .records) x ends m y (k .tally)
+  begins-first i g six e = subst (λ b. Begins (k .records) (cond b y x) ends m (cond b x y) (k .tally)) e (going-begins x y ends m k i g six)
+
+  module _ (to ends′ : List ℕ) (r : Tried) (room : 2049 < length ends′) (grows : (i : ℕ) → Small (k .tally) i → Small (r .tally) (i + 1)) where
+    pub goes-second : k .second ≡ true → ((q : Run) → Table (held (k .records) y) ends (q .table) → k .tally ≡ tallyOf (q .tally) → Turned q (k .records) y m to ends′ r) → Goes m k x y ends to y ends′ (keptAfter true r)
+    unfolding keptAfter
+    goes-second e t =
+        let at : (q : Run) → Keeps q x y ends k → Turned q (k .records) y m to ends′ r =
+        λ q h. t q (subst (λ b. Table (held (k .records) (cond b y x)) ends (q .table)) e (h .table)) (h .tallied) in
+        record { keeps = λ q h. second-keeps q m y to ends′ (k .records) r (at q h) (h .second-room) room; replies = λ q h. at q h .replies; grows = grows }
+
+    pub goes-first : k .second ≡ false → ((q : Run) → Table (held (k .records) x) ends (q .table) → k .tally ≡ tallyOf (q .tally) → Turned q (k .records) x m to ends′ r) → Goes m k x y ends x to ends′ (keptAfter false r)
+    unfolding keptAfter
+    goes-first e t =
+        let at : (q : Run) → Keeps q x y ends k → Turned q (k .records) x m to ends′ r =
+        λ q h. t q (subst (λ b. Table (held (k .records) (cond b y x)) ends (q .table)) e (h .table)) (h .tallied) in
+        record { keeps = λ q h. first-keeps q m x to ends′ (k .records) r (at q h) (h .first-room) room; replies = λ q h. at q h .replies; grows = grows }

@@ -1,0 +1,121 @@
+-- Play as a whole (specs/Nights): the table copied in, the last table and the replies written, and the refusals of the whole.
+use mathlib.Core.Path.{_≡_, refl, sym, ap, subst, _∙_}
+use mathlib.Core.Logic.{_≢_}
+use mathlib.Core.Bool.{Bool, true, false, cond, _||_}
+use mathlib.Core.List.{List, _++_}
+use Prim.Native.Nat.{ℕ, _+_, _*_, _-_, _/_, _≤_, _<_}
+use native.Mathlib.Omega.{arith}
+use lib.Dec.{ltb}
+use lib.ListN.{length, take, drop, replicate}
+use lib.Seq.{take-all, take-at}
+use borrow.Author.Tests.{ltb-false, lt-ltb, le-ltb}
+use Rattle.cows.specs.Basics.{placeIf, Result, refuse, accept, _>>=_, _>>_, forbid}
+use Rattle.cows.specs.Terms.{Term}
+use Rattle.cows.specs.Format.{pieces}
+use Rattle.cows.specs.Tables.{judge}
+use Rattle.cows.specs.Run.{Run, start, replies, movesOf, played, judgePlay, playedReply, playedTally, playedOutput, playedReplies}
+use Rattle.cows.specs.Run as meaning
+use Rattle.cows.proofs.Basics.{or-false, accept-bind}
+use Rattle.cows.proofs.Lists.{length-pieces, length-replies}
+use Rattle.records.specs.Rewrites.{put}
+use Rattle.records.proofs.Put.{length-put}
+use Rattle.passes.specs.Known.{Known}
+use Rattle.tables.specs.declared.Reply.{Reply}
+use Rattle.tables.specs.Verdict.{checkReply, Checked}
+use Rattle.stepper.proofs.Stepping.{Read, read-known}
+use Rattle.player.specs.declared.turns.Kept.{Kept}
+use Rattle.player.specs.declared.Played.{Played}
+use Rattle.player.specs.Turns.{held, Keeps}
+use Rattle.player.specs.Nights.{Opens, Ends, Clear, refusedWith, Gives, Plays, PlaysTerm}
+use Rattle.player.proofs.Writing.{put-eq}
+
+-- the table copied into the first buffer is held there
+pub copied-in : (table x : List ℕ) {d : List ℕ} → length table ≡ 16 * (length table / 16) → length table ≤ length x → d ≡ put x 0 (take (length table) (drop 0 table)) → table ≡ held (length table / 16) d
+copied-in table x w h e =
+    let all = take-all (length table) table (omega arith) in
+    let l : length table ≡ 16 * (length table / 16) = w in
+    sym (rw (e, all, put-eq x table h) (take-at table (drop (0 + length table) x) (16 * (length table / 16)) l))
+
+pub copied-room : (x bs : List ℕ) {d : List ℕ} → length x ≡ 32768 → d ≡ put x 0 bs → length d ≡ 32768
+copied-room x bs h e = ap length e ∙ (length-put x 0 bs ∙ h)
+
+module _ (table ends moves out slots x y : List ℕ) (o : Clear table ends moves out slots) (held-is : table ≡ held (length table / 16) x) (first-room : length x ≡ 32768) (second-room : length y ≡ 32768) where
+  pub opens : Opens moves x y ends (length table / 16) slots
+  opens = record {
+    known = subst (λ s. Known s ends) held-is (o .known);
+    inside = omega (arith, o .known .few, first-room);
+    first-room = first-room;
+    second-room = second-room;
+    ends-room = o .ends-room;
+    short = o .short;
+    slots-room = o .slots-room;
+  }
+
+-- the table that is kept can be written, from either buffer
+module _ (q : Run) (x y ends : List ℕ) (k : Kept) (h : Keeps q x y ends k) where
+  pub last-fits : (16 * k .records ≤ length x) × (16 * k .records ≤ length y) × (k .records ≤ 2048)
+  last-fits = let n : k .records ≤ 2048 = omega (arith, h .count, h .table .within .small) in (omega (arith, n, h .first-room), omega (arith, n, h .second-room), n)
+
+-- what is written is what play gives
+plays-term : (t : Term) (moves x y ends out after slots after′ : List ℕ) (k : Kept) → Ends t moves x y ends slots after′ k
+    → after ≡ held (k .records) (cond (k .second) y x) ++ replicate (32768 - 16 * k .records) 0 ++ drop 32768 out
+    → PlaysTerm t moves out after slots after′ (record { reply = record { answer = 0; place = 0; records = k .records }; tally = k .tally })
+unfolding played playedReply playedTally playedOutput playedReplies movesOf
+plays-term t moves x y ends out after slots after′ k h e =
+    let n = length-replies (start t) (pieces 6 (length moves / 6) moves) ∙ length-pieces 6 (length moves / 6) moves in
+    record {
+      replied = ap (λ (c : ℕ). record { answer = 0; place = 0; records = c }) (h .keeps .count);
+      tallied = h .keeps .tallied;
+      output = e ∙ rw (h .keeps .table .holds .is, h .keeps .count);
+      slots-are = h .replied ∙ rw n;
+    }
+
+-- from the second buffer, and from the first
+module _ (t : Term) (moves x y ends out after slots after′ : List ℕ) (k : Kept) (h : Ends t moves x y ends slots after′ k) where
+  pub plays-second : k .second ≡ true → after ≡ held (k .records) y ++ replicate (32768 - 16 * k .records) 0 ++ drop 32768 out
+      → PlaysTerm t moves out after slots after′ (record { reply = record { answer = 0; place = 0; records = k .records }; tally = k .tally })
+  plays-second b e = plays-term t moves x y ends out after slots after′ k h (rw b e)
+
+  pub plays-first : k .second ≡ false → after ≡ held (k .records) x ++ replicate (32768 - 16 * k .records) 0 ++ drop 32768 out
+      → PlaysTerm t moves out after slots after′ (record { reply = record { answer = 0; place = 0; records = k .records }; tally = k .tally })
+  plays-first b e = plays-term t moves x y ends out after slots after′ k h (rw b e)
+
+-- refused whole: the table, the list, the buffers
+gives-refused : (n p : ℕ) (out slots : List ℕ) (r : Played) → r ≡ refusedWith n p → Gives (refuse n p) out out slots slots r
+unfolding playedReply playedTally playedOutput playedReplies
+gives-refused n p out slots r e = record { replied = ap (λ (x : Played). x .reply) e; tallied = ap (λ (x : Played). x .tally) e; output = refl; slots-are = refl }
+
+pub plays-no-table : (s ends moves out slots : List ℕ) (c : Reply) (r : Played) → Checked s ends c → c .answer ≢ 0 → r ≡ refusedWith (c .answer) (c .place) → Plays s moves out out slots slots r
+unfolding meaning.play judgePlay _>>=_
+plays-no-table s ends moves out slots c r h z e = go (judge s) refl
+  where
+    go : (x : Result Term) → judge s ≡ x → Plays s moves out out slots slots r
+    go (refuse n p) j = rw j (gives-refused n p out slots r (e ∙ ap (λ (v : Reply). refusedWith (v .answer) (v .place)) (h .reply ∙ ap checkReply j)))
+    go (accept t) j = absurd (z (ap (λ (v : Reply). v .answer) (h .reply ∙ ap checkReply j)))
+
+-- the list and the buffers, on a well-formed table
+abbrev pub cramped : (moves out slots : List ℕ) → Bool
+cramped moves out slots = ltb (length out) 32768 || ltb (length slots) (6 * (length moves / 6))
+
+pub play-judged : (s moves out slots : List ℕ) (t : Term) → judge s ≡ accept t → meaning.play s moves out slots
+    ≡ (forbid 19 (placeIf (ltb 60000 (length moves)) 0) >> (forbid 21 (placeIf (cramped moves out slots) 0) >> accept (played t (movesOf moves))))
+unfolding meaning.play judgePlay
+play-judged s moves out slots t e = accept-bind (judge s) _ t e
+
+pub plays-clear : (s ends moves out slots : List ℕ) → Read s ends → 2049 < length ends → length moves ≤ 60000 → cramped moves out slots ≡ false → Clear s ends moves out slots
+plays-clear s ends moves out slots q room h c =
+    let (a, b) = or-false (ltb (length out) 32768) _ c in
+    record { known = read-known s ends q; ends-room = room; short = h; out-room = ltb-false (length out) 32768 a; slots-room = ltb-false (length slots) (6 * (length moves / 6)) b }
+
+module _ (s ends moves out slots : List ℕ) (q : Read s ends) (r : Played) where
+  pub plays-long : 60000 < length moves → r ≡ refusedWith 19 0 → Plays s moves out out slots slots r
+  unfolding forbid placeIf _>>_
+  plays-long h e = rw (play-judged s moves out slots (q .term) (q .judged), lt-ltb 60000 (length moves) h) (gives-refused 19 0 out slots r e)
+
+  pub plays-cramped : length moves ≤ 60000 → cramped moves out slots ≡ true → r ≡ refusedWith 21 0 → Plays s moves out out slots slots r
+  unfolding forbid placeIf _>>_
+  plays-cramped h c e = rw (play-judged s moves out slots (q .term) (q .judged), le-ltb 60000 (length moves) h, c) (gives-refused 21 0 out slots r e)
+
+  pub plays-all : (after after′ : List ℕ) → length moves ≤ 60000 → cramped moves out slots ≡ false → PlaysTerm (q .term) moves out after slots after′ r → Plays s moves out after slots after′ r
+  unfolding forbid placeIf _>>_
+  plays-all after after′ h c g = rw (play-judged s moves out slots (q .term) (q .judged), le-ltb 60000 (length moves) h, c) g

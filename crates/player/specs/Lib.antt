@@ -1,0 +1,4 @@
+pub mod Loads
+pub mod Turns
+pub mod Nights
+pub mod Demand

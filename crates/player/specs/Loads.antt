@@ -1,0 +1,31 @@
+-- Load by the bytes of a table: how many of its records are kills, invokes, receives and waits.
+use Prim.Native.Nat.{ℕ, zero, suc, _+_, _*_, _-_}
+use mathlib.Core.Bool.{Bool, _&&_}
+use mathlib.Core.List.{List}
+use lib.Dec.{leb}
+use lib.ListN.{getD}
+use Rattle.cows.specs.Basics.{Result, refuse, accept}
+use Rattle.cows.specs.Terms.{Term}
+use Rattle.cows.specs.Load.{load}
+use Rattle.records.specs.Ends.{oneIf}
+use Rattle.tables.specs.declared.Reply.{Reply}
+
+-- a record of this kind weighs: 1 kill, 2 invoke, 3 receive, 4 wait
+abbrev pub weighs : ℕ → Bool
+weighs kind = leb 1 kind && leb kind 4
+
+unfoldable pub weightOf : ℕ → ℕ
+weightOf kind = oneIf (weighs kind)
+
+-- the load of n records from place i on; of the records at the places i to j - 1
+unfoldable pub loadFrom : List ℕ → ℕ → ℕ → ℕ
+loadFrom s i zero = 0
+loadFrom s i (suc n) = weightOf (getD s (16 * i) 0) + loadFrom s (suc i) n
+
+unfoldable pub loadBetween : List ℕ → ℕ → ℕ → ℕ
+loadBetween s i j = loadFrom s i (j - i)
+
+-- the reply to a judgement of a table: 0, 0 and its load, or the refusal, its place and 0
+abbrev pub loadReply : Result Term → Reply
+loadReply (refuse n p) = record { answer = n; place = p; records = 0 }
+loadReply (accept t) = record { answer = 0; place = 0; records = load t }
