@@ -2,6 +2,9 @@
 // in hexadecimal, with xN for N more of the last 16. A line of output has the name and the reply: answer, place, records.
 // A case of a step goes on with the word >, the move's bytes in hexadecimal (- for none) and the output's length in decimal. Each byte of the output
 // is aa before, and the line of output goes on with a sum over its bytes afterwards and with the first 64 of them in hexadecimal.
+// A case of play goes on with the word >>, the lengths of the output and of the reply buffer, and the moves' bytes, with xN for N more of the last 6.
+// Its line has the reply, the tally, and then of the output and of the reply buffer what a step's line has of its output.
+// A case of load goes on with the word >#. Its line has the reply, with the load in place of the records.
 use libc::STDIN_FILENO;
 use libc::STDOUT_FILENO;
 ghost use mathlib.Core.Path.{_≡_};
@@ -69,51 +72,51 @@ fn put_hex(text: &[u8], from: usize, to: usize, table: &mut [u8], len: usize) ->
     at
 }
 
-// The last 16 bytes of the table's first `len`, n times more.
-fn put_again(table: &mut [u8], len: usize, n: usize) -> usize
-    requires { ⌜ (len ≤ length (now table)) × (n ≤ 1000015) ⌝ }
+// The last `unit` bytes of the table's first `len`, n times more.
+fn put_again(table: &mut [u8], len: usize, unit: usize, n: usize) -> usize
+    requires { ⌜ (len ≤ length (now table)) × (unit ≤ 16) × (n ≤ 1000015) ⌝ }
     ensures { λ r. ⌜ r ≤ length (now (table .entry)) ⌝ }
 {
-    if len < 16 {
+    if len < unit {
         return len;
     }
     let mut at = len;
-    let mut left = 16 * n;
+    let mut left = unit * n;
     while 0 < left {
         if table.len() <= at {
             return at;
         }
-        table[at] = table[at - 16];
+        table[at] = table[at - unit];
         at += 1;
         left -= 1;
     }
     at
 }
 
-// What a word spells, put behind the table's first `len`: xN is the last 16 bytes N times more, all else is hexadecimal.
-fn put_word(text: &[u8], from: usize, to: usize, table: &mut [u8], len: usize) -> usize
-    requires { ⌜ (from ≤ to) × (to ≤ length (now text)) × (len ≤ length (now table)) ⌝ }
+// What a word spells, put behind the table's first `len`: xN is the last `unit` bytes N times more, all else is hexadecimal.
+fn put_word(text: &[u8], from: usize, to: usize, table: &mut [u8], len: usize, unit: usize) -> usize
+    requires { ⌜ (from ≤ to) × (to ≤ length (now text)) × (len ≤ length (now table)) × (unit ≤ 16) ⌝ }
     ensures { λ r. ⌜ r ≤ length (now (table .entry)) ⌝ }
 {
     if from == to {
         return len;
     }
     if text[from] == b'x' {
-        return put_again(table, len, number(text, from + 1, to));
+        return put_again(table, len, unit, number(text, from + 1, to));
     }
     put_hex(text, from, to, table, len)
 }
 
-// The table that the words of a line spell; its length.
-fn spell(text: &[u8], from: usize, to: usize, table: &mut [u8]) -> usize
-    requires { ⌜ (from ≤ to) × (to ≤ length (now text)) ⌝ }
+// The table that the words of a line spell, or the list of moves; its length.
+fn spell(text: &[u8], from: usize, to: usize, table: &mut [u8], unit: usize) -> usize
+    requires { ⌜ (from ≤ to) × (to ≤ length (now text)) × (unit ≤ 16) ⌝ }
     ensures { λ r. ⌜ r ≤ length (now (table .entry)) ⌝ }
 {
     let mut len = 0;
     let mut i = from;
     while i < to {
         let e = bytes::scan::find(text, i, to, b' ');
-        len = put_word(text, i, e, table, len);
+        len = put_word(text, i, e, table, len, unit);
         i = e + 1;
     }
     len
@@ -122,14 +125,6 @@ fn spell(text: &[u8], from: usize, to: usize, table: &mut [u8]) -> usize
 fn print_number(n: usize) {
     io::write_all(STDOUT_FILENO, b" ");
     io::print_decimal(STDOUT_FILENO, n as u64);
-}
-
-// The reply to the table's first `len` bytes.
-fn check_first(table: &[u8], len: usize) -> tables::Reply {
-    if len <= table.len() {
-        return tables::check(&table[..len]);
-    }
-    tables::check(table)
 }
 
 fn print_reply(r: tables::Reply) {
@@ -185,36 +180,93 @@ fn fill(out: &mut [u8]) {
     }
 }
 
+// What is left in a buffer: the sum and the first bytes.
+fn print_left(bytes: &[u8]) {
+    print_number(checksum(bytes));
+    print_first(bytes);
+}
+
+fn print_tally(t: tally::Tally) {
+    print_number(t.communications as usize);
+    print_number(t.kills as usize);
+    print_number(t.timeouts as usize);
+    print_number(t.copied as usize);
+}
+
 // A step with all of the output: its reply, and what it left there.
 fn print_step(table: &[u8], m: &[u8], out: &mut [u8]) {
     fill(out);
     let r = stepper::step(table, m, out);
     print_reply(r);
-    print_number(checksum(out));
-    print_first(out);
+    print_left(out);
 }
 
-// A step of the table's first `len` bytes and the move's first `got`, with `room` bytes of output.
-fn step_first(table: &[u8], len: usize, m: &[u8], got: usize, out: &mut [u8], room: usize)
-    requires { ⌜ (len ≤ length (now table)) × (got ≤ length (now m)) ⌝ }
+// Play with all of both buffers: its reply and tally, and what it left there.
+fn print_play(table: &[u8], moves: &[u8], out: &mut [u8], replies: &mut [u8]) {
+    fill(out);
+    fill(replies);
+    let played = player::play(table, moves, out, replies);
+    let reply = played.reply;
+    let tally = played.tally;
+    print_reply(reply);
+    print_tally(tally);
+    print_left(out);
+    print_left(replies);
+}
+
+// A step: the move, and the output's length.
+fn run_step(text: &[u8], from: usize, to: usize, table: &[u8], out: &mut [u8])
+    requires { ⌜ (from ≤ to) × (to ≤ length (now text)) ⌝ }
 {
+    let mut m = io::buffer();
+    let e = bytes::scan::find(text, from, to, b' ');
+    let got = put_word(text, from, e, &mut m, 0, 6);
+    let room = number(text, e, to);
     if room <= out.len() {
-        print_step(&table[..len], &m[..got], &mut out[..room]);
+        print_step(table, &m[..got], &mut out[..room]);
     }
 }
 
-// The reply to the table, or to a step if there is a word > at a place before the line's end; its move begins two bytes behind.
-fn run_table(text: &[u8], mark: usize, to: usize, table: &[u8], len: usize, out: &mut [u8])
-    requires { ⌜ (mark ≤ to) × (to ≤ length (now text)) × (len ≤ length (now table)) ⌝ }
+// Play: the lengths of the output and of the reply buffer, and the moves.
+fn run_play(text: &[u8], from: usize, to: usize, table: &[u8], out: &mut [u8])
+    requires { ⌜ (from ≤ to) × (to ≤ length (now text)) ⌝ }
 {
-    if to - mark < 2 {
-        print_reply(check_first(table, len));
+    let e = bytes::scan::find(text, from, to, b' ');
+    if e == to {
         return;
     }
-    let mut m = io::buffer();
-    let e = bytes::scan::find(text, mark + 2, to, b' ');
-    let got = put_word(text, mark + 2, e, &mut m, 0);
-    step_first(table, len, &m, got, out, number(text, e, to));
+    let f = bytes::scan::find(text, e + 1, to, b' ');
+    let mut moves = io::large_buffer();
+    let mut replies = io::large_buffer();
+    let got = spell(text, f, to, &mut moves, 6);
+    let room = number(text, from, e);
+    let slots = number(text, e + 1, f);
+    if out.len() < room {
+        return;
+    }
+    if slots <= replies.len() {
+        print_play(
+            table,
+            &moves[..got],
+            &mut out[..room],
+            &mut replies[..slots],
+        );
+    }
+}
+
+// What a line asks of its table: the word at a place before the line's end says it, and no word asks for a check.
+fn run_table(text: &[u8], mark: usize, to: usize, table: &[u8], out: &mut [u8])
+    requires { ⌜ (mark ≤ to) × (to ≤ length (now text)) ⌝ }
+{
+    if to - mark < 2 {
+        print_reply(tables::check(table));
+    } else if text[mark + 1] == b' ' {
+        run_step(text, mark + 2, to, table, out);
+    } else if text[mark + 1] == b'#' {
+        print_reply(player::load(table));
+    } else if 3 <= to - mark {
+        run_play(text, mark + 3, to, table, out);
+    }
 }
 
 // One case: the line from a place to its end.
@@ -223,9 +275,9 @@ fn run(text: &[u8], from: usize, to: usize, table: &mut [u8], out: &mut [u8])
 {
     let name = bytes::scan::find(text, from, to, b' ');
     let mark = bytes::scan::find(text, name, to, b'>');
-    let len = spell(text, name, mark, table);
+    let len = spell(text, name, mark, table, 16);
     io::write_all(STDOUT_FILENO, &text[from..name]);
-    run_table(text, mark, to, table, len, out);
+    run_table(text, mark, to, &table[..len], out);
     io::write_all(STDOUT_FILENO, b"\n");
 }
 
@@ -241,7 +293,7 @@ fn run_all(text: &[u8], table: &mut [u8], out: &mut [u8]) {
 }
 
 fn main() {
-    let mut input = [0; 131072];
+    let mut input = [0; 262144];
     let got = io::read_full(STDIN_FILENO, &mut input);
     let mut table = io::large_buffer();
     let mut out = io::large_buffer();

@@ -7,10 +7,10 @@ use Rattle.conformance.proofs.spell.Statement.{statement}
 use Rattle.conformance.proofs.spell.Tie as tie
 
 abbrev Inv-loop : tie.InvT-loop
-Inv-loop text from to table₀ len₀ i₀ table len i = (len ≤ length table) × (length table ≡ length table₀) × (i ≤ to + 1)
+Inv-loop text from to table₀ unit len₀ i₀ table len i = (len ≤ length table) × (length table ≡ length table₀) × (i ≤ to + 1)
 
 abbrev μ-loop : tie.MeasureT-loop
-μ-loop text from to table₀ len₀ i₀ table len i = to + 1 - i
+μ-loop text from to table₀ unit len₀ i₀ table len i = to + 1 - i
 
 pub spell-spec : {M : Type 1} → statement M
 spell-spec =
