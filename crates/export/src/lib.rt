@@ -1,0 +1,65 @@
+// Export: the public operations under C names, for the static library that C and Rust programs link. A reply comes back as one number, so that
+// no lent buffer can be too short for it.
+use tables::Reply;
+ghost use mathlib.Core.Path.{_≡_};
+ghost use Rattle.cows.specs.Tables.{judge};
+ghost use Rattle.tables.specs.Verdict.{checkReply};
+ghost use Rattle.player.specs.Loads.{loadReply};
+ghost use Rattle.export.specs.Packing.{Fits, packed, Stepped, PlayedWith};
+
+// A reply in 64 bits: the answer in the lowest 8, the place in the 24 above them, the records in the highest 32.
+fn pack(r: Reply) -> u64
+    requires { ⌜ Fits r ⌝ }
+    ensures { λ n. ⌜ n ≡ packed r ⌝ }
+{
+    let answer = r.answer as u64;
+    let place = r.place as u64;
+    let records = r.records as u64;
+    answer + 256 * place + 4294967296 * records
+}
+
+// Whether bytes are a well-formed table: `tables::check`, packed.
+#[no_mangle]
+pub extern "C" fn wigandoy_check(table: &[u8]) -> u64
+    ensures { λ r. ⌜ r ≡ packed (checkReply (judge (now (table .entry)))) ⌝ }
+{
+    pack(tables::check(table))
+}
+
+// One move on a table: `stepper::step`, packed.
+#[no_mangle]
+pub extern "C" fn wigandoy_step(table: &[u8], m: &[u8], out: &mut [u8]) -> u64
+    ensures { λ r. ⌜ Stepped (now (table .entry)) (now (m .entry)) (now (out .entry)) (now (out .exit)) r ⌝ }
+{
+    pack(stepper::step(table, m, out))
+}
+
+// The load of a table: `player::load`, packed.
+#[no_mangle]
+pub extern "C" fn wigandoy_load(table: &[u8]) -> u64
+    ensures { λ r. ⌜ r ≡ packed (loadReply (judge (now (table .entry)))) ⌝ }
+{
+    pack(player::load(table))
+}
+
+// A list of moves on a table: `player::play`, its reply packed and its tally in four numbers.
+#[no_mangle]
+pub extern "C" fn wigandoy_play(
+    table: &[u8],
+    moves: &[u8],
+    out: &mut [u8],
+    replies: &mut [u8],
+    tally: &mut [u32; 4],
+) -> u64
+    ensures { λ r. ⌜ PlayedWith (now (table .entry)) (now (moves .entry)) (now (out .entry)) (now (out .exit)) (now (replies .entry)) (now (replies .exit)) (now (tally .exit)) r ⌝ }
+{
+    let played = player::play(table, moves, out, replies);
+    let counts = played.tally;
+    *tally = [
+        counts.communications,
+        counts.kills,
+        counts.timeouts,
+        counts.copied,
+    ];
+    pack(played.reply)
+}

@@ -1,0 +1,81 @@
+/* Wigandoy: the stepper for COWS tables, as a static library (`rt staticlib export` writes target/staticlib/libexport.a).
+ *
+ * A table is 1 to 2,048 records of 16 bytes in prefix order; a move is 6 bytes (kind, 0, a, b; a and b 16 bits,
+ * little-endian): 0 kill at a, 1 communication of receive a and invoke b, 2 timeout at a, 3 time passes by a,
+ * 4 unfolding at a, 5 extrusion at a. Bytes may be anything and lengths too: every call is answered. Buffers that are
+ * read are never changed. A buffer that is written overlaps no other. No pointer is NULL, not even that of a buffer of length 0.
+ *
+ * A reply is one number: see the three functions below. Answer 0 is accepted: place 0, and the number of records.
+ * Any other answer is a refusal, with 0 records and untouched buffers. The lowest number that applies is given,
+ * then the lowest place. Places count records from 0.
+ *
+ *   the table's author
+ *    1  no bytes, over 32,768, or not a multiple of 16                                  place 0
+ *    2  a record with an unknown kind, a count over 4, an atom of the wrong set, a
+ *       used slot of 0, an unused field not zero, or a pattern variable twice           the record
+ *    3  the term ends before the records do                                             the first one over
+ *       or the records end first                                                        their number
+ *    4  depth over 256                                                                  the first such record
+ *    5  a choice's child that is no nil, receive, wait or choice                        the child
+ *    6  a variable or label used outside every delimitation of it                       the record of the use
+ *    7  a second delimitation of an atom, or a delimited value used outside             that record
+ *   the proposer of the move
+ *   10  not 6 bytes, a kind over 5, byte 1 not zero, or an unused b not zero            place 0
+ *   11  no live record of the kind wanted                                               a if it is at fault, else b
+ *   12  endpoint, count, value, or a variable sent                                      a
+ *   13  a delimitation does not enclose as asked                                        a
+ *   14  a ready kill holds a scope of a party back                                      the first such [k]
+ *   15  a ready receive that fits binds fewer variables                                 the first
+ *   16  the wait's interval is not 0                                                    a
+ *   17  a time of 0                                                                     place 0
+ *       or above a live wait                                                            the first
+ *   18  a label, or no fitting parent, or the root                                      a
+ *   the proposer of a list of moves
+ *   19  over 10,000 moves: over 60,000 bytes                                            place 0
+ *   the lender of the output
+ *   20  the successor has over 2,048 records or a depth over 256                        place 0
+ *   21  a step's output is shorter than the successor; a play's is shorter than
+ *       32,768 bytes, or its replies than 6 bytes for each move                         place 0
+ */
+#ifndef WIGANDOY_H
+#define WIGANDOY_H
+
+#include <stddef.h>
+#include <stdint.h>
+
+#ifdef __cplusplus
+extern "C" {
+#endif
+
+/* The bytes that the output of a play must hold. */
+#define WIGANDOY_OUTPUT 32768
+
+/* Whether bytes are a well-formed table: refusals 1 to 7, or 0 and its records. */
+uint64_t wigandoy_check(const uint8_t *table, size_t bytes);
+
+/* The load of a table, its kills, invokes, receives and waits: refusals 1 to 7, or 0 and the load in place of the records. */
+uint64_t wigandoy_load(const uint8_t *table, size_t bytes);
+
+/* One move on a table: all refusals above but 19, or 0 and the successor's records, which the output then begins with; the
+ * bytes behind them stay as they were. */
+uint64_t wigandoy_step(const uint8_t *table, size_t bytes, const uint8_t *move, size_t length, uint8_t *out, size_t room);
+
+/* A list of moves on a table, six bytes each, which may be anything; a tail of 1 to 5 bytes is no move. Each is judged on
+ * the table that the accepted ones before it left, with an output of 32,768 bytes. Refusals of the whole: 1 to 7, 19 and
+ * 21. Otherwise 0 and the records of the last table, which the output then begins with, zeros behind it up to byte 32,768;
+ * `replies` takes six bytes for each move: answer, place and records of the table then kept, 16 bits each, little-endian.
+ * All other bytes of both stay as they were. `tally` is always written: communications, kills, timeouts, and the load that
+ * unfoldings copied, of the accepted moves; zeros if the play was refused. */
+uint64_t wigandoy_play(const uint8_t *table, size_t bytes, const uint8_t *moves, size_t length, uint8_t *out, size_t room,
+                       uint8_t *replies, size_t space, uint32_t tally[4]);
+
+/* The parts of a reply. */
+static inline unsigned wigandoy_answer(uint64_t reply) { return (unsigned)(reply & 0xff); }
+static inline unsigned wigandoy_place(uint64_t reply) { return (unsigned)(reply >> 8 & 0xffffff); }
+static inline unsigned wigandoy_records(uint64_t reply) { return (unsigned)(reply >> 32); }
+
+#ifdef __cplusplus
+}
+#endif
+
+#endif
