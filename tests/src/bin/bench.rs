@@ -1,0 +1,169 @@
+// The benchmark: `bench write DIR` writes the workloads, `bench time [FILE..]` times the library, the independent implementation and a copy of
+// the table on them, all in one run, and prints ratios; a FILE holds the figures of another program on the same folders. `bench repeat NAME` runs one
+// workload for a second, for a profiler.
+use std::collections::HashMap;
+use std::fs;
+use std::hint::black_box;
+use std::path::Path;
+use std::time::Instant;
+use trial::workloads::{self, Workload, SIZES};
+use trial::{library, reference};
+
+fn main() {
+    let arguments: Vec<String> = std::env::args().skip(1).collect();
+    match arguments.iter().map(String::as_str).collect::<Vec<_>>()[..] {
+        ["write", folder] => write(Path::new(folder)),
+        ["repeat", name] => repeat(name),
+        ["time", ref files @ ..] => time(&others(files)),
+        _ => println!("usage: bench write DIR | bench time [FILE..] | bench repeat NAME"),
+    }
+}
+
+fn all() -> Vec<Workload> {
+    workloads::at_sizes().into_iter().chain(workloads::worst()).collect()
+}
+
+fn write(folder: &Path) {
+    for w in all() {
+        let place = folder.join(&w.name);
+        fs::create_dir_all(&place).expect("a folder");
+        fs::write(place.join("table.bin"), &w.table).expect("table.bin");
+        fs::write(place.join("moves.bin"), &w.moves).expect("moves.bin");
+    }
+}
+
+/// The median of 15 rounds, in nanoseconds; a round lasts about two milliseconds.
+fn median(mut f: impl FnMut()) -> f64 {
+    let start = Instant::now();
+    f();
+    let once = start.elapsed().as_nanos().max(1) as f64;
+    let times = (2.0e6 / once).clamp(1.0, 200_000.0) as u32;
+    let mut rounds: Vec<f64> = (0..15).map(|_| round(&mut f, times)).collect();
+    rounds.sort_by(f64::total_cmp);
+    rounds[7]
+}
+
+fn round(f: &mut impl FnMut(), times: u32) -> f64 {
+    let start = Instant::now();
+    (0..times).for_each(|_| f());
+    start.elapsed().as_nanos() as f64 / times as f64
+}
+
+/// One run of a workload by the library.
+fn by_library(w: &Workload, out: &mut [u8], replies: &mut [u8]) {
+    match w.operation {
+        "check" => _ = black_box(library::check(black_box(&w.table))),
+        "play" => _ = black_box(library::play(black_box(&w.table), &w.moves, out, replies)),
+        _ => _ = black_box(library::step(black_box(&w.table), &w.moves[..6], out)),
+    }
+}
+
+/// The independent implementation is slow, and plays this many moves of a list.
+const FEW: usize = 20;
+
+/// One run of a workload by the independent implementation.
+fn by_reference(w: &Workload, out: &mut [u8], replies: &mut [u8]) {
+    match w.operation {
+        "check" => _ = black_box(reference::check(black_box(&w.table))),
+        "play" => _ = black_box(reference::play(black_box(&w.table), &w.moves[..6 * FEW], out, replies)),
+        _ => _ = black_box(reference::step(black_box(&w.table), &w.moves[..6], out)),
+    }
+}
+
+/// The library on one workload, again and again for a second.
+fn repeat(name: &str) {
+    let all = all();
+    let w = all.iter().find(|w| w.name == name).expect("the name of a workload");
+    let (mut out, mut replies) = (vec![0; 32_768], vec![0; 60_000]);
+    let start = Instant::now();
+    while start.elapsed().as_secs() < 1 {
+        (0..64).for_each(|_| by_library(w, &mut out, &mut replies));
+    }
+}
+
+/// What a workload costs, in nanoseconds (play: for each move): the library, the independent implementation, a copy of the table.
+struct Cost {
+    library: f64,
+    independent: f64,
+    copy: f64,
+}
+
+/// The library and the copy; the independent implementation too in the first pass.
+fn cost(w: &Workload, before: Option<Cost>) -> Cost {
+    let (mut out, mut replies) = (vec![0; 32_768], vec![0; 60_000]);
+    assert_eq!(library::step(&w.table, &w.moves[..6], &mut out).answer, w.answer, "{}", w.name);
+    let moves = if w.operation == "play" { w.moves.len() / 6 } else { 1 };
+    let library = median(|| by_library(w, &mut out, &mut replies)) / moves as f64;
+    let copy = median(|| out[..w.table.len()].copy_from_slice(black_box(&w.table)));
+    match before {
+        Some(c) => Cost { library: library.min(c.library), copy: copy.min(c.copy), ..c },
+        None => {
+            let independent = median(|| by_reference(w, &mut out, &mut replies)) / moves.min(FEW) as f64;
+            Cost { library, independent, copy }
+        }
+    }
+}
+
+/// The figures of another program, by folder: check, step, and play for each move; the least of several runs.
+fn others(files: &[&str]) -> HashMap<String, [f64; 3]> {
+    let mut least: HashMap<String, [f64; 3]> = HashMap::new();
+    for file in files {
+        let text = fs::read_to_string(file).expect("the other program's figures");
+        for (name, figures) in text.lines().filter_map(figures) {
+            let kept = least.entry(name).or_insert(figures);
+            (0..3).for_each(|i| kept[i] = kept[i].min(figures[i]));
+        }
+    }
+    least
+}
+
+fn figures(line: &str) -> Option<(String, [f64; 3])> {
+    let words: Vec<&str> = line.split_whitespace().collect();
+    let number = |i: usize| words.get(i)?.parse().ok();
+    Some((words.first()?.to_string(), [number(2)?, number(3)?, number(4)?]))
+}
+
+/// Three passes over all workloads, of which the least counts, so that what disturbs one of them does not.
+fn time(others: &HashMap<String, [f64; 3]>) {
+    let works: Vec<Workload> = all();
+    let mut costs: Vec<Cost> = works.iter().map(|w| cost(w, None)).collect();
+    for _ in 0..2 {
+        costs = works.iter().zip(costs).map(|(w, c)| cost(w, Some(c))).collect();
+    }
+    println!("| workload | records | library ns | / copy | independent / library | baseline ns | library / baseline |");
+    println!("|---|---|---|---|---|---|---|");
+    for (w, c) in works.iter().zip(&costs) {
+        println!("{}", row(w, c, others.get(&w.name)));
+    }
+    growth(&works, &costs);
+}
+
+fn row(w: &Workload, cost: &Cost, other: Option<&[f64; 3]>) -> String {
+    let of = match w.operation {
+        "check" => 0,
+        "play" => 2,
+        _ => 1,
+    };
+    let baseline = other.map_or("| |".into(), |o| format!("| {:.0} | {:.2} |", o[of], cost.library / o[of]));
+    let (records, copies, times) = (w.table.len() / 16, cost.library / cost.copy, cost.independent / cost.library);
+    format!("| {} | {records} | {:.0} | {copies:.1} | {times:.0} {baseline}", w.name, cost.library)
+}
+
+/// How the cost of each operation grows with the records.
+fn growth(works: &[Workload], costs: &[Cost]) {
+    println!("\n| operation | exponent from {} to {} records | from {} to {} |\n|---|---|---|", SIZES[0], SIZES[4], SIZES[2], SIZES[4]);
+    for operation in works.iter().filter(|w| w.name.ends_with("-0016")).map(|w| w.operation) {
+        let sized = works.iter().zip(costs).filter(|(w, _)| w.operation == operation && !w.name.starts_with("worst"));
+        let points: Vec<(f64, f64)> = sized.map(|(w, c)| ((w.table.len() / 16) as f64, c.library)).collect();
+        println!("| {operation} | {:.2} | {:.2} |", exponent(&points), exponent(&points[2..]));
+    }
+}
+
+/// The slope of the logarithms, by least squares: cost grows as the records to this power.
+fn exponent(points: &[(f64, f64)]) -> f64 {
+    let n = points.len() as f64;
+    let logs: Vec<(f64, f64)> = points.iter().map(|(x, y)| (x.ln(), y.ln())).collect();
+    let (mx, my) = (logs.iter().map(|p| p.0).sum::<f64>() / n, logs.iter().map(|p| p.1).sum::<f64>() / n);
+    let over: f64 = logs.iter().map(|(x, y)| (x - mx) * (y - my)).sum();
+    over / logs.iter().map(|(x, _)| (x - mx) * (x - mx)).sum::<f64>()
+}

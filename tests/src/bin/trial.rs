@@ -1,0 +1,125 @@
+// The trial: `trial [SEED [CASES]]` runs all of it; `trial sample` a part of the damage, for a memory checker; `trial show` the planted faults, each
+// with the smallest case that shows it; `trial small` every table of a record more.
+use std::process::exit;
+use std::time::Instant;
+use trial::compare::Reached;
+use trial::damage::{self, Extent};
+use trial::{differ, laws, planted, small};
+
+const CASES: u64 = 100_000;
+
+fn main() {
+    let arguments: Vec<String> = std::env::args().skip(1).collect();
+    if arguments.first().is_some_and(|a| a == "sample") {
+        return sample();
+    }
+    if arguments.first().is_some_and(|a| a == "show") {
+        return faulty(1, CASES, true);
+    }
+    if arguments.first().is_some_and(|a| a == "small") {
+        return every_small(SMALL + 1);
+    }
+    let number = |i: usize, default| arguments.get(i).map_or(default, |a: &String| a.parse().expect("a number"));
+    let (seed, cases) = (number(0, 1), number(1, CASES));
+    let start = Instant::now();
+    differential(seed, cases);
+    every_small(SMALL);
+    damaged(seed);
+    lawful(seed);
+    faulty(seed, cases.max(CASES), false);
+    println!("trial: all passed in {} s", start.elapsed().as_secs());
+}
+
+/// A disagreement ends the trial.
+fn stop(found: differ::Found) -> ! {
+    println!("DISAGREEMENT at case {}\n{}", found.case, found.words);
+    exit(1)
+}
+
+fn differential(seed: u64, cases: u64) {
+    println!("differential: the papers' nights and {cases} generated cases, seed {seed}");
+    let mut reached = Reached::new();
+    if let Err(found) = differ::run(seed, cases, &mut reached) {
+        stop(found);
+    }
+    report(&reached);
+}
+
+const KINDS: [&str; 6] = ["kill", "communication", "timeout", "time", "unfolding", "extrusion"];
+
+/// The counts of every refusal and of every kind accepted; none may be 0.
+fn report(reached: &Reached) {
+    println!("  {} steps and {} checks and loads agree in reply, place, records and every byte", reached.steps, reached.checks);
+    println!("  {} plays of {} moves agree in reply, tally and every byte of both buffers", reached.plays, reached.played);
+    let mut missing = vec![];
+    for answer in (1..=7).chain(10..=21) {
+        println!("  refusal {answer:2}: {}", reached.answers[answer]);
+        if reached.answers[answer] == 0 {
+            missing.push(format!("refusal {answer}"));
+        }
+    }
+    for (kind, count) in KINDS.iter().zip(reached.accepted) {
+        println!("  accepted {kind}: {count}");
+        if count == 0 {
+            missing.push(format!("accepted {kind}"));
+        }
+    }
+    if !missing.is_empty() {
+        println!("NOT REACHED: {}", missing.join(", "));
+        exit(1);
+    }
+}
+
+/// How many records the tables of the small scope have at most.
+const SMALL: usize = 5;
+
+fn every_small(most: usize) {
+    let mut reached = Reached::new();
+    if let Err(fault) = small::run(most, &mut reached) {
+        stop(differ::found(0, fault));
+    }
+    let accepted: u64 = reached.accepted.iter().sum();
+    println!(
+        "small scope: all {} tables of up to {most} records over a few atoms, {} moves on them, {accepted} accepted: agree",
+        reached.checks, reached.steps
+    );
+}
+
+fn damaged(seed: u64) {
+    let mut reached = Reached::new();
+    if let Err(fault) = damage::run(seed, Extent::All, &mut reached) {
+        stop(differ::found(0, fault));
+    }
+    let Reached { steps, checks, plays, played, .. } = reached;
+    println!("damage: {steps} steps, {checks} checks and loads and {plays} plays of {played} moves on damaged bytes and at every length agree");
+}
+
+fn sample() {
+    let mut reached = Reached::new();
+    if let Err(fault) = damage::run(1, Extent::Sample, &mut reached) {
+        stop(differ::found(0, fault));
+    }
+    println!("sample: {} steps, {} checks and {} plays on damaged bytes agree", reached.steps, reached.checks, reached.plays);
+}
+
+fn lawful(seed: u64) {
+    match laws::run(seed, 600) {
+        Ok(seen) => println!(
+            "laws: {} nights, {} accepted moves ({} kills), {} refused: demand 3's inequality, play as its steps, well-formed successors, untouched outputs, halting",
+            seen.nights, seen.accepted, seen.kills, seen.refused
+        ),
+        Err(words) => {
+            println!("{words}");
+            exit(1);
+        }
+    }
+}
+
+fn faulty(seed: u64, cases: u64, show: bool) {
+    println!("planted faults: each wrong reading in the independent implementation is found");
+    let missed = planted::run(seed, cases, show);
+    if missed > 0 {
+        println!("{missed} planted faults were not found");
+        exit(1);
+    }
+}

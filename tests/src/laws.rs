@@ -1,0 +1,137 @@
+// Laws of nights that are read off the bytes alone: no other implementation is asked.
+use crate::bytes;
+use crate::generate;
+use crate::library;
+use crate::nights::{self, next_move};
+use crate::random::Random;
+use crate::reply::{Reply, Tally};
+
+/// What was looked at.
+#[derive(Default, Debug)]
+pub struct Seen {
+    pub nights: u64,
+    pub accepted: u64,
+    pub refused: u64,
+    pub kills: u64,
+}
+
+/// Random nights, each law tried at each move; the first that fails is put into words.
+pub fn run(seed: u64, count: u64) -> Result<Seen, String> {
+    let mut seen = Seen::default();
+    for night in 0..count {
+        let mut random = Random::new(seed.wrapping_mul(7_919).wrapping_add(night));
+        let records = random.pick(&[8, 20, 40, 80]);
+        let table = generate::night(&mut random, records);
+        let moves = random.between(100, 400);
+        one_night(&mut random, table, moves, &mut seen)?;
+        seen.nights += 1;
+    }
+    Ok(seen)
+}
+
+/// Demand 3 over the whole list; the other laws at each of its moves.
+fn one_night(random: &mut Random, start: Vec<u8>, moves: usize, seen: &mut Seen) -> Result<(), String> {
+    let mut tally = Tally::default();
+    let mut now = start.clone();
+    let mut list = vec![];
+    for _ in 0..moves {
+        let m = next_move(random, &now);
+        now = one_move(now, &m, &mut tally, seen)?;
+        list.extend(m);
+    }
+    as_played(&start, &list, &now, &tally)?;
+    let spent = 2 * tally.communications + tally.kills + tally.timeouts + bytes::load(&now);
+    law(spent <= bytes::load(&start) + tally.copied, "demand 3's inequality", &start, &[])
+}
+
+/// Play gives the tally and the last table of the single steps, and zeros behind it.
+fn as_played(start: &[u8], list: &[u8], last: &[u8], tally: &Tally) -> Result<(), String> {
+    let (mut out, mut replies) = (vec![0xa5; 32_768], vec![0xa5; list.len()]);
+    let (reply, counts) = library::play(start, list, &mut out, &mut replies);
+    let fine = Reply { answer: 0, place: 0, records: last.len() / 16 };
+    law(reply == fine && counts == *tally, "play's reply and tally are those of its steps", start, &[])?;
+    let (table, behind) = out.split_at(last.len());
+    law(table == last && behind.iter().all(|b| *b == 0), "play leaves the last table and zeros", start, &[])?;
+    let load = Reply { records: bytes::load(last) as usize, ..fine };
+    law(library::load(last) == load, "the load is counted", start, &[])
+}
+
+/// One move: the table that stands after it.
+fn one_move(now: Vec<u8>, m: &[u8], tally: &mut Tally, seen: &mut Seen) -> Result<Vec<u8>, String> {
+    let before = vec![0xa5; 32_768];
+    let mut out = before.clone();
+    let reply = library::step(&now, m, &mut out);
+    law(library::step(&now, m, &mut before.clone()) == reply, "the same bytes, the same reply", &now, m)?;
+    if reply.answer != 0 {
+        seen.refused += 1;
+        law(out == before && reply.records == 0, "a refusal changes nothing", &now, m)?;
+        return Ok(now);
+    }
+    seen.accepted += 1;
+    let next = out[..16 * reply.records].to_vec();
+    law(out[next.len()..] == before[next.len()..], "bytes behind the successor stay", &now, m)?;
+    let fine = Reply { answer: 0, place: 0, records: reply.records };
+    law(library::check(&next) == fine, "the successor is well formed", &now, m)?;
+    nights::tally(tally, &now, m);
+    of_kind(&now, &next, m, seen)?;
+    Ok(next)
+}
+
+/// What each kind of move does to the records.
+fn of_kind(now: &[u8], next: &[u8], m: &[u8], seen: &mut Seen) -> Result<(), String> {
+    let a = bytes::word(m, 2) as usize;
+    let (was, is) = (bytes::load(now), bytes::load(next));
+    match m[0] {
+        0 => {
+            seen.kills += 1;
+            law(is < was && next.len() <= now.len(), "a kill ends itself at least", now, m)?;
+            law(halted(now, next, a), "halting leaves no load outside protections", now, m)
+        }
+        1 => law(is + 2 <= was, "a communication takes two off the load", now, m),
+        2 => law(is < was, "a timeout takes one off the load", now, m),
+        3 => law(is == was && same_but_intervals(now, next), "time changes intervals only", now, m),
+        4 => {
+            let body = bytes::end(now, a) - a - 1;
+            law(next.len() == now.len() + 16 * (body + 1), "an unfolding adds the body and a parallel", now, m)
+        }
+        _ => law(is == was && next.len() == now.len(), "an extrusion keeps the records", now, m),
+    }
+}
+
+/// Inside [k] every load stands under a protection that does not hold the place of the kill.
+fn halted(now: &[u8], next: &[u8], a: usize) -> bool {
+    let label = bytes::word(now, 16 * a + 2);
+    let path = way_in(now, next, a);
+    let scope = path.iter().copied().find(|p| bytes::kind(next, *p) == 8 && bytes::word(next, 16 * p + 2) == label);
+    let Some(scope) = scope else { return false };
+    (scope..bytes::end(next, scope)).all(|place| {
+        let counts = (1..=4).contains(&bytes::kind(next, place));
+        let sheltered = |p: &usize| *p > scope && bytes::kind(next, *p) == 7 && !path.contains(p);
+        !counts || bytes::way(next, place).iter().any(sheltered)
+    })
+}
+
+/// The records of the successor on the way that led to a place before: the same child at each.
+fn way_in(now: &[u8], next: &[u8], a: usize) -> Vec<usize> {
+    let mut here = 0;
+    let mut path = vec![];
+    let way = bytes::way(now, a);
+    for (level, place) in way.iter().enumerate() {
+        let below = way.get(level + 1).copied().unwrap_or(a);
+        let child = bytes::parts(now, *place).iter().position(|p| *p == below).unwrap();
+        path.push(here);
+        here = bytes::parts(next, here)[child];
+    }
+    path
+}
+
+fn same_but_intervals(now: &[u8], next: &[u8]) -> bool {
+    now.len() == next.len() && now.chunks(16).zip(next.chunks(16)).all(|(r, s)| r[..14] == s[..14] && (r[0] == 4 || r == s))
+}
+
+fn law(holds: bool, words: &str, table: &[u8], m: &[u8]) -> Result<(), String> {
+    if holds {
+        return Ok(());
+    }
+    Err(format!("law broken: {words}\n  move {m:?} on {}", bytes::text(table)))
+}

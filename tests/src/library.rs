@@ -1,0 +1,54 @@
+// The compiled library, safe to call: slices in, replies out. include/wigandoy.h says what each function does.
+use crate::reply::{Reply, Tally};
+
+mod raw {
+    extern "C" {
+        pub fn wigandoy_check(table: *const u8, bytes: usize) -> u64;
+        pub fn wigandoy_step(table: *const u8, bytes: usize, m: *const u8, length: usize, out: *mut u8, room: usize) -> u64;
+        pub fn wigandoy_load(table: *const u8, bytes: usize) -> u64;
+        pub fn wigandoy_play(
+            table: *const u8,
+            bytes: usize,
+            moves: *const u8,
+            length: usize,
+            out: *mut u8,
+            room: usize,
+            replies: *mut u8,
+            space: usize,
+            tally: *mut u32,
+        ) -> u64;
+    }
+}
+
+/// A reply from its number: the answer in the lowest 8 bits, the place in the 24 above, the records in the highest 32.
+fn unpack(packed: u64) -> Reply {
+    Reply { answer: packed as u8, place: (packed as u32 >> 8) as usize, records: (packed >> 32) as usize }
+}
+
+/// Whether bytes are a well-formed table: its records, or the refusal of 1 to 7.
+pub fn check(table: &[u8]) -> Reply {
+    // SAFETY: pointer and length are those of a slice, which is only read.
+    unpack(unsafe { raw::wigandoy_check(table.as_ptr(), table.len()) })
+}
+
+/// One move on a table: the successor in the output and its records, or the refusal of 1 to 21 and an untouched output.
+pub fn step(table: &[u8], m: &[u8], out: &mut [u8]) -> Reply {
+    // SAFETY: pointers and lengths are those of three slices; the one that is written is borrowed mutably and overlaps no other.
+    unpack(unsafe { raw::wigandoy_step(table.as_ptr(), table.len(), m.as_ptr(), m.len(), out.as_mut_ptr(), out.len()) })
+}
+
+/// The load of a table, in place of the records, or the refusal of 1 to 7.
+pub fn load(table: &[u8]) -> Reply {
+    // SAFETY: pointer and length are those of a slice, which is only read.
+    unpack(unsafe { raw::wigandoy_load(table.as_ptr(), table.len()) })
+}
+
+/// A list of moves on a table: play's own reply, the last table in the output, six bytes for each move in the replies, and the tally.
+pub fn play(table: &[u8], moves: &[u8], out: &mut [u8], replies: &mut [u8]) -> (Reply, Tally) {
+    let mut counts = [u32::MAX; 4];
+    let (t, m, o, r) = (table.as_ptr(), moves.as_ptr(), out.as_mut_ptr(), replies.as_mut_ptr());
+    // SAFETY: pointers and lengths are those of four slices and an array of four; those that are written are borrowed mutably and overlap no other.
+    let packed = unsafe { raw::wigandoy_play(t, table.len(), m, moves.len(), o, out.len(), r, replies.len(), counts.as_mut_ptr()) };
+    let [communications, kills, timeouts, copied] = counts.map(u64::from);
+    (unpack(packed), Tally { communications, kills, timeouts, copied })
+}

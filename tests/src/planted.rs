@@ -1,0 +1,27 @@
+// That the trial can fail: each planted fault of the independent implementation is found by generated cases alone.
+use crate::compare::Reached;
+use crate::differ;
+use crate::reference::faults::{plant, FAULTS};
+
+/// Plants each fault in turn, and says at which case it was found, and shows that case if asked; the number of those that were not found.
+pub fn run(seed: u64, cases: u64, show: bool) -> usize {
+    let mut missed = 0;
+    for (fault, words) in FAULTS {
+        plant(Some(*fault));
+        let result = differ::generated(seed, cases, &mut Reached::new());
+        plant(None);
+        match result {
+            Err(found) => {
+                println!("  found at case {}, shown by {} records: {words}", found.case, found.records);
+                if show {
+                    println!("{}", found.words);
+                }
+            }
+            Ok(()) => {
+                println!("  NOT FOUND: {words}");
+                missed += 1;
+            }
+        }
+    }
+    missed
+}

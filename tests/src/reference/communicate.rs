@@ -1,0 +1,154 @@
+// Communication: refusals 11 to 15, and the substitution.
+use super::faults::{planted, Fault};
+use super::moves::{refuse, wanted, whole_choice};
+use super::places::Place;
+use super::terms::{is_label, is_variable, Atom, Ends, Head, Term};
+use super::Refusal;
+
+/// What the variables of a pattern take.
+type Pairs = Vec<(Atom, Atom)>;
+
+pub fn communicate(all: &[Place], a: usize, b: usize) -> Result<Term, Refusal> {
+    if planted(Fault::FaultAtB) {
+        wanted(all, b, |h| matches!(h, Head::Invoke(_)))?;
+    }
+    let receive = wanted(all, a, |h| matches!(h, Head::Receive(_)))?;
+    let invoke = wanted(all, b, |h| matches!(h, Head::Invoke(_)))?;
+    let (pattern, sent) = (ends(receive), ends(invoke));
+    let Some(pairs) = matching(pattern, sent) else { return refuse(12, a) };
+    if pairs.iter().any(|pair| !in_scope(all, receive, invoke, pair, &pairs)) {
+        return refuse(13, a);
+    }
+    if planted(Fault::ConflictFirst) {
+        no_tighter(all, receive, invoke)?;
+    }
+    not_held(all, &[receive, invoke])?;
+    no_tighter(all, receive, invoke)?;
+    Ok(joined(all, receive, invoke, &pairs))
+}
+
+fn ends<'a>(p: &Place<'a>) -> &'a Ends {
+    match &p.here.head {
+        Head::Receive(ends) | Head::Invoke(ends) => ends,
+        _ => unreachable!(),
+    }
+}
+
+/// The pairs of a pattern and what is sent: no variable is sent, endpoints and counts are equal, each value of the pattern is the one sent.
+fn matching(pattern: &Ends, sent: &Ends) -> Option<Pairs> {
+    let mut atoms = sent.tuple.clone();
+    atoms.extend([sent.partner, sent.operation]);
+    if atoms.iter().any(|a| is_variable(*a)) && !planted(Fault::VariableSent) {
+        return None;
+    }
+    let same_endpoint = (pattern.partner, pattern.operation) == (sent.partner, sent.operation);
+    if !same_endpoint || pattern.tuple.len() != sent.tuple.len() {
+        return None;
+    }
+    let slots: Pairs = pattern.tuple.iter().copied().zip(sent.tuple.iter().copied()).collect();
+    let (pairs, values): (Pairs, Pairs) = slots.into_iter().partition(|(w, _)| is_variable(*w));
+    values.iter().all(|(w, v)| w == v).then_some(pairs)
+}
+
+/// 13: the variable's delimitation encloses both parties; that of the value sent, if there is one, encloses the variable's.
+fn in_scope(all: &[Place], receive: &Place, invoke: &Place, pair: &(Atom, Atom), pairs: &Pairs) -> bool {
+    let (variable, value) = *pair;
+    let Some(at) = receive.scope(variable) else { return false };
+    let encloses_both = invoke.below(receive.way[at].number) || planted(Fault::ScopeOfReceive);
+    let encloses_variable = |v: Atom| receive.way[..at].iter().any(|above| above.term.head.delimits(v));
+    let delimited = |v: Atom| all.iter().any(|p| p.here.head.delimits(v));
+    let value_fits = |v: Atom| !delimited(v) || encloses_variable(v) || planted(Fault::ValueEscapes);
+    let others_fit = !planted(Fault::EveryValueEncloses) || pairs.iter().all(|(_, v)| value_fits(*v));
+    encloses_both && value_fits(value) && others_fit
+}
+
+/// 14: no [k] around a party holds a ready kill of k.
+pub fn not_held(all: &[Place], parties: &[&Place]) -> Result<(), Refusal> {
+    let watched = if planted(Fault::ReceiversScopes) { &parties[..1] } else { parties };
+    let around = |p: &Place| planted(Fault::KillNextDoor) || watched.iter().any(|party| party.below(p.number));
+    let mut held = all.iter().filter(|p| around(p) && holds_back(all, p));
+    let first = if planted(Fault::NearestHeld) { held.last() } else { held.next() };
+    first.map_or(Ok(()), |p| refuse(14, p.number))
+}
+
+/// Whether a record is a [k] that holds a ready kill of k.
+fn holds_back(all: &[Place], p: &Place) -> bool {
+    let Head::Delimitation(label) = p.here.head else { return false };
+    let own = |q: &Place| match q.here.head {
+        Head::Kill(k) => k == label || planted(Fault::AnyLabelHolds),
+        _ => false,
+    };
+    let counts = |q: &Place| if planted(Fault::LiveKillsOnly) { q.live() } else { q.ready() };
+    is_label(label) && all.iter().any(|q| q.below(p.number) && counts(q) && own(q))
+}
+
+/// 15: no ready receive of the whole table that fits the same values has fewer pattern variables.
+fn no_tighter(all: &[Place], receive: &Place, invoke: &Place) -> Result<(), Refusal> {
+    let tighter = |other: &&Place| {
+        let counts = if planted(Fault::ConflictAmongLive) { other.live() } else { other.ready() };
+        counts && matches!(other.here.head, Head::Receive(_)) && fewer(other, receive, invoke)
+    };
+    let left_out = |other: &&Place| planted(Fault::HeldReceiveLeftOut) && not_held(all, &[other]).is_err();
+    all.iter().filter(tighter).find(|p| !left_out(p)).map_or(Ok(()), |p| refuse(15, p.number))
+}
+
+/// Whether another receive fits what is sent and has fewer pattern variables.
+fn fewer(other: &Place, receive: &Place, invoke: &Place) -> bool {
+    let Some(theirs) = matching(ends(other), ends(invoke)) else { return false };
+    let ours = matching(ends(receive), ends(invoke)).unwrap_or_default();
+    let open_for = |pairs: &Pairs, at: &Place, p: &Place| {
+        let shared = |x: Atom| at.scope(x).is_some_and(|i| p.below(at.way[i].number));
+        pairs.iter().filter(|(x, _)| shared(*x)).count()
+    };
+    let mut numbers = (theirs.len(), ours.len());
+    if planted(Fault::OpenOfTheirs) {
+        numbers.0 = open_for(&theirs, other, invoke);
+    }
+    if planted(Fault::OpenOfOurs) {
+        numbers.1 = open_for(&ours, receive, other);
+    }
+    let equal_hinders = planted(Fault::EqualHinders) && other.number != receive.number;
+    numbers.0 < numbers.1 || (equal_hinders && numbers.0 == numbers.1)
+}
+
+/// The invoke becomes nil, the receive with its whole choice its continuation, and each variable its value throughout its delimitation.
+fn joined(all: &[Place], receive: &Place, invoke: &Place, pairs: &Pairs) -> Term {
+    let mut continuation = receive.here.parts[0].clone();
+    if planted(Fault::OnlyContinuation) {
+        for (x, v) in pairs {
+            continuation = replaced(&continuation, *x, *v);
+        }
+    }
+    let silent = if planted(Fault::InvokeStays) { all[0].here.clone() } else { all[0].here.with(&invoke.path(), Term::nil()) };
+    let mut term = silent.with(&whole_choice(receive), continuation);
+    if !planted(Fault::OnlyContinuation) {
+        for (x, v) in pairs {
+            term = bound(&term, *x, *v);
+        }
+    }
+    term
+}
+
+/// The delimitation of x goes, and what was inside has v for x.
+fn bound(term: &Term, x: Atom, v: Atom) -> Term {
+    if term.head.delimits(x) {
+        let inside = replaced(&term.parts[0], x, v);
+        let stays = planted(Fault::DelimitationStays);
+        return if stays { Term { head: term.head.clone(), parts: vec![inside] } } else { inside };
+    }
+    Term { head: term.head.clone(), parts: term.parts.iter().map(|p| bound(p, x, v)).collect() }
+}
+
+/// v for x everywhere: protected, replicated and dormant parts too.
+fn replaced(term: &Term, x: Atom, v: Atom) -> Term {
+    let spared = match term.head {
+        Head::Protection => planted(Fault::ProtectedKeepVariables),
+        Head::Replication => planted(Fault::ReplicatedKeepVariables),
+        _ => false,
+    };
+    if spared {
+        return term.clone();
+    }
+    let head = term.head.map(&|a| if a == x { v } else { a });
+    Term { head, parts: term.parts.iter().map(|p| replaced(p, x, v)).collect() }
+}

@@ -1,0 +1,25 @@
+// The independent implementation: check, step, play and load as document 01 says, on a plain tree.
+// It is written from the paper's text and shares no code with crates/. Nothing here is meant to be fast.
+mod communicate;
+pub mod faults;
+pub mod format;
+mod moves;
+mod night;
+mod places;
+mod tables;
+pub mod terms;
+
+pub use crate::reply::Reply;
+pub use night::{check, load, play, step};
+
+/// A refusal: its number and its place.
+#[derive(Clone, Copy, PartialEq, Eq, Debug)]
+pub struct Refusal {
+    pub answer: u8,
+    pub place: usize,
+}
+
+/// The term of a well-formed table.
+pub fn term_of(table: &[u8]) -> Option<terms::Term> {
+    tables::check(table).ok()
+}
