@@ -148,8 +148,8 @@ fn listed_right(s: &[u8], ends: &[u16], list: &mut [u16]) -> bool
         let mut least = [0u16; 512];
         return indexed_right(s, ends, list, m, &mut pages, &mut least);
     }
-    if m < 64 {
-        let mut few = [0u16; 2048];
+    if m <= 64 {
+        let mut few = [0u16; 2080];
         return indexed_right(s, ends, list, m, &mut pages, &mut few);
     }
     if 511 < m {

@@ -1,5 +1,5 @@
 -- Laws of the quick tests for depth and choices: the heights of terms, and the children of choices.
-use mathlib.Core.Path.{_≡_, refl, ap, _∙_}
+use mathlib.Core.Path.{_≡_, refl, ap, subst, _∙_}
 use mathlib.Core.Bool.{true}
 use mathlib.Core.List.{List, [], _∷_}
 use Prim.Native.Nat.{ℕ, zero, suc, _+_, _*_, _-_, _/_, _≤_, _<_, max}
@@ -17,10 +17,10 @@ use Rattle.cows.proofs.Basics.{bool-case, and-true}
 use Rattle.cows.proofs.Places.{size-pos, spot-under, spot-left, spot-right, PartOf, part-inherited, part-first, part-here, inherited, none-first, Fails}
 use Rattle.cows.proofs.Fields.{guard-kind}
 use Rattle.cows.proofs.Refusals.{shallow-first}
-use Rattle.records.specs.Ends.{childrenOf}
+use Rattle.records.specs.Ends.{childrenOf, endAt, EndsFrom}
 use Rattle.records.specs.Holds.{Holds}
 use Rattle.records.proofs.Stands.{holds-size, holds-kind}
-use Rattle.records.proofs.Shapes.{node-children}
+use Rattle.records.proofs.Shapes.{node-children, end-term}
 use Rattle.readers.specs.Reads.{guardKind}
 use Rattle.scopes.specs.Scopes.{EndsOf}
 use Rattle.quick.specs.Quick.{heightOf, bothGuards, shallow, guarded}
@@ -47,23 +47,29 @@ height-as c a b m e = ap (λ n. getD (0 ∷ a ∷ n ∷ []) c 0 + 1) e
 abbrev pub Tall : Term → List ℕ → ℕ → Type 0
 Tall t h i = (m : ℕ) → i ≤ m → m < size t → depth (sub t m) ≤ getD h m 0
 
+-- the end of the term at place i, where the pass has been
+end-at : (s ends : List ℕ) (i : ℕ) → EndsFrom s ends i → (t : Term) → Holds s t → i < size t → getD ends i 0 ≡ i + size (sub t i)
+end-at s ends i e t h p = e .end i (omega arith) (omega (arith, holds-size s t h)) ∙ (ap (λ b. endAt b i) (h .is) ∙ end-term t i p)
+
 -- A turn of the pass: the height at place j, from those behind it.
-module _ (s ends : List ℕ) (e : EndsOf s ends) (h : List ℕ) (j c r : ℕ) (k : (c ≡ childrenOf (getD s (16 * j) 0)) × (c ≤ 2)) (er : r ≡ heightOf c (getD h (suc j) 0) (getD h (getD ends (suc j) 0) 0)) (t : Term) (holds : Holds s t) (l : j < size t) (tall : Tall t h (suc j)) where
+-- w is the end of the first child's term.
+module _ (s h : List ℕ) (j w c r : ℕ) (k : (c ≡ childrenOf (getD s (16 * j) 0)) × (c ≤ 2)) (er : r ≡ heightOf c (getD h (suc j) 0) (getD h w 0)) (t : Term) (holds : Holds s t)
+    (ends : suc j < size t → w ≡ suc j + size (sub t (suc j))) (l : j < size t) (tall : Tall t h (suc j)) where
   wants : (x : Term) → sub t j ≡ x → c ≡ children (root x)
   unfolding kindOf
   wants x q = k .0 ∙ (ap childrenOf (holds-kind s t j holds l ∙ ap kindOf q) ∙ node-children (root x))
 
   height-here : (x : Term) → sub t j ≡ x → depth x ≤ r
   unfolding depth heightOf root children
-  height-here (leaf x) q = omega (arith, height-bound c (getD h (suc j) 0) (getD h (getD ends (suc j) 0) 0) (k .1))
+  height-here (leaf x) q = omega (arith, height-bound c (getD h (suc j) 0) (getD h w 0) (k .1))
   height-here (under u y) q =
-      let (p, f, w) = spot-under t j u y l q in
+      let (p, f, _) = spot-under t j u y l q in
       let z = rw (wants (under u y) q) at er in
       omega (arith, rw f at (tall (suc j) (omega arith) p))
   height-here (both i x y) q =
-      let (p, f, w) = spot-left t j i x y l q in
-      let (p′, f′, w′) = spot-right t j i x y l q in
-      let z = rw (wants (both i x y) q, e .right t holds (suc j) p, f) at er in
+      let (p, f, _) = spot-left t j i x y l q in
+      let (p′, f′, _) = spot-right t j i x y l q in
+      let z = rw (wants (both i x y) q, ends p, f) at er in
       omega (arith, rw f at (tall (suc j) (omega arith) p), rw f′ at (tall (suc j + size x) (omega arith) p′))
 
   pub height-turn : j < length h → Tall t (set h j r) j
@@ -73,11 +79,12 @@ module _ (s ends : List ℕ) (e : EndsOf s ends) (h : List ℕ) (j c r : ℕ) (k
       (λ q. rw (getD-set-other h j m r 0 (eqb-false m j q)) (tall m (omega (arith, eqb-false m j q)) b))
 
 -- the same by the code's numbers: the pass is at place i, and turns to the place before it
-pub height-pass : (s ends h : List ℕ) (i a w c r : ℕ) → EndsOf s ends → 0 < i → i ≤ length s / 16 → length s / 16 < length h → a ≡ getD h i 0 → w ≡ getD ends i 0
+pub height-pass : (s ends h : List ℕ) (i a w c r : ℕ) → EndsFrom s ends i → 0 < i → i ≤ length s / 16 → length s / 16 < length h → a ≡ getD h i 0 → w ≡ getD ends i 0
     → (c ≡ childrenOf (getD s (16 * (i - 1)) 0)) × (c ≤ 2) → r ≡ heightOf c a (getD h w 0) → (t : Term) → Holds s t → Tall t h i → Tall t (set h (i - 1) r) (i - 1)
 height-pass s ends h i a w c r e pos low room ea ew k er t hd tall =
     let z : i ≡ suc (i - 1) = omega arith in
-    height-turn s ends e h (i - 1) c r k (er ∙ rw (ea, ew) (ap (λ j. heightOf c (getD h j 0) (getD h (getD ends j 0) 0)) z)) t hd (omega (arith, holds-size s t hd)) (λ m p. tall m (omega arith))
+    height-turn s h (i - 1) w c r k (er ∙ ap (λ x. heightOf c x (getD h w 0)) (ea ∙ ap (λ j. getD h j 0) z)) t hd
+    (λ p. ew ∙ (ap (λ j. getD ends j 0) z ∙ end-at s ends (suc (i - 1)) (subst (EndsFrom s ends) z e) t hd p)) (omega (arith, holds-size s t hd)) (λ m p. tall m (omega arith))
     (omega arith)
 
 pub tall-shallow : (t : Term) (h : List ℕ) (i a : ℕ) → i ≡ 0 → Tall t h i → a ≡ getD h i 0 → leb a 256 ≡ true → shallow t

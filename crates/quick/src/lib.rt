@@ -27,20 +27,43 @@ fn height(c: usize, a: u16, b: u16) -> u16
     below[c] + 1
 }
 
-// No record is too deep, by the height of the term at each place, from the last to the first.
-fn heights_right(s: &[u8], ends: &[u16], heights: &mut [u16]) -> bool
-    requires { ⌜ EndsFrom (now s) (now ends) 0 × (length (now s) / 16 + 1 < length (now heights)) × Zeros (now heights) ⌝ }
-    ensures { λ r. ⌜ Shows r (now (s .entry)) shallow ⌝ }
+// The place after the term at each place, as `records::ends` has it, and the height of the term there, from the last to the first; whether no record is
+// too deep. The end of a term is the place of its second child's height too, so that one pass does both.
+fn ends_and_heights(s: &[u8], ends: &mut [u16], heights: &mut [u16]) -> bool
+    requires { ⌜ (length (now s) / 16 ≤ 2048) × (length (now s) / 16 + 1 < length (now ends)) × (length (now s) / 16 + 1 < length (now heights)) × Zeros (now heights) ⌝ }
+    ensures { λ r. ⌜ EndsFrom (now (s .entry)) (now (ends .exit)) 0 × Shows r (now (s .entry)) shallow ⌝ }
 {
+    let n = s.len() / 16;
+    let over = (n + 1) as u16;
+    ends[n + 1] = over;
+    ends[n] = over;
+    let mut end = over;
     let mut top: u16 = 0;
-    let mut i = s.len() / 16;
+    let mut i = n;
     while 0 < i {
-        let b = heights[wide16(ends[i])];
-        top = height(children(s[16 * (i - 1)]), top, b);
+        let e = wide16(end);
+        let c = children(s[16 * (i - 1)]);
+        let behind = [i as u16, end, ends[e]];
+        end = behind[c];
+        top = height(c, top, heights[e]);
+        ends[i - 1] = end;
         heights[i - 1] = top;
         i -= 1;
     }
     top <= 256
+}
+
+// The ends of the terms of a table, and whether no record is too deep: none can be in a table of 256 records.
+pub fn ends_right(s: &[u8], ends: &mut [u16]) -> bool
+    requires { ⌜ (length (now s) / 16 ≤ 2048) × (length (now s) / 16 + 1 < length (now ends)) ⌝ }
+    ensures { λ r. ⌜ EndsFrom (now (s .entry)) (now (ends .exit)) 0 × Shows r (now (s .entry)) shallow ⌝ }
+{
+    if s.len() / 16 <= 256 {
+        records::ends::ends(s, ends);
+        return true;
+    }
+    let mut heights = [0u16; 2050];
+    ends_and_heights(s, ends, &mut heights)
 }
 
 fn is_guard(k: u8) -> bool
@@ -85,18 +108,18 @@ fn choices_right(s: &[u8], ends: &[u16], list: &mut [u16]) -> bool
     guards_right(s, ends, list, m)
 }
 
-// Refusals 4 and 5 do not apply. No record can be too deep in a table of 256.
-pub fn reading_right(s: &[u8], ends: &[u16]) -> bool
-    requires { ⌜ EndsFrom (now s) (now ends) 0 ⌝ }
+// Refusals 4 and 5 do not apply; `low` says that no record is too deep, or nothing.
+pub fn reading_right(s: &[u8], ends: &[u16], low: bool) -> bool
+    requires { ⌜ EndsFrom (now s) (now ends) 0 × Shows low (now s) shallow ⌝ }
     ensures { λ r. ⌜ Shows r (now (s .entry)) shallow × Shows r (now (s .entry)) guarded ⌝ }
 {
+    if !low {
+        return false;
+    }
     if s.len() <= 4096 {
         let mut few = [0u16; 257];
         return choices_right(s, ends, &mut few);
     }
-    let mut heights = [0u16; 2050];
-    if !heights_right(s, ends, &mut heights) {
-        return false;
-    }
-    choices_right(s, ends, &mut heights)
+    let mut list = [0u16; 2050];
+    choices_right(s, ends, &mut list)
 }

@@ -9,6 +9,7 @@ ghost use Rattle.cows.specs.Format.{records};
 ghost use Rattle.cows.specs.Tables.{firstWrong, judgeTerm, judge};
 ghost use Rattle.records.specs.Holds.{Holds};
 ghost use Rattle.records.specs.Ends.{EndsFrom};
+ghost use Rattle.quick.specs.Quick.{Shows, shallow};
 ghost use Rattle.tables.specs.Verdict.{replyOf, checkReply, Checked, judgeScopes, judgeShape};
 
 // What the author of a table is told.
@@ -83,12 +84,12 @@ fn judge_scopes(s: &[u8], ends: &[u16]) -> Verdict
     find_scopes(s, ends)
 }
 
-// Refusals 4 to 7 of a table that holds a term.
-fn judge_term(s: &[u8], ends: &[u16]) -> Verdict
-    requires { ⌜ EndsFrom (now s) (now ends) 0 ⌝ }
+// Refusals 4 to 7 of a table that holds a term; `low` says that it is not too deep, or nothing.
+fn judge_term(s: &[u8], ends: &[u16], low: bool) -> Verdict
+    requires { ⌜ EndsFrom (now s) (now ends) 0 × Shows low (now s) shallow ⌝ }
     ensures { λ v. ⌜ ((t : Term) → Holds (now (s .entry)) t → replyOf v ≡ checkReply (judgeTerm t)) ⌝ }
 {
-    if quick::reading_right(s, ends) {
+    if quick::reading_right(s, ends, low) {
         return judge_scopes(s, ends);
     }
     let n = s.len() / 16;
@@ -108,7 +109,7 @@ fn judge_records(s: &[u8], ends: &mut [u16]) -> Verdict
     ensures { λ v. ⌜ (replyOf v ≡ checkReply (judgeShape (now (s .entry)))) × EndsFrom (now (s .entry)) (now (ends .exit)) 0 ⌝ }
 {
     let n = s.len() / 16;
-    records::ends::ends(s, ends);
+    let low = quick::ends_right(s, ends);
     let end = records::wide16(ends[0]);
     if end < n {
         return Verdict::Shape(end);
@@ -116,7 +117,7 @@ fn judge_records(s: &[u8], ends: &mut [u16]) -> Verdict
     if n < end {
         return Verdict::Shape(n);
     }
-    judge_term(s, ends)
+    judge_term(s, ends, low)
 }
 
 // All refusals of a table; `ends` takes the ends of the terms of an accepted one.

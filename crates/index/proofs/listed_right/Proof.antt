@@ -24,7 +24,7 @@ listed-right-spec =
     (λ c κs.
     let a = c .before .before .before .before .before .before .before .before .before .before .before .before .pre in
     let p = c .before .before .before .before .before .before .before .places in
-    (record { end = a .0; listed = p .ensures; long = omega (arith, a .1, p .kept .1 .1 .1 .0) }, ready _ _ _ 2048 (a .0 .few) (omega (arith, a .1, p .kept .1 .1 .1 .0)) (p .ensures) (omega arith) (omega arith)))
+    (record { end = a .0; listed = p .ensures; long = omega (arith, a .1, p .kept .1 .1 .1 .0) }, ready _ _ _ 2080 (a .0 .few) (omega (arith, a .1, p .kept .1 .1 .1 .0)) (p .ensures) (omega arith) (omega arith)))
     (λ c. search needs)
     (λ c. search needs)
     (λ c. search needs)

@@ -16,19 +16,19 @@ judge-records-spec =
     (λ c. let w = c .before in
     let e = w .before .before .before .before in
     let x = e .before .before .before .before in
-    (judge-early _ _ (x .pre .2) (w .wide16 .ensures .0 ∙ e .ends .ensures .end 0 (omega arith) (omega arith)) (c .if1 .taken), e .ends .ensures))
+    (judge-early _ _ (x .pre .2) (w .wide16 .ensures .0 ∙ e .ends-right .ensures .0 .end 0 (omega arith) (omega arith)) (c .if1 .taken), e .ends-right .ensures .0))
     (λ c. search needs)
     (λ c. let w = c .before .before in
     let e = w .before .before .before .before in
     let x = e .before .before .before .before in
-    (judge-late _ (w .wide16 .result) (x .pre .2) (w .wide16 .ensures .0 ∙ e .ends .ensures .end 0 (omega arith) (omega arith)) (c .if2 .taken), e .ends .ensures))
+    (judge-late _ (w .wide16 .result) (x .pre .2) (w .wide16 .ensures .0 ∙ e .ends-right .ensures .0 .end 0 (omega arith) (omega arith)) (c .if2 .taken), e .ends-right .ensures .0))
     (λ c κs. search needs)
     (λ c. search needs)
     (λ c. let w = c .before .before .before .before in
     let e = w .before .before .before .before in
     let k = e .before .before .before in
     let x = k .before in (
-      judge-whole _ (w .wide16 .result) (x .pre .2) (w .wide16 .ensures .0 ∙ e .ends .ensures .end 0 (omega arith) (omega arith))
+      judge-whole _ (w .wide16 .result) (x .pre .2) (w .wide16 .ensures .0 ∙ e .ends-right .ensures .0 .end 0 (omega arith) (omega arith))
           (slice-bytes (x .args .s .now) (λ i. omega (arith, k .shared-slice-known .given i))) (x .pre .1) (c .before .before .before .if1 .left) (c .before .before .if2 .left) (c .judge-term .result) (c .judge-term .ensures),
-      e .ends .ensures,
+      e .ends-right .ensures .0,
     )))
