@@ -24,7 +24,7 @@ pub mod Unfolding
 pub mod Preserving
 pub mod Allows
 pub mod Corollaries
-pub mod Steps
+pub mod Accepts
 pub mod Load
 pub mod Run
 pub mod Lists

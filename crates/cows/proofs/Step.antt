@@ -1,7 +1,7 @@
 -- One step on bytes: a refusal has a number from 1 on and changes no output byte; an acceptance changes none behind the successor; and a turn of a
 -- run is such a step.
 use mathlib.Core.Path.{_≡_, refl, sym, ap, subst, _∙_}
-use mathlib.Core.Logic.{_≢_}
+use mathlib.Core.Logic.{_≢_, _↔_}
 use mathlib.Core.Bool.{Bool, true, false}
 use mathlib.Core.Option.{Option, none, some}
 use mathlib.Core.List.{List, [], _∷_, _++_}
@@ -147,9 +147,9 @@ pub refusal-silent : (table m out : List ℕ) → stepReply table m out .answer 
 unfolding stepReply stepOutput
 refusal-silent table m out h = step-refused (judgeStep table m (length out)) out h
 
-pub answer-zero : (table m out : List ℕ) → stepReply table m out .answer ≡ 0 → (s : Term) × (judgeStep table m (length out) ≡ accept s)
+pub answer-accepts : (table m out : List ℕ) → (stepReply table m out .answer ≡ 0) ↔ ((s : Term) × (judgeStep table m (length out) ≡ accept s))
 unfolding stepReply
-answer-zero table m out e = go (judgeStep table m (length out)) (step-numbered table m (length out)) e
+answer-accepts table m out = (go (judgeStep table m (length out)) (step-numbered table m (length out)), λ p. rw (p .1) (unfold reply in refl))
   where
     go : (r : Result Term) → Numbered r → reply r .answer ≡ 0 → (s : Term) × (r ≡ accept s)
     go (refuse n p) h e = absurd (unfold reply in omega arith)

@@ -16,6 +16,7 @@ use Rattle.cows.specs.Within.{Within}
 use Rattle.cows.specs.Moves.{halt, haltBeside, Substitution, silence, Move, Kill, Communicate, Timeout, Elapse, Unfold, Extrude, successor}
 use Rattle.cows.specs.Allows.{Stands, Matches, Unheld, Tightest, Allows}
 use Rattle.cows.specs.Step.{judgeStep, stepTerm, stepReply, stepOutput}
+use Rattle.cows.specs.Accepts.{Accepts}
 use Rattle.cows.specs.Load.{load, shielded, endedBy, dropped, lost, spent, copies}
 use Rattle.cows.specs.Run.{Run, start, judgement, run, losses}
 use Rattle.cows.specs.Papers.{right, papers, papers-right}
@@ -24,8 +25,8 @@ use Rattle.cows.proofs.Format.{encode-bytes, encode-injective}
 use Rattle.cows.proofs.Tables.{judge-encode, judge-within, within-judge}
 use Rattle.cows.proofs.Allows.{allows-unique}
 use Rattle.cows.proofs.Corollaries.{meeting-unheld, meeting-tightest, kill-spares}
-use Rattle.cows.proofs.Steps.{Steps, accepted-steps, steps-accepted}
-use Rattle.cows.proofs.Step.{refusal-silent, output-behind, output-length}
+use Rattle.cows.proofs.Accepts.{accepted-accepts, accepts-accepted, accepts-one, accepts-within}
+use Rattle.cows.proofs.Step.{answer-accepts, refusal-silent, output-behind, output-length}
 use Rattle.cows.proofs.Preserving.{step-within}
 use Rattle.cows.proofs.Load.{halt-halt, load-halt}
 use Rattle.cows.proofs.Run.{load-law, run-balance, run-bound, judgement-step, run-within}
@@ -42,8 +43,16 @@ table-bytes t w = encode-bytes t (w .right)
 
 -- 2. A move is accepted with successor s if, and only if, the table is well formed, the rules allow the move on it with that successor, and it keeps
 -- the limits and fits.
-pub step-accepted : (table m : List ℕ) (room : ℕ) (s : Term) → Bytes table → (judgeStep table m room ≡ accept s) ↔ Steps table m room s
-step-accepted table m room s h = (accepted-steps table m room s h, steps-accepted table m room s)
+pub step-accepted : (table m : List ℕ) (room : ℕ) (s : Term) → Bytes table → (judgeStep table m room ≡ accept s) ↔ Accepts table m room s
+step-accepted table m room s h = (accepted-accepts table m room s h, accepts-accepted table m room s)
+
+-- the answer is 0 exactly if there is such a successor
+pub answer-zero : (table m out : List ℕ) → (stepReply table m out .answer ≡ 0) ↔ ((s : Term) × (judgeStep table m (length out) ≡ accept s))
+answer-zero table m out = answer-accepts table m out
+
+-- there is one
+pub one-accepted : (table m : List ℕ) (room : ℕ) (s u : Term) → Accepts table m room s → Accepts table m room u → s ≡ u
+one-accepted table m room s u a b = accepts-one table m room s u a b
 
 -- the successor is determined by the term and the move
 pub one-successor : (t s r : Term) (m : Move) → Within t → Allows t m s → Allows t m r → s ≡ r
@@ -65,6 +74,9 @@ pub kill-leaves : (t s : Term) (a k : ℕ) → Within t → successor t (Kill a)
 kill-leaves t s a k w e h = kill-spares t s a k w e h
 
 -- 3. The successor of an accepted move is within the limits again, and so is every table of a run.
+pub accepted-within : (table m : List ℕ) (room : ℕ) (s : Term) → Accepts table m room s → Within s
+accepted-within table m room s a = accepts-within table m room s a
+
 pub successor-within : (t s : Term) (m : List ℕ) (room : ℕ) → Within t → stepTerm t m room ≡ accept s → Within s
 successor-within t s m room w e = step-within t s m room w e
 

@@ -8,6 +8,7 @@ pub mod Active
 pub mod Moves
 pub mod Allows
 pub mod Step
+pub mod Accepts
 pub mod Load
 pub mod Run
 pub mod Papers

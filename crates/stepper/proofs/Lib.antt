@@ -1,3 +1,4 @@
 pub mod Moved
 pub mod SixBytes
 pub mod Stepping
+pub mod Theorems

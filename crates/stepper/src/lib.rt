@@ -8,6 +8,7 @@ ghost use Rattle.cows.specs.Terms.{Term};
 ghost use Rattle.cows.specs.Step.{stepTerm};
 ghost use Rattle.passes.specs.Known.{Table, Known};
 ghost use Rattle.stepper.specs.Replies.{Answers, Stepped};
+ghost use Rattle.stepper.specs.Demand.{Demand2};
 
 // A move as it is read off its six bytes.
 pub enum Move {
@@ -37,9 +38,10 @@ pub fn step_known(s: &[u8], ends: &[u16], m: &[u8], out: &mut [u8]) -> Reply
     }
 }
 
-// One move on a table: 0, 0 and the records of the successor, which the output then begins with, or the refusal of 1 to 21, its place and 0.
+// One move on a table: 0, 0 and the records of the successor, which the output then begins with, or the refusal of 1 to 21, its place and 0. Reply and every
+// output byte are those of the definition, and of both demand 2 holds.
 pub fn step(table: &[u8], m: &[u8], out: &mut [u8]) -> Reply
-    ensures { λ r. ⌜ Stepped (now (table .entry)) (now (m .entry)) (now (out .entry)) (now (out .exit)) r ⌝ }
+    ensures { λ r. ⌜ Stepped (now (table .entry)) (now (m .entry)) (now (out .entry)) (now (out .exit)) r × Demand2 (now (table .entry)) (now (m .entry)) (now (out .entry)) (now (out .exit)) r ⌝ }
 {
     let mut ends = [0u16; 2050];
     let checked = tables::check_ends(table, &mut ends);

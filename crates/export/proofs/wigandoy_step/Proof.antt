@@ -15,7 +15,7 @@ wigandoy-step-spec =
     (λ c κs. let y = c .before .before .before .before .before in
     let x = y .before in
     let a = x .before .args in
-    subst Fits (sym (c .before .before .step .ensures .replies))
+    subst Fits (sym (c .before .before .step .ensures .0 .replies))
     (step-fits _ _ _ (slice-bytes (a .table .now) (λ i. omega (arith, x .shared-slice-known .given i))) (λ i. omega (arith, y .shared-slice-known2 .given i))))
     (λ c. search needs)
-    (λ c. let s = c .before .before .before .step .ensures in record { replies = c .pack .ensures ∙ ap packed (s .replies); output = s .output }))
+    (λ c. let s = c .before .before .before .step .ensures .0 in record { replies = c .pack .ensures ∙ ap packed (s .replies); output = s .output }))

@@ -2,6 +2,7 @@ use borrow.Author.Needs.{needs}
 use native.Mathlib.Omega.{arith}
 use Rattle.tables.proofs.Judging.{slice-bytes}
 use Rattle.stepper.proofs.Stepping.{table-refused, table-read, read-known, read-stepped}
+use Rattle.stepper.proofs.Theorems.{promised}
 use Rattle.stepper.proofs.step.Statement.{statement}
 use Rattle.stepper.proofs.step.Tie as tie
 
@@ -11,7 +12,9 @@ step-spec =
     (tie.spec
     (λ c. search needs)
     (λ c κs. search needs)
-    (λ c. table-refused _ _ _ _ _ (c .before .before .before .check-ends .ensures) (c .if1 .taken))
+    (λ c. let k = c .before .before .before in
+    let x = k .before .before .before .before in
+    promised _ _ _ _ _ (slice-bytes (x .before .args .table .now) (λ i. omega (arith, x .shared-slice-known .given i))) (table-refused _ _ _ _ _ (k .check-ends .ensures) (c .if1 .taken)))
     (λ c. search needs)
     (λ c κs. let i = c .before .before in
     let k = i .before .before .before in
@@ -22,5 +25,6 @@ step-spec =
     let i = n .before .before .before in
     let k = i .before .before .before in
     let x = k .before .before .before .before in
-    let q = table-read _ _ _ (slice-bytes (x .before .args .table .now) (λ i. omega (arith, x .shared-slice-known .given i))) (k .check-ends .ensures) (i .if1 .left) in
-    read-stepped _ _ _ _ _ _ q (n .step-known .ensures (q .term) (q .table))))
+    let b = slice-bytes (x .before .args .table .now) (λ i. omega (arith, x .shared-slice-known .given i)) in
+    let q = table-read _ _ _ b (k .check-ends .ensures) (i .if1 .left) in
+    promised _ _ _ _ _ b (read-stepped _ _ _ _ _ _ q (n .step-known .ensures (q .term) (q .table)))))

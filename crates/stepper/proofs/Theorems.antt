@@ -1,0 +1,62 @@
+-- Demand 2 as one theorem about whatever meets the equations of a step (`Stepped`); `step` promises both.
+use mathlib.Core.Path.{_≡_, refl, sym, ap, _∙_}
+use mathlib.Core.Logic.{_≢_}
+use mathlib.Core.List.{List}
+use Prim.Native.Nat.{ℕ}
+use lib.ListN.{length}
+use Rattle.cows.specs.Basics.{Result, refuse, accept}
+use Rattle.cows.specs.Terms.{Term}
+use Rattle.cows.specs.Format.{Bytes}
+use Rattle.cows.specs.Within.{Within}
+use Rattle.cows.specs.Step.{judgeStep, reply, written, stepReply, stepOutput}
+use Rattle.cows.specs.Accepts.{Accepts}
+use Rattle.cows.proofs.Theorems.{step-accepted, answer-zero, one-accepted, accepted-within, refused-untouched}
+use Rattle.tables.specs.declared.Reply.{Reply}
+use Rattle.stepper.specs.Replies.{replyOf, Stepped}
+use Rattle.stepper.specs.Demand.{Demand2}
+
+module _ (table m out after : List ℕ) (r : Reply) (bytes : Bytes table) (stepped : Stepped table m out after r) where
+  -- the answer is that of the definition
+  same-answer : r .answer ≡ stepReply table m out .answer
+  same-answer = ap (λ (x : Reply). x .answer) (stepped .replies)
+
+  judged : (s : Term) → Accepts table m (length out) s → judgeStep table m (length out) ≡ accept s
+  judged s a = step-accepted table m (length out) s bytes .1 a
+
+  no-records : (x : Result Term) → reply x .answer ≢ 0 → reply x .records ≡ 0
+  unfolding reply
+  no-records (refuse n p) z = refl
+  no-records (accept s) z = absurd (z refl)
+
+  replied : (s : Term) → judgeStep table m (length out) ≡ accept s → r ≡ replyOf (reply (accept s))
+  unfolding stepReply
+  replied s e = stepped .replies ∙ rw e
+
+  output : (s : Term) → judgeStep table m (length out) ≡ accept s → after ≡ written (accept s) out
+  unfolding stepOutput
+  output s e = stepped .output ∙ rw e
+
+  differs : r .answer ≢ 0 → stepReply table m out .answer ≢ 0
+  differs z e = z (same-answer ∙ e)
+
+  refused : r .answer ≢ 0 → (r .records ≡ 0) × (after ≡ out)
+  unfolding stepReply
+  refused z =
+      (ap (λ (x : Reply). x .records) (stepped .replies) ∙ no-records (judgeStep table m (length out)) (differs z), stepped .output ∙ refused-untouched table m out (differs z))
+
+  pub demand-2 : Demand2 table m out after r
+  unfolding reply written
+  demand-2 = record {
+    accepted =
+        ((λ e. let (s, j) = answer-zero table m out .0 (sym same-answer ∙ e) in (s, step-accepted table m (length out) s bytes .0 j)),
+        λ p. same-answer ∙ answer-zero table m out .1 (p .0, judged (p .0) (p .1)));
+    one = one-accepted table m (length out);
+    formed = accepted-within table m (length out);
+    replied = λ s a. replied s (judged s a);
+    written = λ s a. output s (judged s a);
+    refused = refused;
+  }
+
+  -- both promises of a step
+  pub promised : Stepped table m out after r × Demand2 table m out after r
+  promised = (stepped, demand-2)
