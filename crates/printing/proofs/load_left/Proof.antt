@@ -3,8 +3,8 @@ use mathlib.Core.Path.{sym}
 use Prim.Native.Nat.{_*_}
 use native.Mathlib.Omega.{arith}
 use lib.Seq.{length-take-le}
-use Rattle.play.proofs.load_left.Statement.{statement}
-use Rattle.play.proofs.load_left.Tie as tie
+use Rattle.printing.proofs.load_left.Statement.{statement}
+use Rattle.printing.proofs.load_left.Tie as tie
 
 pub load-left-spec : {M : Type 1} → statement M
 load-left-spec =

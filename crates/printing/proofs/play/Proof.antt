@@ -1,7 +1,7 @@
 use borrow.Author.Needs.{needs}
-use Rattle.play.proofs.Output.{last-fits}
-use Rattle.play.proofs.play.Statement.{statement}
-use Rattle.play.proofs.play.Tie as tie
+use Rattle.printing.proofs.Output.{last-fits}
+use Rattle.printing.proofs.play.Statement.{statement}
+use Rattle.printing.proofs.play.Tie as tie
 
 pub play-spec : {M : Type 1} → statement M
 play-spec =

@@ -1,8 +1,8 @@
 use borrow.Author.Needs.{needs}
 use Prim.Native.Nat.{_≤_, _-_}
 use native.Mathlib.Omega.{arith}
-use Rattle.play.proofs.print_moves.Statement.{statement}
-use Rattle.play.proofs.print_moves.Tie as tie
+use Rattle.printing.proofs.print_moves.Statement.{statement}
+use Rattle.printing.proofs.print_moves.Tie as tie
 
 abbrev Inv-loop : tie.InvT-loop
 Inv-loop moves replies count i₀ i = i ≤ count
