@@ -47,9 +47,10 @@ module _ (table m out after : List ℕ) (r : Reply) (bytes : Bytes table) (stepp
   pub demand-2 : Demand2 table m out after r
   unfolding reply written
   demand-2 = record {
-    accepted =
-        ((λ e. let (s, j) = answer-zero table m out .0 (sym same-answer ∙ e) in (s, step-accepted table m (length out) s bytes .0 j)),
-        λ p. same-answer ∙ answer-zero table m out .1 (p .0, judged (p .0) (p .1)));
+    accepted = (
+      (λ e. let (s, j) = answer-zero table m out .0 (sym same-answer ∙ e) in (s, step-accepted table m (length out) s bytes .0 j)),
+      λ p. same-answer ∙ answer-zero table m out .1 (p .0, judged (p .0) (p .1)),
+    );
     one = one-accepted table m (length out);
     formed = accepted-within table m (length out);
     replied = λ s a. replied s (judged s a);
