@@ -1,4 +1,5 @@
 pub mod Planning
+pub mod Proposing
 pub mod Joining
 pub mod Continuing
 pub mod Timeouts

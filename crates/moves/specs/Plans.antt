@@ -10,12 +10,13 @@ use Rattle.cows.specs.Step.{overLimits}
 use Rattle.records.specs.Rewrites.{put}
 use Rattle.passes.specs.Known.{Table, Known}
 use Rattle.moves.specs.declared.Judgement.{Judgement}
-use Rattle.moves.specs.declared.Judgement.the-variants.{Allowed, Absent, Differs, Apart, Held, Looser, Unripe, Early, Stuck, Large}
+use Rattle.moves.specs.declared.Judgement.the-variants.{Allowed, Unread, Absent, Differs, Apart, Held, Looser, Unripe, Early, Stuck, Large}
 use Rattle.moves.specs.declared.Plan.{Plan}
 
 -- the number of records of the successor, or the refusal
 abbrev pub resultOf : Judgement → Result ℕ
 resultOf (Allowed n) = accept n
+resultOf Unread = refuse 10 0
 resultOf (Absent p) = refuse 11 p
 resultOf (Differs p) = refuse 12 p
 resultOf (Apart p) = refuse 13 p

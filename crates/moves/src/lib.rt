@@ -1,17 +1,33 @@
 // Moves: the six moves on a well-formed table, one module each. A move is judged first, which writes nothing, and then its successor is written.
-pub mod communicate;
+mod communicate;
 mod cutting;
-pub mod elapse;
-pub mod extrude;
-pub mod kill;
-pub mod timeout;
-pub mod unfold;
+mod elapse;
+mod extrude;
+mod kill;
+mod timeout;
+mod unfold;
 
 ghost use mathlib.Core.Path.{_≡_};
+ghost use Rattle.cows.specs.Terms.{Term};
+ghost use Rattle.passes.specs.Known.{Table, Known};
+ghost use Rattle.moves.specs.Plans.{Planned, Asks, Gives};
+ghost use Rattle.moves.specs.Proposed.{proposed, placeIn};
 
-// What the proposer of a move is told: the number of the successor's records, or the refusal of 11 to 18, or 20, and its place.
+// A move as it is read off its six bytes, or none.
+pub enum Move {
+    Kill(usize),
+    Communicate(usize, usize),
+    Timeout(usize),
+    Elapse(u16),
+    Unfold(usize),
+    Extrude(usize),
+    None,
+}
+
+// What the proposer of a move is told: the number of the successor's records, or the refusal of 10 to 18, or 20, and its place.
 pub enum Judgement {
     Allowed(usize),
+    Unread,
     Absent(usize),
     Differs(usize),
     Apart(usize),
@@ -33,4 +49,36 @@ fn refused(judgement: Judgement) -> Plan
     ensures { λ r. ⌜ (r .judgement ≡ judgement) × (r .from ≡ 0) ⌝ }
 {
     Plan { judgement, from: 0 }
+}
+
+// A move on a known table is judged: whether it is allowed, how many records its successor has, and from which place on the table changes.
+pub fn judge(s: &[u8], ends: &[u16], m: Move) -> Plan
+    requires { ⌜ Known (now s) (now ends) ⌝ }
+    ensures { λ r. ⌜ ((t : Term) → Table (now (s .entry)) (now (ends .entry)) t → Planned (proposed m t) (placeIn m t) r) ⌝ }
+{
+    match m {
+        Move::Kill(a) => kill::judge(s, ends, a),
+        Move::Communicate(a, b) => communicate::judge(s, ends, a, b),
+        Move::Timeout(a) => timeout::judge(s, ends, a),
+        Move::Elapse(d) => elapse::judge(s, ends, d),
+        Move::Unfold(a) => unfold::judge(s, ends, a),
+        Move::Extrude(a) => extrude::judge(s, ends, a),
+        Move::None => refused(Judgement::Unread),
+    }
+}
+
+// The successor of a move that is allowed; `from` is the place of its plan.
+pub fn write(s: &[u8], ends: &[u16], m: Move, from: usize, out: &mut [u8])
+    requires { ⌜ Asks (proposed m) (placeIn m) (now s) (now ends) from (now out) ⌝ }
+    ensures { λ _. ⌜ Gives (proposed m) (now (s .entry)) (now (ends .entry)) (now (out .entry)) (now (out .exit)) ⌝ }
+{
+    match m {
+        Move::Kill(a) => kill::write(s, ends, a, from, out),
+        Move::Communicate(a, b) => communicate::write(s, ends, a, b, from, out),
+        Move::Timeout(a) => timeout::write(s, ends, a, from, out),
+        Move::Elapse(d) => elapse::write(s, ends, d, out),
+        Move::Unfold(a) => unfold::write(s, ends, a, out),
+        Move::Extrude(a) => extrude::write(s, ends, a, from, out),
+        Move::None => {}
+    }
 }
