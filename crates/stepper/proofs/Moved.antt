@@ -18,7 +18,7 @@ use Rattle.cows.proofs.Format.{length-encode}
 use Rattle.records.specs.Rewrites.{put}
 use Rattle.passes.specs.Known.{Table, Known}
 use Rattle.moves.specs.declared.Judgement.{Judgement}
-use Rattle.moves.specs.declared.Judgement.the-variants.{Allowed, Absent, Differs, Apart, Held, Looser, Unripe, Early, Stuck, Large}
+use Rattle.moves.specs.declared.Judgement.the-variants.{Allowed, Unread, Absent, Differs, Apart, Held, Looser, Unripe, Early, Stuck, Large}
 use Rattle.moves.specs.declared.Plan.{Plan}
 use Rattle.moves.specs.Plans.{resultOf, limited, Planned, Asks, Gives}
 use Rattle.tables.specs.declared.Reply.{Reply}
@@ -46,6 +46,7 @@ answer-allowed (Allowed n) room e = (n, refl, ltb-false room (16 * n) (go (ltb r
     go : (b : Bool) → ltb room (16 * n) ≡ b → b ≡ false
     go true q = absurd (let z = rw q at e in omega arith)
     go false q = refl
+answer-allowed Unread room e = absurd (omega arith)
 answer-allowed (Absent p) room e = absurd (omega arith)
 answer-allowed (Differs p) room e = absurd (omega arith)
 answer-allowed (Apart p) room e = absurd (omega arith)
@@ -109,10 +110,8 @@ module _ {m : Result Term} {place : ℕ} {plan : Plan} (planned : Planned m plac
 
 -- what writing asks, by the plan for the table's one term
 module _ {m : Term → Result Term} {place : Term → ℕ} {s ends : List ℕ} {plan : Plan} (k : Known s ends) (planned : (t : Term) → Table s ends t → Planned (m t) (place t) plan) where
-  pub asks-from : (from : ℕ) → ((u : Term) → m (k .term) ≡ accept u → from ≡ place (k .term)) → (out : List ℕ) (r : Reply) → r ≡ replyIn (length out) (resultOf (plan .judgement)) → r .answer ≡ 0 → Asks m place s ends from out
-  asks-from from is out r e z =
-      let f = plan-fits (planned (k .term) (k .table)) out r e z in
-      record { known = k; successor = f .successor; accepted = f .accepted; place-is = is (f .successor) (f .accepted); room = f .fits }
-
   pub asks : (out : List ℕ) (r : Reply) → r ≡ replyIn (length out) (resultOf (plan .judgement)) → r .answer ≡ 0 → Asks m place s ends (plan .from) out
-  asks = asks-from (plan .from) (planned (k .term) (k .table) .place-is)
+  asks out r e z =
+      let p = planned (k .term) (k .table) in
+      let f = plan-fits p out r e z in
+      record { known = k; successor = f .successor; accepted = f .accepted; place-is = p .place-is (f .successor) (f .accepted); room = f .fits }

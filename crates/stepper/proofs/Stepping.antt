@@ -19,25 +19,27 @@ use Rattle.cows.proofs.Format.{length-encode}
 use Rattle.cows.proofs.Tables.{judge-encode, judge-within}
 use Rattle.cows.proofs.Step.{Numbered, step-numbered}
 use Rattle.passes.specs.Known.{Table, Known}
+use Rattle.moves.specs.declared.Move.{Move}
+use Rattle.moves.specs.Proposed.{moveOf, proposed}
 use Rattle.tables.specs.declared.Reply.{Reply}
 use Rattle.tables.specs.Verdict.{checkReply, Checked}
 use Rattle.stepper.specs.Replies.{replyOf, refusal, finished, Answers, Moved, Stepped}
 
--- 10: no move is read
-pub none-read : (t : Term) (m out : List ℕ) (r : Reply) → none ≡ readMove m → r ≡ refusal 10 0 → Answers (stepTerm t m (length out)) out out r
-unfolding stepTerm allowed need _>>=_ reply written
-none-read t m out r e h = rw (← e, h) (record { replies = refl; output = refl })
-
--- a move that is read
-step-read : (t : Term) (m : List ℕ) (room : ℕ) (v : moves.Move) → some v ≡ readMove m → finished room (moves.successor t v) ≡ stepTerm t m room
+-- the move that is read, or none, and the limits behind it
+step-read : (t : Term) (m : List ℕ) (room : ℕ) (v : Move) → moveOf v ≡ readMove m → finished room (proposed v t) ≡ stepTerm t m room
 unfolding stepTerm allowed finished need _>>=_ _>>_ forbid placeIf
-step-read t m room v e = rw (← e) (go (moves.successor t v))
+step-read t m room v e = rw (← e) (read (moveOf v))
   where
     go : (x : Result Term) → finished room x ≡ ((x >>= (λ s. forbid 20 (placeIf (overLimits s) 0) >> accept s)) >>= (λ s. forbid 21 (placeIf (ltb room (16 * size s)) 0) >> accept s))
     go (refuse n p) = refl
     go (accept s) = bool-case _ (overLimits s) (λ q. rw q) (λ q. rw q)
 
-pub move-read : (t : Term) (m out after : List ℕ) (r : Reply) (v : moves.Move) → some v ≡ readMove m → Moved (moves.successor t v) out after r → Answers (stepTerm t m (length out)) out after r
+    read : (o : Option moves.Move) → finished room (need 10 0 o >>= moves.successor t)
+        ≡ ((need 10 0 o >>= (λ w. moves.successor t w >>= (λ s. forbid 20 (placeIf (overLimits s) 0) >> accept s))) >>= (λ s. forbid 21 (placeIf (ltb room (16 * size s)) 0) >> accept s))
+    read none = refl
+    read (some w) = go (moves.successor t w)
+
+pub move-read : (t : Term) (m out after : List ℕ) (r : Reply) (v : Move) → moveOf v ≡ readMove m → Moved (proposed v t) out after r → Answers (stepTerm t m (length out)) out after r
 move-read t m out after r v e h = rw (← step-read t m (length out) v e) h
 
 -- 1 to 7: a refused table

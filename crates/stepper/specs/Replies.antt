@@ -1,29 +1,15 @@
--- What a step answers and leaves in the output: document 01's reply as the code has it, the moves as the code reads them, and the limits behind a move.
+-- What a step answers and leaves in the output: document 01's reply as the code has it, and the limits behind a move.
 use mathlib.Core.Path.{_≡_}
 use mathlib.Core.Bool.{cond}
 use mathlib.Core.List.{List}
-use mathlib.Core.Option.{Option, none, some}
 use Prim.Native.Nat.{ℕ, _*_}
 use lib.Dec.{ltb}
 use lib.ListN.{length}
 use Rattle.cows.specs.Basics.{placeIf, Result, refuse, accept, _>>=_, _>>_, forbid}
 use Rattle.cows.specs.Terms.{Term, size}
-use Rattle.cows.specs.Moves as moves
 use Rattle.cows.specs.Step.{overLimits, reply, written, stepReply, stepOutput}
 use Rattle.cows.specs.Step as meaning
 use Rattle.tables.specs.declared.Reply.{Reply}
-use Rattle.stepper.specs.declared.Move.{Move}
-use Rattle.stepper.specs.declared.Move.the-variants.{Kill, Communicate, Timeout, Elapse, Unfold, Extrude, None}
-
--- the move that the code has read, if it is one
-abbrev pub moveOf : Move → Option moves.Move
-moveOf (Kill a) = some (moves.Kill a)
-moveOf (Communicate a b) = some (moves.Communicate a b)
-moveOf (Timeout a) = some (moves.Timeout a)
-moveOf (Elapse d) = some (moves.Elapse d)
-moveOf (Unfold a) = some (moves.Unfold a)
-moveOf (Extrude a) = some (moves.Extrude a)
-moveOf None = none
 
 -- a reply, as the code has it
 abbrev pub replyOf : meaning.Reply → Reply

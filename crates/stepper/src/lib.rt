@@ -1,5 +1,5 @@
 // Stepper: one move on a table, any bytes for both: the reply, and the successor in the output.
-mod moving;
+mod answering;
 pub mod reading;
 
 use tables::Reply;
@@ -10,32 +10,19 @@ ghost use Rattle.passes.specs.Known.{Table, Known};
 ghost use Rattle.stepper.specs.Replies.{Answers, Stepped};
 ghost use Rattle.stepper.specs.Demand.{Demand2};
 
-// A move as it is read off its six bytes.
-pub enum Move {
-    Kill(usize),
-    Communicate(usize, usize),
-    Timeout(usize),
-    Elapse(u16),
-    Unfold(usize),
-    Extrude(usize),
-    None,
-}
-
-// A move on a known table: refusals 10 to 21.
+// A move on a known table: it is judged, and its successor is written if it is allowed and fits. Refusals 10 to 21.
 pub fn step_known(s: &[u8], ends: &[u16], m: &[u8], out: &mut [u8]) -> Reply
     requires { ⌜ Known (now s) (now ends) ⌝ }
     ensures { λ r. ⌜ ((t : Term) → Table (now (s .entry)) (now (ends .entry)) t → Answers (stepTerm t (now (m .entry)) (length (now (out .entry)))) (now (out .entry)) (now (out .exit)) r) ⌝ }
 {
     let read = reading::read_move(m);
-    match read {
-        Move::Kill(a) => moving::kill(s, ends, a, out),
-        Move::Communicate(a, b) => moving::communicate(s, ends, a, b, out),
-        Move::Timeout(a) => moving::timeout(s, ends, a, out),
-        Move::Elapse(d) => moving::elapse(s, ends, d, out),
-        Move::Unfold(a) => moving::unfold(s, ends, a, out),
-        Move::Extrude(a) => moving::extrude(s, ends, a, out),
-        Move::None => moving::refused(10, 0),
+    let plan = moves::judge(s, ends, read);
+    let judgement = plan.judgement;
+    let reply = answering::answer(judgement, out.len());
+    if reply.answer == 0 {
+        moves::write(s, ends, read, plan.from, out);
     }
+    reply
 }
 
 // One move on a table: 0, 0 and the records of the successor, which the output then begins with, or the refusal of 1 to 21, its place and 0. Reply and every

@@ -1,10 +1,10 @@
 // The six bytes of a move: kind, a zero byte, number a, number b, which only a communication uses.
-use crate::Move;
+use moves::Move;
 use records::wide16;
 use records::word_at;
 ghost use mathlib.Core.Path.{_≡_};
 ghost use Rattle.cows.specs.Step.{rightMove, readMove};
-ghost use Rattle.stepper.specs.Replies.{moveOf};
+ghost use Rattle.moves.specs.Proposed.{moveOf};
 
 // Whether the bytes have the form of a move, whatever its kind.
 fn right_move(m: &[u8]) -> bool

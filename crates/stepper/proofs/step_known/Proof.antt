@@ -1,54 +1,26 @@
 use borrow.Author.Needs.{needs}
-use mathlib.Core.Path.{sym, ap, _∙_}
-use Rattle.cows.specs.Moves.{successor}
-use Rattle.stepper.specs.Replies.{moveOf}
-use Rattle.stepper.proofs.Stepping.{none-read, move-read}
+use Rattle.stepper.proofs.Moved.{moved-written, moved-refused, asks}
+use Rattle.stepper.proofs.Stepping.{move-read}
 use Rattle.stepper.proofs.step_known.Statement.{statement}
 use Rattle.stepper.proofs.step_known.Tie as tie
 
 pub step-known-spec : {M : Type 1} → statement M
-unfolding successor
 step-known-spec =
     tie.close
     (tie.spec
     (λ c κs. search needs)
-    (λ c. search needs)
     (λ c κs. search needs)
-    (λ c. search needs)
     (λ c κs. search needs)
+    (λ c κs. let a = c .before .before .before in
+    let j = a .before in
+    asks (j .before .before .before .before .before .before .pre) (j .judge .ensures) _ _ (a .answer .ensures) (c .before .if1 .taken))
     (λ c. search needs)
-    (λ c κs. search needs)
-    (λ c. search needs)
-    (λ c κs. search needs)
-    (λ c. search needs)
-    (λ c κs. search needs)
-    (λ c. search needs)
-    (λ c κs. search needs)
-    (λ c. search needs)
-    (λ c κs. search needs)
-    (λ c. search needs)
-    (λ c t h. let k = c .before .before in
-    let q = k .before .before .before in
-    move-read t _ _ _ _ _ (ap moveOf (sym (q .read .given .1)) ∙ q .before .before .read-move .ensures) (k .kill .ensures t h))
-    (λ c. search needs)
-    (λ c t h. let k = c .before .before in
-    let q = k .before .before .before in
-    move-read t _ _ _ _ _ (ap moveOf (sym (q .read2 .given .1)) ∙ q .before .before .read-move .ensures) (k .communicate .ensures t h))
-    (λ c. search needs)
-    (λ c t h. let k = c .before .before in
-    let q = k .before .before .before in
-    move-read t _ _ _ _ _ (ap moveOf (sym (q .read3 .given .1)) ∙ q .before .before .read-move .ensures) (k .timeout .ensures t h))
-    (λ c. search needs)
-    (λ c t h. let k = c .before .before in
-    let q = k .before .before .before in
-    move-read t _ _ _ _ _ (ap moveOf (sym (q .read4 .given .1)) ∙ q .before .before .read-move .ensures) (k .elapse .ensures t h))
-    (λ c. search needs)
-    (λ c t h. let k = c .before .before in
-    let q = k .before .before .before in
-    move-read t _ _ _ _ _ (ap moveOf (sym (q .read5 .given .1)) ∙ q .before .before .read-move .ensures) (k .«unfold» .ensures t h))
-    (λ c. search needs)
-    (λ c t h. let k = c .before .before in
-    let q = k .before .before .before in
-    move-read t _ _ _ _ _ (ap moveOf (sym (q .read6 .given .1)) ∙ q .before .before .read-move .ensures) (k .extrude .ensures t h))
-    (λ c t h. none-read t _ _ _ (ap moveOf (sym (c .before .enum-told .given .1)) ∙ c .before .before .before .read-move .ensures) (c .refused .ensures))
-    )
+    (λ c t h. let w = c .before .before in
+    let i = w .before .before in
+    let a = i .before .before in
+    let j = a .before in
+    move-read t _ _ _ _ (j .before .read-move .result) (j .before .read-move .ensures)
+    (moved-written (j .judge .ensures t h) _ _ (a .answer .ensures) (i .if1 .taken) _ (λ u e. w .write .ensures t u h e)))
+    (λ c t h. let a = c .before .before in
+    let j = a .before in
+    move-read t _ _ _ _ (j .before .read-move .result) (j .before .read-move .ensures) (moved-refused (j .judge .ensures t h) _ _ (a .answer .ensures) (c .if1 .left))))

@@ -2,8 +2,8 @@ use borrow.Author.Needs.{needs}
 use mathlib.Core.Path.{_∙_}
 use native.Mathlib.Omega.{arith}
 use Rattle.stepper.proofs.Moved.{fitting-not, fitting-so}
-use Rattle.stepper.proofs.moving.fitting.Statement.{statement}
-use Rattle.stepper.proofs.moving.fitting.Tie as tie
+use Rattle.stepper.proofs.answering.fitting.Statement.{statement}
+use Rattle.stepper.proofs.answering.fitting.Tie as tie
 
 pub fitting-spec : {M : Type 1} → statement M
 fitting-spec =

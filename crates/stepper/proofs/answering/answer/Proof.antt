@@ -1,6 +1,6 @@
 use borrow.Author.Needs.{needs}
-use Rattle.stepper.proofs.moving.answer.Statement.{statement}
-use Rattle.stepper.proofs.moving.answer.Tie as tie
+use Rattle.stepper.proofs.answering.answer.Statement.{statement}
+use Rattle.stepper.proofs.answering.answer.Tie as tie
 
 pub answer-spec : {M : Type 1} → statement M
 answer-spec =
@@ -26,6 +26,9 @@ answer-spec =
     (λ c κs. search needs)
     (λ c. search needs)
     (λ c κs. search needs)
+    (λ c. search needs)
+    (λ c κs. search needs)
+    (λ c. cc)
     (λ c. cc)
     (λ c. cc)
     (λ c. cc)
