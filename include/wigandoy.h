@@ -47,8 +47,34 @@
 extern "C" {
 #endif
 
+/* The kinds of records, and of moves. */
+enum {
+    WIGANDOY_NIL, WIGANDOY_KILL, WIGANDOY_INVOKE, WIGANDOY_RECEIVE, WIGANDOY_WAIT, WIGANDOY_CHOICE,
+    WIGANDOY_PARALLEL, WIGANDOY_PROTECTION, WIGANDOY_DELIMITATION, WIGANDOY_REPLICATION
+};
+enum {
+    WIGANDOY_KILL_MOVE, WIGANDOY_COMMUNICATE, WIGANDOY_TIMEOUT, WIGANDOY_ELAPSE, WIGANDOY_UNFOLD, WIGANDOY_EXTRUDE
+};
+
+/* The answers, as numbered above. */
+enum {
+    WIGANDOY_ACCEPTED = 0,
+    WIGANDOY_BAD_LENGTH = 1, WIGANDOY_BAD_RECORD = 2, WIGANDOY_BAD_SHAPE = 3, WIGANDOY_TOO_DEEP = 4,
+    WIGANDOY_NO_GUARD = 5, WIGANDOY_OUT_OF_SCOPE = 6, WIGANDOY_CLASH = 7,
+    WIGANDOY_NO_MOVE = 10, WIGANDOY_ABSENT = 11, WIGANDOY_DIFFERS = 12, WIGANDOY_APART = 13, WIGANDOY_HELD_BACK = 14,
+    WIGANDOY_LOOSER = 15, WIGANDOY_UNRIPE = 16, WIGANDOY_TOO_EARLY = 17, WIGANDOY_STUCK = 18, WIGANDOY_LIST_TOO_LONG = 19,
+    WIGANDOY_TOO_LARGE = 20, WIGANDOY_NO_ROOM = 21
+};
+
 /* The bytes that the output of a play must hold. */
 #define WIGANDOY_OUTPUT 32768
+
+/* Threads: no function keeps anything between calls or allocates memory; calls may run side by side, as long as no buffer
+ * that one of them writes is used by another. All that a call needs is on the stack of its thread, at most so many bytes
+ * (measured by tests/c/stack.c, and rounded up): */
+#define WIGANDOY_STACK_CHECK 196608 /* check and load */
+#define WIGANDOY_STACK_STEP 262144
+#define WIGANDOY_STACK_PLAY 327680
 
 /* Whether bytes are a well-formed table: refusals 1 to 7, or 0 and its records. */
 uint64_t wigandoy_check(const uint8_t *table, size_t bytes);

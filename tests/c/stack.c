@@ -1,0 +1,157 @@
+/* How much stack the functions of the library take: each is called on a stack of its own that was painted before, on tables that take the longest ways
+ * (depth 256, 2,048 records, atoms far apart, every move), and the painted bytes that are left are counted. A function that takes more than the header
+ * says is a failure. */
+#include <stdio.h>
+#include <stdlib.h>
+#include <string.h>
+#include <ucontext.h>
+
+#include "wigandoy.h"
+
+enum { STACK = 4 << 20, PAINT = 0xa5 };
+
+static uint8_t *stack;
+static uint8_t table[32768], out[32768], replies[60000], moves[60000];
+static size_t bytes, list, above;
+
+/* A record at the end of the table. */
+static size_t put(int kind, unsigned first, unsigned second, unsigned slot, unsigned interval) {
+    uint8_t *r = table + bytes;
+    memset(r, 0, 16);
+    r[0] = (uint8_t)kind;
+    r[1] = slot != 0;
+    unsigned words[] = {first, second, slot};
+    for (int i = 0; i < 3; i++) {
+        r[2 + 2 * i] = (uint8_t)words[i];
+        r[3 + 2 * i] = (uint8_t)(words[i] >> 8);
+    }
+    r[14] = (uint8_t)interval;
+    r[15] = (uint8_t)(interval >> 8);
+    bytes += 16;
+    return bytes / 16 - 1;
+}
+
+static void propose(int kind, size_t a, size_t b) {
+    uint8_t m[] = {(uint8_t)kind, 0, (uint8_t)a, (uint8_t)(a >> 8), (uint8_t)b, (uint8_t)(b >> 8)};
+    memcpy(moves + list, m, 6);
+    list += 6;
+}
+
+/* Parallels nested to the left, waits and invokes on their right sides. */
+static void nest(int depth) {
+    for (int i = 0; i < depth; i++) put(WIGANDOY_PARALLEL, 0, 0, 0, 0);
+    put(WIGANDOY_WAIT, 0, 0, 0, 9);
+    put(WIGANDOY_NIL, 0, 0, 0, 0);
+    for (int i = 0; i < depth; i++) put(WIGANDOY_INVOKE, 1, 2, 5, 0);
+}
+
+/* [k](kill(k) | deep) beside a receive that meets an invoke, under time, with a kill at the end. */
+static void deep_night(void) {
+    bytes = list = 0;
+    put(WIGANDOY_PARALLEL, 0, 0, 0, 0);
+    put(WIGANDOY_DELIMITATION, 49152, 0, 0, 0);
+    put(WIGANDOY_PARALLEL, 0, 0, 0, 0);
+    size_t kill = put(WIGANDOY_KILL, 49152, 0, 0, 0);
+    nest(250);
+    put(WIGANDOY_DELIMITATION, 32768, 0, 0, 0);
+    put(WIGANDOY_PARALLEL, 0, 0, 0, 0);
+    size_t receive = put(WIGANDOY_RECEIVE, 3, 4, 32768, 0);
+    put(WIGANDOY_NIL, 0, 0, 0, 0);
+    size_t invoke = put(WIGANDOY_INVOKE, 3, 4, 6, 0);
+    propose(WIGANDOY_ELAPSE, 1, 0);
+    propose(WIGANDOY_COMMUNICATE, receive, invoke);
+    propose(WIGANDOY_KILL_MOVE, kill, 0);
+}
+
+/* Delimited values far apart, side by side. */
+static void scattered(unsigned from, unsigned to) {
+    for (unsigned i = from; i < to; i++) {
+        if (i + 1 < to) put(WIGANDOY_PARALLEL, 0, 0, 0, 0);
+        put(WIGANDOY_DELIMITATION, 40 + 80 * i, 0, 0, 0);
+        put(WIGANDOY_INVOKE, 40 + 80 * i, 2, 0, 0);
+    }
+}
+
+/* Delimitations of atoms far apart, in a replication that unfolds; a wait that runs out; a delimitation that floats up. */
+static void wide_night(void) {
+    bytes = list = 0;
+    put(WIGANDOY_PARALLEL, 0, 0, 0, 0);
+    size_t replication = put(WIGANDOY_REPLICATION, 0, 0, 0, 0);
+    put(WIGANDOY_PARALLEL, 0, 0, 0, 0);
+    scattered(0, 150);
+    scattered(150, 300);
+    put(WIGANDOY_PROTECTION, 0, 0, 0, 0);
+    above = put(WIGANDOY_DELIMITATION, 40000, 0, 0, 0);
+    put(WIGANDOY_CHOICE, 0, 0, 0, 0);
+    size_t wait = put(WIGANDOY_WAIT, 0, 0, 0, 0);
+    put(WIGANDOY_NIL, 0, 0, 0, 0);
+    put(WIGANDOY_NIL, 0, 0, 0, 0);
+    propose(WIGANDOY_EXTRUDE, above, 0);
+    propose(WIGANDOY_TIMEOUT, wait, 0);
+    propose(WIGANDOY_UNFOLD, replication, 0);
+}
+
+static uint64_t reply;
+static uint8_t *move_at;
+static uint32_t tally[4];
+static ucontext_t back, there;
+
+static void call_check(void) { reply = wigandoy_check(table, bytes); }
+static void call_load(void) { reply = wigandoy_load(table, bytes); }
+static void call_step(void) { reply = wigandoy_step(table, bytes, move_at, 6, out, sizeof out); }
+static void call_play(void) { reply = wigandoy_play(table, bytes, moves, list, out, sizeof out, replies, sizeof replies, tally); }
+
+/* The bytes of stack that a call takes. */
+static size_t taken(void (*call)(void)) {
+    memset(stack, PAINT, STACK);
+    getcontext(&there);
+    there.uc_stack.ss_sp = stack;
+    there.uc_stack.ss_size = STACK;
+    there.uc_link = &back;
+    makecontext(&there, call, 0);
+    swapcontext(&back, &there);
+    size_t free = 0;
+    while (free < STACK && stack[free] == PAINT) free++;
+    return STACK - free;
+}
+
+static size_t most(size_t a, size_t b) { return a < b ? b : a; }
+
+/* The wide night's table, with an atom that is delimited twice. */
+static void clash(void) {
+    table[16 * above + 2] = 40;
+    table[16 * above + 3] = 0;
+}
+
+static size_t check, load, step, play;
+
+/* Every function on a table and its list; whether check and each step have the answer. */
+static int measured(unsigned answer) {
+    int right = 1;
+    check = most(check, taken(call_check));
+    right &= wigandoy_answer(reply) == answer;
+    load = most(load, taken(call_load));
+    for (move_at = moves; move_at < moves + list; move_at += 6) {
+        step = most(step, taken(call_step));
+        right &= wigandoy_answer(reply) == answer;
+    }
+    play = most(play, taken(call_play));
+    return right;
+}
+
+int main(void) {
+    stack = malloc(STACK);
+    if (stack == NULL) return 1;
+    deep_night();
+    int right = measured(WIGANDOY_ACCEPTED);
+    wide_night();
+    right &= measured(WIGANDOY_ACCEPTED);
+    clash();
+    right &= measured(WIGANDOY_CLASH);
+    if (!right) {
+        printf("stack: a table or a move has another answer than this program is made for\n");
+        return 1;
+    }
+    printf("stack: check %zu, load %zu, step %zu, play %zu bytes\n", check, load, step, play);
+    return check > WIGANDOY_STACK_CHECK || load > WIGANDOY_STACK_CHECK || step > WIGANDOY_STACK_STEP || play > WIGANDOY_STACK_PLAY;
+}
