@@ -1,4 +1,4 @@
--- Laws of the moves as they are read (specs/Proposed): what is planned, asked and given of a move holds of the same move by another name.
+-- Laws of the moves as they are read (specs/Proposals): what is planned, asked and given of a move holds of the same move by another name.
 use mathlib.Core.Path.{_≡_, refl, sym, subst, ap, _∙_}
 use mathlib.Core.List.{List}
 use Prim.Native.Nat.{ℕ}
@@ -12,7 +12,7 @@ use Rattle.moves.specs.declared.Move.the-variants.{None}
 use Rattle.moves.specs.declared.Judgement.the-variants.{Unread}
 use Rattle.moves.specs.declared.Plan.{Plan}
 use Rattle.moves.specs.Plans.{resultOf, Planned, Asks, Gives}
-use Rattle.moves.specs.Proposed.{proposed, placeIn}
+use Rattle.moves.specs.Proposals.{proposed, placeIn}
 use Rattle.moves.proofs.Planning.{planned-refused}
 
 module _ {m v : Move} (same : m ≡ v) where

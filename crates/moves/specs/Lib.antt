@@ -5,4 +5,4 @@ pub mod Binding
 pub mod Killing
 pub mod Meeting
 pub mod Replacing
-pub mod Proposed
+pub mod Proposals

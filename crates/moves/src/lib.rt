@@ -11,7 +11,7 @@ ghost use mathlib.Core.Path.{_≡_};
 ghost use Rattle.cows.specs.Terms.{Term};
 ghost use Rattle.passes.specs.Known.{Table, Known};
 ghost use Rattle.moves.specs.Plans.{Planned, Asks, Gives};
-ghost use Rattle.moves.specs.Proposed.{proposed, placeIn};
+ghost use Rattle.moves.specs.Proposals.{proposed, placeIn};
 
 // A move as it is read off its six bytes, or none.
 pub enum Move {

@@ -20,7 +20,7 @@ use Rattle.cows.proofs.Tables.{judge-encode, judge-within}
 use Rattle.cows.proofs.Step.{Numbered, step-numbered}
 use Rattle.passes.specs.Known.{Table, Known}
 use Rattle.moves.specs.declared.Move.{Move}
-use Rattle.moves.specs.Proposed.{moveOf, proposed}
+use Rattle.moves.specs.Proposals.{moveOf, proposed}
 use Rattle.tables.specs.declared.Reply.{Reply}
 use Rattle.tables.specs.Verdict.{checkReply, Checked}
 use Rattle.stepper.specs.Replies.{replyOf, refusal, finished, Answers, Moved, Stepped}

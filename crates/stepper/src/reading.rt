@@ -4,7 +4,7 @@ use records::wide16;
 use records::word_at;
 ghost use mathlib.Core.Path.{_≡_};
 ghost use Rattle.cows.specs.Step.{rightMove, readMove};
-ghost use Rattle.moves.specs.Proposed.{moveOf};
+ghost use Rattle.moves.specs.Proposals.{moveOf};
 
 // Whether the bytes have the form of a move, whatever its kind.
 fn right_move(m: &[u8]) -> bool
