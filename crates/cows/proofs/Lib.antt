@@ -12,6 +12,8 @@ pub mod Stands
 pub mod Reach
 pub mod Ways
 pub mod Scans
+pub mod Contexts
+pub mod Recordwise
 pub mod Meeting
 pub mod Scopes
 pub mod Atoms
@@ -22,6 +24,7 @@ pub mod Mapping
 pub mod Binding
 pub mod Unfolding
 pub mod Preserving
+pub mod Instances
 pub mod Allows
 pub mod Corollaries
 pub mod Steps

@@ -5,6 +5,7 @@ pub mod Format
 pub mod Tables
 pub mod Within
 pub mod Active
+pub mod Proposed
 pub mod Moves
 pub mod Allows
 pub mod Step

@@ -10,6 +10,7 @@ use Rattle.cows.specs.Basics.{any, every, member, holds, found, placeIf,
 use Rattle.cows.specs.Terms.{Basic, nil, kill, invoke, Prefix, receive, wait, protection, delimitation, replication, Join, choice, parallel, Term, leaf, under, both, Ends, value, variable, label, atoms, binders, kills, invokes, prefixed, receives, waits, delimits, replicates, delimitsAtom, delimitsAt, below}
 use Rattle.cows.specs.Places.{Frame, inside, leftOf, rightOf, plug, Way, fill, Spot, wayTo, sub, first, encloses, frameDelimits, enclosed, frameChooses}
 use Rattle.cows.specs.Active.{passesLive, live, ready, wanted}
+pub use Rattle.cows.specs.Proposed.{Substitution, Move, Kill, Communicate, Timeout, Elapse, Unfold, Extrude}
 
 -- Kill. Halting (001) makes nil of kills, invokes and whole choices, receives and waits; it goes down both sides of a parallel,
 -- through each delimitation and each replication, and keeps a protection whole.
@@ -51,11 +52,7 @@ killAt t a = do
   k ← wanted kills t a
   accept (afterKill k t a)
 
--- Communicate. A substitution is pairs of a variable and the value that it takes.
-abbrev pub Substitution : Type 0
-Substitution = List (ℕ × ℕ)
-
--- What matching says: the tuples match and bind these variables, or something differs.
+-- Communicate. What matching says: the tuples match and bind these variables, or something differs.
 pub data Matching : Type 0 where
   binds : Substitution → Matching
   differs : Matching
@@ -253,15 +250,7 @@ extrudeAt t a = do
   forbid 18 (placeIf (label d || not (fitting (wayTo t a))) a)
   accept (afterExtrude d t a)
 
--- The moves, and the successor that a move gives, or its refusal.
-pub data Move : Type 0 where
-  Kill : ℕ → Move
-  Communicate : ℕ → ℕ → Move
-  Timeout : ℕ → Move
-  Elapse : ℕ → Move
-  Unfold : ℕ → Move
-  Extrude : ℕ → Move
-
+-- The successor that a move gives, or its refusal.
 unfoldable pub successor : Term → Move → Result Term
 successor t (Kill a) = killAt t a
 successor t (Communicate a b) = communicateAt t a b
