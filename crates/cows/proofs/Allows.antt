@@ -47,15 +47,15 @@ kill-once t s a k v w h q e =
     let whole : t ≡ fill w (under (delimitation k) (fill v s)) = sym (fill-spot t a) ∙ (ap (fill (wayTo t a)) q ∙ fill-cut k v w (wayTo t a) e s) in
     not-so (λ n. omega (arith, h .formed .unique k, ap (counts k) whole, counts-fill w (under (delimitation k) (fill v s)) k, ap one (eq-eqb k k refl), counts-enclosed v s k n))
 
-kill-leaves : (t : Term) (a k : ℕ) (v u w : Way) → wayTo t a ≡ v ++ (inside (delimitation k) ∷ w) → enclosed k v ≡ false → Ended v u
+kill-after : (t : Term) (a k : ℕ) (v u w : Way) → wayTo t a ≡ v ++ (inside (delimitation k) ∷ w) → enclosed k v ≡ false → Ended v u
     → afterKill k t a ≡ fill w (under (delimitation k) (fill u (leaf nil)))
 unfolding afterKill
-kill-leaves t a k v u w e n h =
+kill-after t a k v u w e n h =
     ap (λ z. fill (haltInside k z) (leaf nil)) e ∙ (ap (λ z. fill z (leaf nil)) (halt-cut k v w n)
     ∙ (fill-cut k (map haltBeside v) w _ refl (leaf nil) ∙ ap (λ z. fill w (under (delimitation k) (fill z (leaf nil)))) (sym (ended-halts h))))
 
 -- a kill stands inside the [k] of its label, and in no choice
-pub kill-enclosed : (t : Term) (a k : ℕ) → Within t → Stands t a (leaf (kill k)) → enclosed k (wayTo t a) ≡ true
+kill-enclosed : (t : Term) (a k : ℕ) → Within t → Stands t a (leaf (kill k)) → enclosed k (wayTo t a) ≡ true
 unfolding uses usesBasic
 kill-enclosed t a k w h =
     rw (h .stands) at (scoped-at (λ c. variable c || label c) t a (w .formed .closed)) .0
@@ -66,12 +66,23 @@ unfolding guard
 kill-unchosen t a k w l =
     unchosen (wayTo t a) (leaf (kill k)) refl (l .live) (subst Guarded (sym (ap (fill (wayTo t a)) (sym (l .at .stands)) ∙ fill-spot t a)) (w .formed .guarded))
 
+-- what a live kill of k leaves: the way to it is v inside its [k] and w outside, and v becomes u
+abbrev pub KillLeaves : Term → ℕ → ℕ → Term → Type 0
+KillLeaves t a k s =
+    (v : Way) × (u : Way) × (w : Way) × (wayTo t a ≡ v ++ (inside (delimitation k) ∷ w)) × (enclosed k v ≡ false) × Ended v u
+    × (s ≡ fill w (under (delimitation k) (fill u (leaf nil))))
+
+pub kill-leaves : (t : Term) (a k : ℕ) → Within t → Live t a (leaf (kill k)) → KillLeaves t a k (afterKill k t a)
+kill-leaves t a k h l =
+    let (v, w, c, n) = nearest k (wayTo t a) (kill-enclosed t a k h (l .at)) in
+    let d = halts-ended v (or-false (any frameChooses v) _ (rw (c, any-append) at (kill-unchosen t a k h l)) .0) in
+    (v, map haltBeside v, w, c, n, d, kill-after t a k v _ w c n d)
+
 kill-allows : (t s : Term) (a : ℕ) → Within t → killAt t a ≡ accept s → Allows t (Kill a) s
 kill-allows t s a h e =
     let (k, l, q) = kill-fires t s a e in
-    let (v, w, c, n) = nearest k (wayTo t a) (kill-enclosed t a k h (l .at)) in
-    let d = halts-ended v (or-false (any frameChooses v) _ (rw (c, any-append) at (kill-unchosen t a k h l)) .0) in
-    subst (Allows t (Kill a)) (sym (kill-leaves t a k v _ w c n d) ∙ q) (by-kill a k v _ w l c d)
+    let (v, u, w, c, n, d, z) = kill-leaves t a k h l in
+    subst (Allows t (Kill a)) (sym z ∙ q) (by-kill a k v u w l c d)
 
 allows-kill : (t : Term) (a k : ℕ) → Live t a (leaf (kill k)) → killAt t a ≡ accept (afterKill k t a)
 unfolding killAt _>>=_ kills
@@ -293,7 +304,7 @@ successor-allows t s (Extrude a) w e = extrude-allows t s a e
 
 pub allows-successor : (t s : Term) (m : Move) → Within t → Allows t m s → successor t m ≡ accept s
 unfolding successor
-allows-successor t s m w (by-kill a k v u z l e h) = allows-kill t a k l ∙ ap accept (kill-leaves t a k v u z e (kill-once t _ a k v z w (l .at .stands) e) h)
+allows-successor t s m w (by-kill a k v u z l e h) = allows-kill t a k l ∙ ap accept (kill-after t a k v u z e (kill-once t _ a k v z w (l .at .stands) e) h)
 allows-successor t s m w (by-communicate a b σ r q h x i) = allows-communicate t q a b σ r w h x i
 allows-successor t s m w (by-timeout a r c z l q h) = allows-timeout t a r c z l q h
 allows-successor t s m w (by-elapse d q h k e) = allows-elapse t q d h k e

@@ -10,49 +10,23 @@ use lib.Dec.{ltb, eqb}
 use lib.ListN.{length, length-append}
 use borrow.Author.Tests.{eqb-true, eq-eqb}
 use Rattle.cows.specs.Basics.{any, every, holds}
-use Rattle.cows.specs.Terms.{Basic, nil, kill, invoke, Prefix, receive, wait, protection, delimitation, replication, Join, choice, parallel, Term, leaf, under, both, size, delimits, delimitsAtom, below, guard}
+use Rattle.cows.specs.Terms.{Basic, nil, Prefix, receive, wait, protection, delimitation, replication, Join, choice, parallel, Term, leaf, under, both, size, delimits, delimitsAtom, below, guard}
 use Rattle.cows.specs.Places.{Frame, inside, leftOf, rightOf, plug, Way, fill, Spot, descend, spot, wayTo, sub, frameDelimits, enclosed, frameChooses}
 use Rattle.cows.specs.Format.{prefix, join, nodes}
 use Rattle.cows.specs.Active.{passesLive, onPrefix, live}
 use Rattle.cows.specs.Within.{Guarded, counts}
-use Rattle.cows.specs.Moves.{haltUnder, haltBoth, halt, haltBeside, haltInside, silence, aroundChoice, continue}
-use Rattle.cows.specs.Allows.{Live, Halted, nil-nil, kill-nil, invoke-nil, receive-nil, wait-nil, choice-nil, both-sides, through-delimitation, through-replication, keeps-protection, Ended, at-kill, halts-right, halts-left, passes, Choices, no-choice, left-choice, right-choice, Whole, Choice, Exchanged, receive-left, receive-right}
+use Rattle.cows.specs.Moves.{haltBeside, haltInside, silence, aroundChoice, continue}
+use Rattle.cows.specs.Allows.{Live, Ended, at-kill, halts-right, halts-left, passes, Choices, no-choice, left-choice, right-choice, Whole, Choice, Exchanged, receive-left, receive-right}
 use Rattle.cows.proofs.Basics.{never, clash, cond-case, or-false, and-none, holds-some, or-second, every-append, any-append}
 use Rattle.cows.proofs.Places.{size-pos, fill-spot, fill-append, descend-way, descend-first, At, spot-under, spot-left, spot-right}
 use Rattle.cows.proofs.Format.{length-nodes}
+use Rattle.cows.proofs.Halting.{halt-halted, halted-halt}
 use Rattle.cows.proofs.Ways.{opens, ahead, length-ahead, size-swap}
 use Rattle.cows.proofs.Scopes.{counts-enclosed}
 use Rattle.cows.proofs.Stands.{delimits-is}
 
 zero-one : {A : Type 0} → _≡_ {A = ℕ} 0 1 → A
 zero-one e = absurd (omega arith)
-
--- halting
-halt-halted : (t : Term) → Halted t (halt t)
-unfolding halt haltUnder haltBoth
-halt-halted (leaf nil) = nil-nil
-halt-halted (leaf (kill k)) = kill-nil
-halt-halted (leaf (invoke p o ws)) = invoke-nil
-halt-halted (under (receive p o ws) t) = receive-nil
-halt-halted (under (wait n) t) = wait-nil
-halt-halted (under protection t) = keeps-protection
-halt-halted (under (delimitation d) t) = through-delimitation (halt-halted t)
-halt-halted (under replication t) = through-replication (halt-halted t)
-halt-halted (both choice s t) = choice-nil
-halt-halted (both parallel s t) = both-sides (halt-halted s) (halt-halted t)
-
-halted-halt : {t s : Term} → Halted t s → s ≡ halt t
-unfolding halt haltUnder haltBoth
-halted-halt nil-nil = refl
-halted-halt kill-nil = refl
-halted-halt invoke-nil = refl
-halted-halt receive-nil = refl
-halted-halt wait-nil = refl
-halted-halt choice-nil = refl
-halted-halt (both-sides h k) = cc (halted-halt h, halted-halt k)
-halted-halt (through-delimitation h) = cc (halted-halt h)
-halted-halt (through-replication h) = cc (halted-halt h)
-halted-halt keeps-protection = refl
 
 -- the way from [k] to its kill
 pub halts-ended : (v : Way) → any frameChooses v ≡ false → Ended v (map haltBeside v)

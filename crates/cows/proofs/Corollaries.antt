@@ -2,19 +2,19 @@
 -- and a kill spares, inside its scope, only what halting keeps.
 use mathlib.Core.Path.{_≡_, sym, ap, _∙_}
 use mathlib.Core.Bool.{false}
-use mathlib.Core.List.{List, _∷_, _++_, map}
+use mathlib.Core.List.{List, _∷_, _++_}
 use Prim.Native.Nat.{ℕ}
 use lib.ListN.{length}
 use Rattle.cows.specs.Basics.{accept}
 use Rattle.cows.specs.Terms.{nil, kill, invoke, receive, delimitation, Term, leaf, under}
 use Rattle.cows.specs.Places.{inside, Way, fill, wayTo, sub, enclosed}
 use Rattle.cows.specs.Within.{Within}
-use Rattle.cows.specs.Moves.{Substitution, haltBeside, haltInside, afterKill, Kill, Communicate, successor}
-use Rattle.cows.specs.Allows.{Stands, Meets, Matches, Unheld, Tightest}
+use Rattle.cows.specs.Moves.{Substitution, afterKill, Kill, Communicate, successor}
+use Rattle.cows.specs.Allows.{Stands, Meets, Matches, Unheld, Tightest, Ended}
 use Rattle.cows.proofs.Places.{fill-spot}
 use Rattle.cows.proofs.Meeting.{matches-unique}
-use Rattle.cows.proofs.Contexts.{halt-cut, nearest, fill-cut}
-use Rattle.cows.proofs.Allows.{kill-fires, kill-enclosed, communicate-meets}
+use Rattle.cows.proofs.Contexts.{fill-cut}
+use Rattle.cows.proofs.Allows.{kill-fires, kill-leaves, communicate-meets}
 
 -- No [k] around either party of an accepted meeting holds a ready kill of k.
 pub meeting-unheld : (t s : Term) (a b : ℕ) → Within t → successor t (Communicate a b) ≡ accept s → Unheld t a × Unheld t b
@@ -42,16 +42,15 @@ meeting-tightest t s a b p o ws vs r σ w e ra ib m =
     let (τ, h, q) = communicate-meets t s a b e in
     tightest-met t a b p o ws vs r σ τ h (ra .stands) (ib .stands) m
 
--- An accepted kill of k: the way to it is v inside its [k] and w outside. Outside nothing changes; inside, of what stands parallel to the kill only
--- what halting keeps is left, also where a protection on the way holds the kill.
+-- An accepted kill of k: the way to it is v inside its [k] and w outside. Outside nothing changes; inside, what stands parallel to the kill is halted, also
+-- where a protection on the way holds the kill.
 pub kill-spares : (t s : Term) (a k : ℕ) → Within t → successor t (Kill a) ≡ accept s → Stands t a (leaf (kill k))
-    → (v : Way) × (w : Way) × (wayTo t a ≡ v ++ (inside (delimitation k) ∷ w)) × (enclosed k v ≡ false)
-    × (t ≡ fill w (under (delimitation k) (fill v (leaf (kill k))))) × (s ≡ fill w (under (delimitation k) (fill (map haltBeside v) (leaf nil))))
-unfolding successor afterKill
+    → (v : Way) × (u : Way) × (w : Way) × (wayTo t a ≡ v ++ (inside (delimitation k) ∷ w)) × (enclosed k v ≡ false) × Ended v u
+    × (t ≡ fill w (under (delimitation k) (fill v (leaf (kill k))))) × (s ≡ fill w (under (delimitation k) (fill u (leaf nil))))
+unfolding successor
 kill-spares t s a k h e st =
     let (i, l, q) = kill-fires t s a e in
     let same : i ≡ k = cc (l .at .stands, st .stands) in
-    let (v, w, c, n) = nearest k (wayTo t a) (kill-enclosed t a k h st) in
+    let (v, u, w, c, n, d, z) = kill-leaves t a k h (rw same at l) in
     let before = sym (fill-spot t a) ∙ (ap (fill (wayTo t a)) (st .stands) ∙ fill-cut k v w _ c (leaf (kill k))) in
-    let after = sym q ∙ (ap (λ d. afterKill d t a) same ∙ fill-cut k (map haltBeside v) w (haltInside k (wayTo t a)) (ap (haltInside k) c ∙ halt-cut k v w n) (leaf nil)) in
-    (v, w, c, n, before, after)
+    (v, u, w, c, n, d, before, sym q ∙ (ap (λ j. afterKill j t a) same ∙ z))

@@ -12,6 +12,7 @@ pub mod Stands
 pub mod Reach
 pub mod Ways
 pub mod Scans
+pub mod Halting
 pub mod Contexts
 pub mod Recordwise
 pub mod Meeting

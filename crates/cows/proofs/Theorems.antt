@@ -2,7 +2,7 @@
 use mathlib.Core.Path.{_≡_, sym, ap, _∙_}
 use mathlib.Core.Logic.{_≢_, _↔_}
 use mathlib.Core.Bool.{false}
-use mathlib.Core.List.{List, _++_, _∷_, map}
+use mathlib.Core.List.{List, _++_, _∷_}
 use Prim.Native.Nat.{ℕ, _+_, _*_, _≤_}
 use native.Mathlib.Omega.{arith}
 use lib.Dec.{T}
@@ -13,8 +13,8 @@ use Rattle.cows.specs.Places.{inside, Way, fill, wayTo, sub, enclosed}
 use Rattle.cows.specs.Format.{Bytes, encode}
 use Rattle.cows.specs.Tables.{judge}
 use Rattle.cows.specs.Within.{Within}
-use Rattle.cows.specs.Moves.{halt, haltBeside, Substitution, silence, Move, Kill, Communicate, Timeout, Elapse, Unfold, Extrude, successor}
-use Rattle.cows.specs.Allows.{Stands, Matches, Unheld, Tightest, Allows}
+use Rattle.cows.specs.Moves.{halt, Substitution, silence, Move, Kill, Communicate, Timeout, Elapse, Unfold, Extrude, successor}
+use Rattle.cows.specs.Allows.{Stands, Matches, Unheld, Tightest, Ended, Allows}
 use Rattle.cows.specs.Step.{judgeStep, stepTerm, stepReply, stepOutput}
 use Rattle.cows.specs.Load.{load, shielded, endedBy, dropped, lost, spent, copies}
 use Rattle.cows.specs.Run.{Run, start, judgement, run, losses}
@@ -58,10 +58,10 @@ pub meeting-most-defined : (t s : Term) (a b p o : ℕ) (ws vs : List ℕ) (r : 
     → Stands t a (under (receive p o ws) r) → Stands t b (leaf (invoke p o vs)) → Matches ws vs σ → Tightest t p o vs (length σ)
 meeting-most-defined t s a b p o ws vs r σ w e h k m = meeting-tightest t s a b p o ws vs r σ w e h k m
 
--- a kill inside [k] leaves, of what stands parallel to it there, only what halting keeps; outside nothing changes
+-- a kill halts what stands parallel to it inside its [k]; outside nothing changes
 pub kill-leaves : (t s : Term) (a k : ℕ) → Within t → successor t (Kill a) ≡ accept s → Stands t a (leaf (kill k))
-    → (v : Way) × (w : Way) × (wayTo t a ≡ v ++ (inside (delimitation k) ∷ w)) × (enclosed k v ≡ false)
-    × (t ≡ fill w (under (delimitation k) (fill v (leaf (kill k))))) × (s ≡ fill w (under (delimitation k) (fill (map haltBeside v) (leaf nil))))
+    → (v : Way) × (u : Way) × (w : Way) × (wayTo t a ≡ v ++ (inside (delimitation k) ∷ w)) × (enclosed k v ≡ false) × Ended v u
+    × (t ≡ fill w (under (delimitation k) (fill v (leaf (kill k))))) × (s ≡ fill w (under (delimitation k) (fill u (leaf nil))))
 kill-leaves t s a k w e h = kill-spares t s a k w e h
 
 -- 3. The successor of an accepted move is within the limits again, and so is every table of a run.

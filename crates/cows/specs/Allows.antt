@@ -5,12 +5,12 @@ use mathlib.Core.Path.{_≡_}
 use mathlib.Core.Logic.{_≢_}
 use mathlib.Core.Bool.{true, false}
 use mathlib.Core.List.{List, [], _∷_, _++_}
-use Prim.Native.Nat.{ℕ, _+_, _-_, _≤_, _<_}
+use Prim.Native.Nat.{ℕ, zero, suc, _+_, _-_, _≤_, _<_}
 use lib.ListN.{length}
 use Rattle.cows.specs.Basics.{any, member}
 use Rattle.cows.specs.Terms.{nil, kill, invoke, Prefix, receive, wait, protection, delimitation, replication, Join, choice, parallel, Term, leaf, under, both, value, variable, label, size, atoms, binders}
 use Rattle.cows.specs.Places.{Frame, inside, leftOf, rightOf, plug, Way, fill, wayTo, sub, enclosed}
-use Rattle.cows.specs.Format.{Node, basic, prefix, join, root}
+use Rattle.cows.specs.Format.{Node, basic, prefix, join, nodes, root}
 use Rattle.cows.specs.Active.{live, ready}
 use Rattle.cows.specs.Proposed.{Substitution, Move, Kill, Communicate, Timeout, Elapse, Unfold, Extrude}
 
@@ -91,19 +91,51 @@ pub data Parent : Frame → Type 0 where
   protected : Parent (inside protection)
   delimited : {d : ℕ} → Parent (inside (delimitation d))
 
--- Halting (001) makes nil of kills, invokes and whole choices, receives and waits; it goes down both sides of a parallel, through each delimitation
--- and each replication; it keeps a protection whole.
-pub data Halted : Term → Term → Type 0 where
-  nil-nil : Halted (leaf nil) (leaf nil)
-  kill-nil : {k : ℕ} → Halted (leaf (kill k)) (leaf nil)
-  invoke-nil : {p o : ℕ} {ws : List ℕ} → Halted (leaf (invoke p o ws)) (leaf nil)
-  receive-nil : {p o : ℕ} {ws : List ℕ} {t : Term} → Halted (under (receive p o ws) t) (leaf nil)
-  wait-nil : {n : ℕ} {t : Term} → Halted (under (wait n) t) (leaf nil)
-  choice-nil : {s t : Term} → Halted (both choice s t) (leaf nil)
-  both-sides : {s t q r : Term} → Halted s q → Halted t r → Halted (both parallel s t) (both parallel q r)
-  through-delimitation : {d : ℕ} {t r : Term} → Halted t r → Halted (under (delimitation d) t) (under (delimitation d) r)
-  through-replication : {t r : Term} → Halted t r → Halted (under replication t) (under replication r)
-  keeps-protection : {t : Term} → Halted (under protection t) (under protection t)
+-- Record by record: the records of s are, in order, what is left of each record of t, none or one; P n l says that l is left of the record at place n.
+unfoldable pub gathered : (ℕ → List Node) → ℕ → List Node
+gathered left zero = []
+gathered left (suc n) = left 0 ++ gathered (λ i. left (suc i)) n
+
+pub record InOrder (t : Term) (P : ℕ → List Node → Type 0) (s : Term) : Type 0 where
+  pub left : ℕ → List Node
+  pub each : (n : ℕ) → n < size t → P n (left n)
+  pub records : nodes s ≡ gathered left (size t)
+
+-- Halting (001) goes down both sides of a parallel, through each delimitation and each replication.
+pub data Through : Node → Type 0 where
+  through-parallel : Through (join parallel)
+  through-delimitation : {d : ℕ} → Through (prefix (delimitation d))
+  through-replication : Through (prefix replication)
+
+-- It makes nil of kills, invokes and whole choices, receives and waits; a nil is nil.
+pub data Halts : Node → Type 0 where
+  halts-nil : Halts (basic nil)
+  halts-kill : {k : ℕ} → Halts (basic (kill k))
+  halts-invoke : {p o : ℕ} {ws : List ℕ} → Halts (basic (invoke p o ws))
+  halts-choice : Halts (join choice)
+  halts-receive : {p o : ℕ} {ws : List ℕ} → Halts (prefix (receive p o ws))
+  halts-wait : {n : ℕ} → Halts (prefix (wait n))
+
+-- the record of a frame; a way on which halting goes through every record
+unfoldable pub passed : Frame → Node
+passed (inside u) = prefix u
+passed (leftOf j t) = join j
+passed (rightOf j s) = join j
+
+pub data Reached : Way → Type 0 where
+  at-root : Reached []
+  goes-through : (f : Frame) {w : Way} → Through (passed f) → Reached w → Reached (f ∷ w)
+
+-- What halting leaves of a record, by the way to it: it keeps what it goes through, and a protection whole; what halts is nil, and nothing below is left.
+pub data Spared : Way → Node → List Node → Type 0 where
+  keeps : {w : Way} {x : Node} → Reached w → Through x → Spared w x (x ∷ [])
+  keeps-protection : {w : Way} → Reached w → Spared w (prefix protection) (prefix protection ∷ [])
+  keeps-inside : (v w : Way) {x : Node} → Reached w → Spared (v ++ (inside protection ∷ w)) x (x ∷ [])
+  leaves-nil : {w : Way} {x : Node} → Reached w → Halts x → Spared w x (basic nil ∷ [])
+  leaves-nothing : (v w : Way) (f : Frame) {x : Node} → Reached w → Halts (passed f) → Spared (v ++ (f ∷ w)) x []
+
+abbrev pub Halted : Term → Term → Type 0
+Halted t s = InOrder t (λ n. Spared (wayTo t n) (root (sub t n))) s
 
 -- The way from [k] down to its kill: at each parallel the other side is halted; protections and delimitations stay.
 pub data Ended : Way → Way → Type 0 where
