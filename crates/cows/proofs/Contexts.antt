@@ -1,5 +1,5 @@
--- What a kill, a timeout and a meeting leave, said by contexts (specs/Allows: Halted, Ended, Choice, Exchanged), is what specs/Moves computes (halt,
--- haltInside, aroundChoice, continue after silence). Here too: a term is told by a way and what fills it; no live invoke or kill stands in a choice.
+-- What a kill, a timeout and a meeting leave, said by contexts (specs/Allows: Ended, Choice, Exchanged), is what specs/Moves computes (haltInside,
+-- aroundChoice, continue after silence). Here too: a term is told by a way and what fills it; no live invoke or kill stands in a choice.
 use mathlib.Core.Path.{_≡_, refl, sym, ap, subst, _∙_}
 use mathlib.Core.Bool.{Bool, true, false, cond, _||_}
 use mathlib.Core.Option.{some}
@@ -24,9 +24,6 @@ use Rattle.cows.proofs.Halting.{halt-halted, halted-halt}
 use Rattle.cows.proofs.Ways.{opens, ahead, length-ahead, size-swap}
 use Rattle.cows.proofs.Scopes.{counts-enclosed}
 use Rattle.cows.proofs.Stands.{delimits-is}
-
-zero-one : {A : Type 0} → _≡_ {A = ℕ} 0 1 → A
-zero-one e = absurd (omega arith)
 
 -- the way from [k] to its kill
 pub halts-ended : (v : Way) → any frameChooses v ≡ false → Ended v (map haltBeside v)
@@ -149,7 +146,7 @@ abbrev pub Split : Way → Type 0
 Split z = (c : Way) × (w : Way) × (z ≡ c ++ w) × Choice c w
 
 pub choice-split : (z : Way) → Split z
-choice-split [] = ([], [], refl, record { choices = no-choice; whole = record { not-left = λ t z e. zero-one (cc); not-right = λ t z e. zero-one (cc) } })
+choice-split [] = ([], [], refl, record { choices = no-choice; whole = record { not-left = λ t z e. never (cc); not-right = λ t z e. never (cc) } })
 choice-split (f ∷ z) = go (frameChooses f) refl (choice-split z)
   where
     go : (b : Bool) → frameChooses f ≡ b → Split z → Split (f ∷ z)
@@ -317,15 +314,15 @@ module _ (g : Prefix) (r : Term) (x : Basic) (stops : passesLive g ≡ false) wh
 
   parting : (z : Way) (t : Term) (a b : ℕ) → Apart (descend z t a) (descend z t b)
   unfolding descend
-  parting z (leaf y) a b ha hb l = zero-one (cc)
-  parting z (under h t) zero zero ha hb l = zero-one (cc)
+  parting z (leaf y) a b ha hb l = never (cc)
+  parting z (under h t) zero zero ha hb l = never (cc)
   parting z (under h t) zero (suc b) ha hb l =
       let e : h ≡ g = cc in
       clash l (dormant (inside h ∷ z) (stopped h z (ap passesLive e ∙ stops)) t b)
-  parting z (under h t) (suc a) zero ha hb l = zero-one (cc)
+  parting z (under h t) (suc a) zero ha hb l = never (cc)
   parting z (under h t) (suc a) (suc b) ha hb l = parting (inside h ∷ z) t a b ha hb l
-  parting z (both j s t) zero b ha hb l = zero-one (cc)
-  parting z (both j s t) (suc a) zero ha hb l = zero-one (cc)
+  parting z (both j s t) zero b ha hb l = never (cc)
+  parting z (both j s t) (suc a) zero ha hb l = never (cc)
   parting z (both j s t) (suc a) (suc b) ha hb l =
       cond-case (λ (p : Spot). Apart p (cond (ltb b (size s)) (descend (leftOf j t ∷ z) s b) (descend (rightOf j s ∷ z) t (b - size s)))) (ltb a (size s))
       (λ _. cond-case (λ (q : Spot). Apart (descend (leftOf j t ∷ z) s a) q) (ltb b (size s)) (λ _. parting (leftOf j t ∷ z) s a b)
