@@ -12,7 +12,7 @@ use borrow.Author.Tests.{ltb-true, ltb-false, eq-eqb, eqb-true, ne-eqb, eqb-fals
 use Rattle.cows.specs.Basics.{any, every, holds, accept, _>>=_, _>>_, forbid, placeIf}
 use Rattle.cows.specs.Terms.{nil, kill, Prefix, receive, wait, protection, delimitation, replication, choice, parallel, Term, leaf, under, both, Ends, variable, label, size, kills, invokes, prefixed, receives, waits, delimits, delimitsAtom, replicates, below, guard, uses, usesBasic, binders, atoms}
 use Rattle.cows.specs.Places.{Frame, inside, leftOf, rightOf, plug, Way, fill, wayTo, sub, first, enclosed, frameChooses}
-use Rattle.cows.specs.Within.{Right, Guarded, one, counts, Within}
+use Rattle.cows.specs.Within.{Right, one, counts, Within}
 use Rattle.cows.specs.Active.{passesLive, live, wanted}
 use Rattle.cows.specs.Moves.{Substitution, binds, Matching, differs, haltBeside, haltInside, afterKill, killAt, fit, matched, inScope, heldBack, tighter, silence, continue, bind, communicateAt, timeoutAt, shorter, elapseBy, renaming, copy, afterUnfold, unfoldAt, fitsPrefix, fitting, exchange, afterExtrude, extrudeAt, Move, Kill, Communicate, Timeout, Elapse, Unfold, Extrude, successor}
 use Rattle.cows.specs.Allows.{Stands, Live, Meets, Renames, Ended, Choice, Exchanged, Replaced, Instantiated, Elapsed, Parent, onLeft, onRight, protected, delimited, Allows, by-kill, by-communicate, by-timeout, by-elapse, by-unfold, by-extrude}
@@ -25,7 +25,7 @@ use Rattle.cows.proofs.Meeting.{fit-fits, fits-fit, inScope-reaches, re
 use Rattle.cows.proofs.Scopes.{counts-fill, counts-enclosed}
 use Rattle.cows.proofs.Parts.{part-counts, part-silence, part-continue}
 use Rattle.cows.proofs.Recordwise.{map-replaced, replaced-map, elapse-elapsed, elapsed-elapse}
-use Rattle.cows.proofs.Contexts.{halts-ended, ended-halts, halt-cut, nearest, fill-cut, unchosen, choice-around, choice-split, Met, exchanged-met, parties-exchanged}
+use Rattle.cows.proofs.Contexts.{halts-ended, ended-halts, halt-cut, nearest, fill-cut, live-unchosen, choice-around, choice-split, Met, exchanged-met, parties-exchanged}
 use Rattle.cows.proofs.Instances.{Unique, instantiated-bind, Distinct, bind-instantiated, matches-distinct, reach-keyed}
 
 -- a live prefix of the kind looked for
@@ -54,17 +54,12 @@ kill-after t a k v u w e n h =
     ap (λ z. fill (haltInside k z) (leaf nil)) e ∙ (ap (λ z. fill z (leaf nil)) (halt-cut k v w n)
     ∙ (fill-cut k (map haltBeside v) w _ refl (leaf nil) ∙ ap (λ z. fill w (under (delimitation k) (fill z (leaf nil)))) (sym (ended-halts h))))
 
--- a kill stands inside the [k] of its label, and in no choice
+-- a kill stands inside the [k] of its label
 kill-enclosed : (t : Term) (a k : ℕ) → Within t → Stands t a (leaf (kill k)) → enclosed k (wayTo t a) ≡ true
 unfolding uses usesBasic
 kill-enclosed t a k w h =
     rw (h .stands) at (scoped-at (λ c. variable c || label c) t a (w .formed .closed)) .0
     (or-right (variable k) (label k) (subst Right (h .stands) (right-at t a (w .right))))
-
-kill-unchosen : (t : Term) (a k : ℕ) → Within t → Live t a (leaf (kill k)) → any frameChooses (wayTo t a) ≡ false
-unfolding guard
-kill-unchosen t a k w l =
-    unchosen (wayTo t a) (leaf (kill k)) refl (l .live) (subst Guarded (sym (ap (fill (wayTo t a)) (sym (l .at .stands)) ∙ fill-spot t a)) (w .formed .guarded))
 
 -- what a live kill of k leaves: the way to it is v inside its [k] and w outside, and v becomes u
 abbrev pub KillLeaves : Term → ℕ → ℕ → Term → Type 0
@@ -75,7 +70,7 @@ KillLeaves t a k s =
 pub kill-leaves : (t : Term) (a k : ℕ) → Within t → Live t a (leaf (kill k)) → KillLeaves t a k (afterKill k t a)
 kill-leaves t a k h l =
     let (v, w, c, n) = nearest k (wayTo t a) (kill-enclosed t a k h (l .at)) in
-    let d = halts-ended v (or-false (any frameChooses v) _ (rw (c, any-append) at (kill-unchosen t a k h l)) .0) in
+    let d = halts-ended v (or-false (any frameChooses v) _ (rw (c, any-append) at (live-unchosen t a (leaf (kill k)) (h .formed .guarded) l (unfold guard in refl))) .0) in
     (v, map haltBeside v, w, c, n, d, kill-after t a k v _ w c n d)
 
 kill-allows : (t s : Term) (a : ℕ) → Within t → killAt t a ≡ accept s → Allows t (Kill a) s
@@ -125,7 +120,7 @@ communicate-meets t s a b e =
     let (tg, e₆) = forbid-accept 15 (first (tighter m (length σ)) t) _ s e₅ in
     (σ, meets t a b r m σ er em (matched-accept a (fit r m) σ eσ) (not-false _ (placeIf-none _ a sc)) hb tg, same-accept e₆)
 
-meets-communicate : (t : Term) (a b : ℕ) (σ : Substitution) → Meets t a b σ → communicateAt t a b ≡ accept (bind σ (continue (silence t b) a))
+pub meets-communicate : (t : Term) (a b : ℕ) (σ : Substitution) → Meets t a b σ → communicateAt t a b ≡ accept (bind σ (continue (silence t b) a))
 unfolding communicateAt _>>=_ _>>_ forbid matched placeIf prefixed receives invokes
 meets-communicate t a b σ h =
     let r : Ends = record { partner = h .partner; operation = h .operation; tuple = h .pattern } in

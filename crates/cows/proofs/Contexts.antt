@@ -2,13 +2,12 @@
 -- aroundChoice, continue after silence). Here too: a term is told by a way and what fills it; no live invoke or kill stands in a choice.
 use mathlib.Core.Path.{_≡_, refl, sym, ap, subst, _∙_}
 use mathlib.Core.Bool.{Bool, true, false, cond, _||_}
-use mathlib.Core.Option.{some}
 use mathlib.Core.List.{[], _∷_, _++_, map, append-assoc}
 use Prim.Native.Nat.{ℕ, zero, suc, _+_, _-_, _≤_, _<_}
 use native.Mathlib.Omega.{arith}
-use lib.Dec.{ltb, eqb}
+use lib.Dec.{ltb}
 use lib.ListN.{length, length-append}
-use borrow.Author.Tests.{eqb-true, eq-eqb}
+use borrow.Author.Tests.{eq-eqb}
 use Rattle.cows.specs.Basics.{any, every, holds}
 use Rattle.cows.specs.Terms.{Basic, nil, Prefix, receive, wait, protection, delimitation, replication, Join, choice, parallel, Term, leaf, under, both, size, delimits, delimitsAtom, below, guard}
 use Rattle.cows.specs.Places.{Frame, inside, leftOf, rightOf, plug, Way, fill, Spot, descend, spot, wayTo, sub, frameDelimits, enclosed, frameChooses}
@@ -17,13 +16,13 @@ use Rattle.cows.specs.Active.{passesLive, onPrefix, live}
 use Rattle.cows.specs.Within.{Guarded, counts}
 use Rattle.cows.specs.Moves.{haltBeside, haltInside, silence, aroundChoice, continue}
 use Rattle.cows.specs.Allows.{Live, Ended, at-kill, halts-right, halts-left, passes, Choices, no-choice, left-choice, right-choice, Whole, Choice, Exchanged, receive-left, receive-right}
-use Rattle.cows.proofs.Basics.{never, clash, cond-case, or-false, and-none, holds-some, or-second, every-append, any-append}
+use Rattle.cows.proofs.Basics.{never, clash, cond-case, or-false, and-none, or-second, every-append, any-append}
 use Rattle.cows.proofs.Places.{size-pos, fill-spot, fill-append, descend-way, descend-first, At, spot-under, spot-left, spot-right}
 use Rattle.cows.proofs.Format.{length-nodes}
 use Rattle.cows.proofs.Halting.{halt-halted, halted-halt}
 use Rattle.cows.proofs.Ways.{opens, ahead, length-ahead, size-swap}
 use Rattle.cows.proofs.Scopes.{counts-enclosed}
-use Rattle.cows.proofs.Stands.{delimits-is}
+use Rattle.cows.proofs.Stands.{delimits-atom}
 
 -- the way from [k] to its kill
 pub halts-ended : (v : Way) → any frameChooses v ≡ false → Ended v (map haltBeside v)
@@ -54,10 +53,8 @@ abbrev pub Nearest : ℕ → Way → Type 0
 Nearest k z = (v : Way) × (w : Way) × (z ≡ v ++ (inside (delimitation k) ∷ w)) × (enclosed k v ≡ false)
 
 frame-is : (k : ℕ) (f : Frame) → frameDelimits k f ≡ true → f ≡ inside (delimitation k)
-unfolding frameDelimits delimitsAtom
-frame-is k (inside u) e =
-    let (d, is, q) = holds-some (eqb k) (delimits u) e in
-    ap inside (delimits-is u k (is ∙ ap some (sym (eqb-true k d q))))
+unfolding frameDelimits
+frame-is k (inside u) e = ap inside (delimits-atom k u e)
 frame-is k (leftOf j t) e = never e
 frame-is k (rightOf j s) e = never e
 
@@ -88,7 +85,7 @@ unfolding fill
 guarded-inner [] s h = h
 guarded-inner (f ∷ w) s h = plug-inner f s (guarded-inner w (plug f s) h)
 
-pub unchosen : (w : Way) (s : Term) → guard s ≡ false → live w ≡ true → Guarded (fill w s) → any frameChooses w ≡ false
+unchosen : (w : Way) (s : Term) → guard s ≡ false → live w ≡ true → Guarded (fill w s) → any frameChooses w ≡ false
 unfolding live every onPrefix passesLive any frameChooses fill plug guard
 unchosen [] s g l h = refl
 unchosen (inside (receive p o ws) ∷ w) s g l h = never l
@@ -100,6 +97,9 @@ unchosen (leftOf choice t ∷ w) s g l h = clash (guarded-inner w (both choice s
 unchosen (leftOf parallel t ∷ w) s g l h = unchosen w (both parallel s t) refl l h
 unchosen (rightOf choice t ∷ w) s g l h = clash (guarded-inner w (both choice t s) h .0 .1) g
 unchosen (rightOf parallel t ∷ w) s g l h = unchosen w (both parallel t s) refl l h
+
+pub live-unchosen : (t : Term) (a : ℕ) (s : Term) → Guarded t → Live t a s → guard s ≡ false → any frameChooses (wayTo t a) ≡ false
+live-unchosen t a s h l g = unchosen (wayTo t a) s g (l .live) (subst Guarded (sym (ap (fill (wayTo t a)) (sym (l .at .stands)) ∙ fill-spot t a)) h)
 
 -- the whole choice around a guard
 whole-first : (f : Frame) (w : Way) → Whole (f ∷ w) → frameChooses f ≡ false
@@ -299,7 +299,7 @@ pub dormant : (w : Way) → live w ≡ false → (t : Term) (n : ℕ) → live (
 unfolding live
 dormant w e t n = rw (descend-way [] w t n, every-append (onPrefix passesLive) (descend [] t n .way) w, e) (and-none (every (onPrefix passesLive) (descend [] t n .way)))
 
-stopped : (u : Prefix) (w : Way) → passesLive u ≡ false → live (inside u ∷ w) ≡ false
+pub stopped : (u : Prefix) (w : Way) → passesLive u ≡ false → live (inside u ∷ w) ≡ false
 unfolding live every onPrefix
 stopped u w e = rw e
 
@@ -367,7 +367,7 @@ module _ (t : Term) (a b : ℕ) (g : Prefix) (r : Term) (i : Basic) (la : Live t
 
   module _ (stops : passesLive g ≡ false) (sends : guard (leaf i) ≡ false) (guarded : Guarded t) where
     free : any frameChooses (wayTo t b) ≡ false
-    free = unchosen (wayTo t b) (leaf i) sends (lb .live) (subst Guarded (sym (ap (fill (wayTo t b)) (sym (lb .at .stands)) ∙ fill-spot t b)) guarded)
+    free = live-unchosen t b (leaf i) guarded lb sends
 
     pub parties-exchanged : (s : Term) × Exchanged t a b r s
     unfolding sub wayTo spot

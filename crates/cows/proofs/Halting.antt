@@ -27,9 +27,9 @@ gathered-append f (suc m) n =
     (sym (append-assoc (f 0) _ _) ∙ ap (λ l. gathered f (suc m) ++ l) (gathered-same _ _ n (λ i l. ap f (sym (suc-add m i)))))
 
 -- two terms whose records are gathered alike are the same
-pub in-order-unique : (t s r : Term) (P : ℕ → List Node → Type 0) → ((n : ℕ) (k l : List Node) → P n k → P n l → k ≡ l) → InOrder t P s → InOrder t P r → s ≡ r
+pub in-order-unique : (t s r : Term) (P : ℕ → List Node → Type 0) → ((n : ℕ) → n < size t → (k l : List Node) → P n k → P n l → k ≡ l) → InOrder t P s → InOrder t P r → s ≡ r
 in-order-unique t s r P one h k =
-    let same : nodes s ≡ nodes r = h .records ∙ (gathered-same (h .left) (k .left) (size t) (λ n l. one n _ _ (h .each n l) (k .each n l)) ∙ sym (k .records)) in
+    let same : nodes s ≡ nodes r = h .records ∙ (gathered-same (h .left) (k .left) (size t) (λ n l. one n l _ _ (h .each n l) (k .each n l)) ∙ sym (k .records)) in
     sym (decode-nodes s) ∙ (ap decode same ∙ decode-nodes r)
 
 -- what g says of every place of a term whose own way is w
@@ -218,4 +218,4 @@ halt-halted t =
     }
 
 pub halted-halt : {t s : Term} → Halted t s → s ≡ halt t
-halted-halt {t} {s} h = in-order-unique t s (halt t) _ (λ n k l p q. spared-leaves p ∙ sym (spared-leaves q)) h (halt-halted t)
+halted-halt {t} {s} h = in-order-unique t s (halt t) _ (λ n h k l p q. spared-leaves p ∙ sym (spared-leaves q)) h (halt-halted t)

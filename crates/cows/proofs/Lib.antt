@@ -23,9 +23,11 @@ pub mod Extrusion
 pub mod Silence
 pub mod Mapping
 pub mod Binding
+pub mod Binds
 pub mod Unfolding
 pub mod Preserving
 pub mod Instances
+pub mod Meetings
 pub mod Allows
 pub mod Corollaries
 pub mod Steps

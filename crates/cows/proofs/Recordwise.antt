@@ -14,7 +14,7 @@ use Rattle.cows.specs.Terms.{nil, kill, invoke, receive, wait, protectio
 use Rattle.cows.specs.Places.{inside, leftOf, rightOf, Way, Spot, descend, spot, wayTo, sub}
 use Rattle.cows.specs.Format.{Node, basic, prefix, join, nodes, root, decode}
 use Rattle.cows.specs.Active.{passesLive, onPrefix, live}
-use Rattle.cows.specs.Moves.{Substitution, mapBasic, mapPrefix, mapAtoms, image, lower, elapse}
+use Rattle.cows.specs.Moves.{Substitution, mapBasic, mapPrefix, mapNode, mapAtoms, image, lower, elapse}
 use Rattle.cows.specs.Allows.{Live, Takes, itself, taken, another, AllTake, no-more, and-more, Rewritten, as-nil, as-kill, as-invoke, as-receive, as-wait, as-protection, as-delimitation, as-replication, as-join, Replaced, Elapsed}
 use Rattle.cows.proofs.Basics.{clash, cond-case, cond-case₂, true-and}
 use Rattle.cows.proofs.Places.{fill-spot, descend-here}
@@ -29,7 +29,7 @@ first-node (leaf x) = ([], refl)
 first-node (under u t) = (nodes t, refl)
 first-node (both j s t) = (nodes s ++ nodes t, refl)
 
-node-at : (t : Term) (n : ℕ) → n < size t → getD (nodes t) n (basic nil) ≡ root (sub t n)
+pub node-at : (t : Term) (n : ℕ) → n < size t → getD (nodes t) n (basic nil) ≡ root (sub t n)
 node-at t n l =
     let (r, e) = first-node (sub t n) in
     let w = wayTo t n in
@@ -65,12 +65,7 @@ all-take-is : {σ : Substitution} {ws vs : List ℕ} → AllTake σ ws vs → vs
 all-take-is no-more = refl
 all-take-is (and-more h k) = cc (takes-is h, all-take-is k)
 
-mapNode : (ℕ → ℕ) → Node → Node
-mapNode f (basic x) = basic (mapBasic f x)
-mapNode f (prefix u) = prefix (mapPrefix f u)
-mapNode f (join j) = join j
-
-rewritten-map : (σ : Substitution) (x : Node) → Rewritten σ x (mapNode (image σ) x)
+pub rewritten-map : (σ : Substitution) (x : Node) → Rewritten σ x (mapNode (image σ) x)
 unfolding mapNode mapBasic mapPrefix
 rewritten-map σ (basic nil) = as-nil
 rewritten-map σ (basic (kill k)) = as-kill (takes-image σ k)
@@ -82,7 +77,7 @@ rewritten-map σ (prefix (delimitation d)) = as-delimitation (takes-image σ d)
 rewritten-map σ (prefix replication) = as-replication
 rewritten-map σ (join j) = as-join
 
-rewritten-is : {σ : Substitution} {x y : Node} → Rewritten σ x y → y ≡ mapNode (image σ) x
+pub rewritten-is : {σ : Substitution} {x y : Node} → Rewritten σ x y → y ≡ mapNode (image σ) x
 unfolding mapNode mapBasic mapPrefix
 rewritten-is as-nil = refl
 rewritten-is (as-kill h) = cc (takes-is h)
@@ -94,7 +89,7 @@ rewritten-is (as-delimitation h) = cc (takes-is h)
 rewritten-is as-replication = refl
 rewritten-is as-join = refl
 
-size-map : (f : ℕ → ℕ) (t : Term) → size (mapAtoms f t) ≡ size t
+pub size-map : (f : ℕ → ℕ) (t : Term) → size (mapAtoms f t) ≡ size t
 unfolding size mapAtoms
 size-map f (leaf x) = refl
 size-map f (under u t) = ap suc (size-map f t)

@@ -14,7 +14,8 @@ use Rattle.cows.specs.Format.{Bytes, encode}
 use Rattle.cows.specs.Tables.{judge}
 use Rattle.cows.specs.Within.{Within}
 use Rattle.cows.specs.Moves.{halt, Substitution, silence, Move, Kill, Communicate, Timeout, Elapse, Unfold, Extrude, successor}
-use Rattle.cows.specs.Allows.{Stands, Matches, Unheld, Tightest, Ended, Allows}
+use Rattle.cows.specs.Allows.{Stands, Meets, Matches, Unheld, Tightest, Ended, Allows}
+use Rattle.cows.specs.Meeting.{MeetingLeaves}
 use Rattle.cows.specs.Step.{judgeStep, stepTerm, stepReply, stepOutput}
 use Rattle.cows.specs.Load.{load, shielded, endedBy, dropped, lost, spent, copies}
 use Rattle.cows.specs.Run.{Run, start, judgement, run, losses}
@@ -24,6 +25,7 @@ use Rattle.cows.proofs.Format.{encode-bytes, encode-injective}
 use Rattle.cows.proofs.Tables.{judge-encode, judge-within, within-judge}
 use Rattle.cows.proofs.Allows.{allows-unique}
 use Rattle.cows.proofs.Corollaries.{meeting-unheld, meeting-tightest, kill-spares}
+use Rattle.cows.proofs.Meetings.{meeting-leaves, leaves-meeting}
 use Rattle.cows.proofs.Steps.{Steps, accepted-steps, steps-accepted}
 use Rattle.cows.proofs.Step.{refusal-silent, output-behind, output-length}
 use Rattle.cows.proofs.Preserving.{step-within}
@@ -57,6 +59,11 @@ meeting-not-held t s a b w e = meeting-unheld t s a b w e
 pub meeting-most-defined : (t s : Term) (a b p o : ℕ) (ws vs : List ℕ) (r : Term) (σ : Substitution) → Within t → successor t (Communicate a b) ≡ accept s
     → Stands t a (under (receive p o ws) r) → Stands t b (leaf (invoke p o vs)) → Matches ws vs σ → Tightest t p o vs (length σ)
 meeting-most-defined t s a b p o ws vs r σ w e h k m = meeting-tightest t s a b p o ws vs r σ w e h k m
+
+-- a meeting is accepted with successor s if, and only if, its conditions hold and the records of s are, in order, what remains of each record of t
+pub meeting-records : (t s : Term) (a b : ℕ) → Within t → (successor t (Communicate a b) ≡ accept s) ↔ ((σ : Substitution) × Meets t a b σ × MeetingLeaves t a b σ s)
+unfolding successor
+meeting-records t s a b w = (meeting-leaves t s a b w, λ p. leaves-meeting t s a b (p .0) w (p .1) (p .2))
 
 -- a kill halts what stands parallel to it inside its [k]; outside nothing changes
 pub kill-leaves : (t s : Term) (a k : ℕ) → Within t → successor t (Kill a) ≡ accept s → Stands t a (leaf (kill k))

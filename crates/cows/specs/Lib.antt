@@ -8,6 +8,7 @@ pub mod Active
 pub mod Proposed
 pub mod Moves
 pub mod Allows
+pub mod Meeting
 pub mod Step
 pub mod Load
 pub mod Run

@@ -1,4 +1,4 @@
--- Variables that take their values, record by record (crate cows, specs/Moves: instantiate, bind; specs/Binding: boundNodes): the records, size and depth of what is left.
+-- Variables that take their values, record by record (boundNodes): the records, size and depth of what instantiate and bind leave (specs/Moves).
 use mathlib.Core.Path.{_≡_, refl, sym, ap, ap₂, subst, _∙_}
 use mathlib.Core.Bool.{Bool, true, false, cond, _||_}
 use mathlib.Core.List.{List, [], _∷_, _++_, map, append-nil, append-assoc}
@@ -7,26 +7,34 @@ use native.Mathlib.Omega.{arith}
 use lib.Dec.{eqb}
 use lib.ListN.{length}
 use borrow.Author.Tests.{eqb-true, eq-eqb}
 use Rattle.cows.specs.Basics.{any, holds}
 use Rattle.cows.specs.Terms.{Basic, nil, kill, invoke, Prefix, receive, wait, protection, delimitation, replication, Term, leaf, under, both, value, variable, label, size, depth, delimits, delimitsAtom, usesBasic, usesPrefix}
 use Rattle.cows.specs.Format.{Node, basic, prefix, join, nodes}
 use Rattle.cows.specs.Within.{nowhere, one, counts}
-use Rattle.cows.specs.Moves.{Substitution, mapBasic, mapPrefix, mapAtoms, image, instantiate, bind}
+use Rattle.cows.specs.Moves.{Substitution, mapBasic, mapPrefix, mapNode, mapAtoms, image, instantiate, bind}
 use Rattle.cows.proofs.Basics.{clash, cond-case, or-false, or-left, not-so, eqb-swap}
 use Rattle.cows.proofs.Scopes.{All, inner, Used, local, Need, all-map, used-any, scoped-used}
 use Rattle.cows.proofs.Sets.{value-range, variable-range}
 use Rattle.cows.proofs.Parts.{Sound}
 use Rattle.cows.proofs.Binding.{delimits-one, AllBind, counts-at, sound-instantiate, all-instantiate}
-use Rattle.renaming.specs.Mapped.{mapNode}
-use Rattle.moves.specs.Binding.{nodeDelimits, bindNode, boundNodes}
+use Rattle.cows.proofs.Recordwise.{size-map}
+
+-- the record is a delimitation of d
+unfoldable pub nodeDelimits : ℕ → Node → Bool
+nodeDelimits d (basic x) = false
+nodeDelimits d (prefix u) = delimitsAtom d u
+nodeDelimits d (join j) = false
+
+-- one record when the variables of σ take their values: a delimitation of one of them goes, in every other record each is replaced
+unfoldable pub bindNode : Substitution → Node → List Node
+bindNode σ n = cond (any (λ (p : ℕ × ℕ). nodeDelimits (p .0) n) σ) [] (mapNode (image σ) n ∷ [])
+
+-- the same of each record, one behind the other
+unfoldable pub boundNodes : Substitution → List Node → List Node
+boundNodes σ [] = []
+boundNodes σ (n ∷ ns) = bindNode σ n ++ boundNodes σ ns
 
 -- mapping changes no shape
-size-mapped : (f : ℕ → ℕ) (t : Term) → size (mapAtoms f t) ≡ size t
-unfolding size mapAtoms
-size-mapped f (leaf x) = refl
-size-mapped f (under u t) = ap suc (size-mapped f t)
-size-mapped f (both j s t) = omega (arith, size-mapped f s, size-mapped f t)
-
 depth-mapped : (f : ℕ → ℕ) (t : Term) → depth (mapAtoms f t) ≡ depth t
 unfolding depth mapAtoms
 depth-mapped f (leaf x) = refl
@@ -126,7 +134,7 @@ module _ (x v : ℕ) where
   instantiate-size (leaf y) l = refl
   instantiate-size (under u t) l =
       cond-case (λ r. size r + (one (delimitsAtom x u) + counts x t) ≡ suc (size t)) (delimitsAtom x u)
-      (λ e. omega (arith, ap one e, size-mapped at t)) (λ e. omega (arith, ap one e, instantiate-size t (omega arith)))
+      (λ e. omega (arith, ap one e, size-map at t)) (λ e. omega (arith, ap one e, instantiate-size t (omega arith)))
   instantiate-size (both j s t) l = omega (arith, instantiate-size s (omega arith), instantiate-size t (omega arith))
 
   pub instantiate-depth : (t : Term) → depth (instantiate x v t) ≤ depth t
