@@ -13,10 +13,11 @@ use Rattle.cows.specs.Format.{Node, basic, prefix, join, nodes}
 use Rattle.cows.specs.Within.{nowhere, one, counts}
 use Rattle.cows.specs.Moves.{Substitution, mapBasic, mapPrefix, mapNode, mapAtoms, image, instantiate, bind}
 use Rattle.cows.proofs.Basics.{clash, cond-case, or-false, or-left, not-so, eqb-swap}
-use Rattle.cows.proofs.Scopes.{All, inner, Used, local, Need, all-map, used-any, scoped-used}
+use Rattle.cows.proofs.Scopes.{All, inner, Used, local, Need, all-map, used-any, scoped-used, one-false}
 use Rattle.cows.proofs.Sets.{value-range, variable-range}
+use Rattle.cows.proofs.Mapping.{counts-at}
 use Rattle.cows.proofs.Parts.{Sound}
-use Rattle.cows.proofs.Binding.{delimits-one, AllBind, counts-at, sound-instantiate, all-instantiate}
+use Rattle.cows.proofs.Binding.{delimits-one, AllBind, sound-instantiate, all-instantiate}
 use Rattle.cows.proofs.Recordwise.{size-map}
 
 -- the record is a delimitation of d
@@ -70,10 +71,6 @@ module _ (f : ℕ → ℕ) where
   prefix-same (delimitation d) h k = ap delimitation (k d (eq-eqb d d refl))
   prefix-same replication h k = refl
 
-no-one : (b : Bool) → one b ≡ 0 → b ≡ false
-no-one true e = absurd (omega arith)
-no-one false e = refl
-
 -- One variable x takes a value v.
 module _ (x v : ℕ) where
   abbrev at : ℕ → ℕ
@@ -92,7 +89,7 @@ module _ (x v : ℕ) where
   bound-inside : (t : Term) → counts x t ≡ 0 → boundNodes ((x, v) ∷ []) (nodes t) ≡ nodes (mapAtoms at t)
   unfolding boundNodes nodes mapAtoms nodeDelimits mapNode
   bound-inside (leaf y) e = rw (node-kept (basic y) refl)
-  bound-inside (under u t) e = rw (node-kept (prefix u) (no-one (delimitsAtom x u) (omega arith)), bound-inside t (omega arith))
+  bound-inside (under u t) e = rw (node-kept (prefix u) (one-false (delimitsAtom x u) (omega arith)), bound-inside t (omega arith))
   bound-inside (both j s t) e =
       rw (node-kept (join j) refl, bound-append ((x, v) ∷ []) (nodes s) (nodes t), bound-inside s (omega arith), bound-inside t (omega arith))
 
@@ -150,7 +147,7 @@ module _ (x v : ℕ) where
   counts-other vx vv y o (leaf b) l = refl
   counts-other vx vv y o (under u t) l =
       cond-case (λ r. counts y r ≡ one (delimitsAtom y u) + counts y t) (delimitsAtom x u)
-      (λ e. omega (arith, counts-at x v vx vv t (omega (arith, ap one e)) y, ap one (not-so (λ k. clash (eq-eqb y x (delimits-one y x u k e)) o))))
+      (λ e. omega (arith, counts-at x v t (omega (arith, ap one e)) y, ap one (not-so (λ k. clash (eq-eqb y x (delimits-one y x u k e)) o))))
       (λ e. omega (arith, counts-other vx vv y o t (omega arith)))
   counts-other vx vv y o (both j s t) l = omega (arith, counts-other vx vv y o s (omega arith), counts-other vx vv y o t (omega arith))
 
@@ -206,7 +203,10 @@ module _ (x v : ℕ) (σ : Substitution) (same : image σ v ≡ v) where
       go true e = refl
       go false e =
           append-nil (bindNode σ (mapNode (image ((x, v) ∷ [])) n))
-          ∙ rw (any-key (mapNode (image ((x, v) ∷ [])) n) n (delimits-kept x v n e) σ, node-both (image σ) (image ((x, v) ∷ [])) (image ((x, v) ∷ σ)) image-both n)
+          ∙ rw (
+            any-key (mapNode (image ((x, v) ∷ [])) n) n (delimits-kept x v n e) σ,
+            node-both (image σ) (image ((x, v) ∷ [])) (image ((x, v) ∷ σ)) image-both n,
+          )
 
   pub bound-bound : (ns : List Node) → boundNodes σ (boundNodes ((x, v) ∷ []) ns) ≡ boundNodes ((x, v) ∷ σ) ns
   unfolding boundNodes
@@ -252,7 +252,8 @@ abbrev pub Once : Term → Substitution → Type 0
 Once t [] = Unit {0}
 Once t (p ∷ σ) = (counts (p .0) t ≡ 1) × (any (λ (q : ℕ × ℕ). eqb (q .0) (p .0)) σ ≡ false) × Once t σ
 
-once-instantiate : (x v : ℕ) → variable x ≡ true → value v ≡ true → (t : Term) → counts x t ≤ 1 → (σ : Substitution) → any (λ (q : ℕ × ℕ). eqb (q .0) x) σ ≡ false → Once t σ → Once (instantiate x v t) σ
+once-instantiate : (x v : ℕ) → variable x ≡ true → value v ≡ true → (t : Term) → counts x t ≤ 1
+    → (σ : Substitution) → any (λ (q : ℕ × ℕ). eqb (q .0) x) σ ≡ false → Once t σ → Once (instantiate x v t) σ
 unfolding any
 once-instantiate x v vx vv t l [] e h = tt
 once-instantiate x v vx vv t l (p ∷ σ) e h =

@@ -1,56 +1,13 @@
 -- Halting record by record, by the ways (specs/Allows: Halted), is what halt computes (specs/Moves): halt-halted, halted-halt.
--- Here too: what is gathered from the places of a term, by its first record.
-use mathlib.Core.Path.{_≡_, refl, sym, ap, ap₂, subst, _∙_}
-use mathlib.Core.List.{List, [], _∷_, _++_, append-nil, append-assoc}
-use Prim.Native.Nat.{ℕ, zero, suc, _+_, _<_}
-use native.Mathlib.Omega.{arith}
-use native.Mathlib.Nat.{zero-add, suc-add}
-use Rattle.cows.specs.Terms.{nil, kill, invoke, Prefix, receive, wait, protection, delimitation, replication, Join, choice, parallel, Term, leaf, under, both, size}
-use Rattle.cows.specs.Places.{Frame, inside, leftOf, rightOf, Way, Spot, descend, spot, wayTo, sub}
-use Rattle.cows.specs.Format.{Node, basic, prefix, join, nodes, root, decode}
+use mathlib.Core.Path.{_≡_, refl, sym, subst, _∙_}
+use mathlib.Core.List.{List, [], _∷_, _++_}
+use Prim.Native.Nat.{_+_}
+use Rattle.cows.specs.Terms.{nil, kill, invoke, receive, wait, protection, delimitation, replication, choice, parallel, Term, leaf, under, both, size}
+use Rattle.cows.specs.Places.{Frame, inside, leftOf, rightOf, Way, Spot, spot, wayTo, sub}
+use Rattle.cows.specs.Format.{Node, basic, prefix, join, nodes, root}
 use Rattle.cows.specs.Moves.{haltUnder, haltBoth, halt}
-use Rattle.cows.specs.Allows.{gathered, InOrder, Through, through-parallel, through-delimitation, through-replication, Halts, halts-nil, halts-kill, halts-invoke, halts-choice, halts-receive, halts-wait, passed, Reached, at-root, goes-through, Spared, keeps, keeps-protection, keeps-inside, leaves-nil, leaves-nothing, Halted}
-use Rattle.cows.proofs.Places.{descend-first, descend-left, descend-right}
-use Rattle.cows.proofs.Format.{decode-nodes}
-
--- gathering from the same lists, and from one stretch of places behind another
-pub gathered-same : (f g : ℕ → List Node) (n : ℕ) → ((i : ℕ) → i < n → f i ≡ g i) → gathered f n ≡ gathered g n
-unfolding gathered
-gathered-same f g zero h = refl
-gathered-same f g (suc n) h = ap₂ _++_ (h 0 (omega arith)) (gathered-same (λ i. f (suc i)) (λ i. g (suc i)) n (λ i l. h (suc i) (omega arith)))
-
-pub gathered-append : (f : ℕ → List Node) (m n : ℕ) → gathered f (m + n) ≡ gathered f m ++ gathered (λ i. f (m + i)) n
-unfolding gathered
-gathered-append f zero n = ap (λ k. gathered f k) (zero-add n) ∙ gathered-same _ _ n (λ i l. ap f (sym (zero-add i)))
-gathered-append f (suc m) n =
-    rw (suc-add m n, gathered-append (λ i. f (suc i)) m n)
-    (sym (append-assoc (f 0) _ _) ∙ ap (λ l. gathered f (suc m) ++ l) (gathered-same _ _ n (λ i l. ap f (sym (suc-add m i)))))
-
--- two terms whose records are gathered alike are the same
-pub in-order-unique : (t s r : Term) (P : ℕ → List Node → Type 0) → ((n : ℕ) → n < size t → (k l : List Node) → P n k → P n l → k ≡ l) → InOrder t P s → InOrder t P r → s ≡ r
-in-order-unique t s r P one h k =
-    let same : nodes s ≡ nodes r = h .records ∙ (gathered-same (h .left) (k .left) (size t) (λ n l. one n l _ _ (h .each n l) (k .each n l)) ∙ sym (k .records)) in
-    sym (decode-nodes s) ∙ (ap decode same ∙ decode-nodes r)
-
--- what g says of every place of a term whose own way is w
-abbrev Over : (Spot → List Node) → Way → Term → List Node
-Over g w t = gathered (λ n. g (descend w t n)) (size t)
-
-module _ (g : Spot → List Node) (w : Way) where
-  over-leaf : (t : Term) → size t ≡ 1 → Over g w t ≡ g (record { way = w; here = t })
-  unfolding gathered
-  over-leaf t e = rw e (append-nil _ ∙ ap g (descend-first w t))
-
-  over-under : (u : Prefix) (t : Term) → Over g w (under u t) ≡ g (record { way = w; here = under u t }) ++ Over g (inside u ∷ w) t
-  unfolding gathered size descend
-  over-under u t = refl
-
-  over-both : (j : Join) (s t : Term) → Over g w (both j s t) ≡ g (record { way = w; here = both j s t }) ++ (Over g (leftOf j t ∷ w) s ++ Over g (rightOf j s ∷ w) t)
-  unfolding gathered size
-  over-both j s t =
-      ap₂ _++_ (ap g (descend-first w (both j s t)))
-      (gathered-append (λ n. g (descend w (both j s t) (suc n))) (size s) (size t)
-      ∙ ap₂ _++_ (gathered-same _ _ (size s) (λ n l. ap g (descend-left w j s t n l))) (gathered-same _ _ (size t) (λ n l. ap g (descend-right w j s t n))))
+use Rattle.cows.specs.Allows.{Through, through-parallel, through-delimitation, through-replication, Halts, halts-nil, halts-kill, halts-invoke, halts-choice, halts-receive, halts-wait, passed, Reached, at-root, goes-through, Spared, keeps, keeps-protection, keeps-inside, leaves-nil, leaves-nothing, Halted}
+use Rattle.cows.proofs.Gathered.{in-order-unique, Over, over-leaf, over-under, over-both}
 
 -- Where the records at the end of a way stand: halting reaches them, or a protection that it reached shelters them, or they go with what became nil.
 data Zone : Type 0 where

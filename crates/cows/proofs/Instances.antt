@@ -2,12 +2,12 @@
 -- (bind), where no atom is delimited twice and each variable bound is delimited.
 use mathlib.Core.Path.{_≡_, refl, sym, ap, subst, _∙_}
 use mathlib.Core.Logic.{_≢_}
-use mathlib.Core.Bool.{Bool, true, false, not, _&&_}
+use mathlib.Core.Bool.{true, false, not, _&&_}
 use mathlib.Core.List.{List, [], _∷_}
 use Prim.Native.Nat.{ℕ, _+_, _≤_}
 use native.Mathlib.Omega.{arith}
 use lib.Dec.{eqb}
-use borrow.Author.Tests.{eqb-true, eqb-false, eq-eqb, ne-eqb, not-true}
+use borrow.Author.Tests.{eqb-false, eq-eqb, ne-eqb, not-true}
 use Rattle.cows.specs.Basics.{any, member, holds}
 use Rattle.cows.specs.Terms.{delimitation, Term, leaf, under, both, variable, delimits, delimitsAtom}
 use Rattle.cows.specs.Places.{Frame, inside, leftOf, rightOf, plug, Way, fill, wayTo, enclosed}
@@ -15,20 +15,16 @@ use Rattle.cows.specs.Format.{distinct}
 use Rattle.cows.specs.Within.{one, counts}
 use Rattle.cows.specs.Moves.{Substitution, mapAtoms, image, instantiate, bind}
 use Rattle.cows.specs.Allows.{Matches, empty, takes, equals, AllReach, Instantiated, all-bound, goes}
-use Rattle.cows.proofs.Basics.{cond-case, and-true, or-false}
+use Rattle.cows.proofs.Basics.{and-true, or-false}
 use Rattle.cows.proofs.Places.{fill-spot, fill-ind}
-use Rattle.cows.proofs.Scopes.{counts-member, counts-plug, counts-fill}
-use Rattle.cows.proofs.Mapping.{counts-mapped}
+use Rattle.cows.proofs.Scopes.{one-false, counts-member, counts-plug, counts-fill}
+use Rattle.cows.proofs.Mapping.{counts-at}
 use Rattle.cows.proofs.Stands.{member-delimited}
 use Rattle.cows.proofs.Recordwise.{map-replaced, replaced-map}
 
 -- no atom is delimited twice
 abbrev pub Unique : Term → Type 0
 Unique t = (a : ℕ) → counts a t ≤ 1
-
-false-one : (b : Bool) → one b ≤ 0 → b ≡ false
-false-one true h = absurd (omega arith)
-false-one false h = refl
 
 module _ (x v : ℕ) where
   abbrev at : ℕ → ℕ
@@ -37,12 +33,12 @@ module _ (x v : ℕ) where
   untouched : (t : Term) → counts x t ≤ 0 → instantiate x v t ≡ t
   unfolding instantiate
   untouched (leaf y) h = refl
-  untouched (under u t) h = rw (false-one (delimitsAtom x u) (omega arith), untouched t (omega arith))
+  untouched (under u t) h = rw (one-false (delimitsAtom x u) (omega arith), untouched t (omega arith))
   untouched (both j s t) h = rw (untouched s (omega arith), untouched t (omega arith))
 
   plug-instantiate : (f : Frame) (s q : Term) → instantiate x v s ≡ q → 1 ≤ counts x s → counts x (plug f s) ≤ 1 → instantiate x v (plug f s) ≡ plug f q
   unfolding plug instantiate
-  plug-instantiate (inside u) s q e l h = rw (false-one (delimitsAtom x u) (omega arith), e)
+  plug-instantiate (inside u) s q e l h = rw (one-false (delimitsAtom x u) (omega arith), e)
   plug-instantiate (leftOf j t) s q e l h = rw (untouched t (omega arith), e)
   plug-instantiate (rightOf j t) s q e l h = rw (untouched t (omega arith), e)
 
@@ -52,11 +48,6 @@ module _ (x v : ℕ) where
   fill-instantiate (f ∷ w) s q e l h =
       fill-instantiate w (plug f s) (plug f q)
       (plug-instantiate f s q e l (omega (arith, counts-fill w (plug f s) x))) (omega (arith, counts-fill (f ∷ []) s x)) h
-
-  counts-at : (t : Term) → counts x t ≤ 0 → (a : ℕ) → counts a (mapAtoms at t) ≡ counts a t
-  unfolding image
-  counts-at t z a =
-      counts-mapped at a a t (λ d l. cond-case (λ c. eqb a c ≡ eqb a d) (eqb d x) (λ e. absurd (omega (arith, ap (λ c. counts c t) (eqb-true d x e)))) (λ e. refl))
 
   fill-counts : (a n : ℕ) (w : Way) (s r : Term) → counts a r ≡ counts a s + n → counts a (fill w r) ≡ counts a (fill w s) + n
   fill-counts a n w s r e = fill-ind (λ s r. counts a r ≡ counts a s + n) (λ f s r h. counts-plug f s r a n h) w s r e
@@ -75,7 +66,7 @@ module _ (x v : ℕ) where
 
     pub counts-goes : (a : ℕ) → counts a (fill w (under (delimitation x) r)) ≡ counts a (fill w (mapAtoms at r)) + one (eqb a x)
     unfolding delimitsAtom delimits holds
-    counts-goes a = fill-counts a (one (eqb a x)) w (mapAtoms at r) (under (delimitation x) r) (omega (arith, counts-at r no-more-inside a))
+    counts-goes a = fill-counts a (one (eqb a x)) w (mapAtoms at r) (under (delimitation x) r) (omega (arith, counts-at x v r no-more-inside a))
 
     pub unique-goes : Unique (fill w (under (delimitation x) r)) → Unique (fill w (mapAtoms at r))
     unique-goes h a = omega (arith, h a, counts-goes a)

@@ -12,6 +12,7 @@ pub mod Stands
 pub mod Reach
 pub mod Ways
 pub mod Scans
+pub mod Gathered
 pub mod Halting
 pub mod Contexts
 pub mod Recordwise
@@ -27,7 +28,7 @@ pub mod Binds
 pub mod Unfolding
 pub mod Preserving
 pub mod Instances
-pub mod Meetings
+pub mod Remains
 pub mod Allows
 pub mod Corollaries
 pub mod Steps

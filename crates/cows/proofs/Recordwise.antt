@@ -15,7 +15,7 @@ use Rattle.cows.specs.Places.{inside, leftOf, rightOf, Way, Spot, descen
 use Rattle.cows.specs.Format.{Node, basic, prefix, join, nodes, root, decode}
 use Rattle.cows.specs.Active.{passesLive, onPrefix, live}
 use Rattle.cows.specs.Moves.{Substitution, mapBasic, mapPrefix, mapNode, mapAtoms, image, lower, elapse}
-use Rattle.cows.specs.Allows.{Live, Takes, itself, taken, another, AllTake, no-more, and-more, Rewritten, as-nil, as-kill, as-invoke, as-receive, as-wait, as-protection, as-delimitation, as-replication, as-join, Replaced, Elapsed}
+use Rattle.cows.specs.Allows.{Live, Becomes, itself, by-pair, by-others, AllBecome, no-more, and-more, Rewritten, as-nil, as-kill, as-invoke, as-receive, as-wait, as-protection, as-delimitation, as-replication, as-join, Replaced, Elapsed}
 use Rattle.cows.proofs.Basics.{clash, cond-case, cond-case₂, true-and}
 use Rattle.cows.proofs.Places.{fill-spot, descend-here}
 use Rattle.cows.proofs.Format.{length-nodes, decode-nodes}
@@ -45,47 +45,47 @@ same-records s t e h =
     sym (decode-nodes s) ∙ (ap decode same ∙ decode-nodes t)
 
 -- substitution
-takes-image : (σ : Substitution) (a : ℕ) → Takes σ a (image σ a)
+becomes-image : (σ : Substitution) (a : ℕ) → Becomes σ a (image σ a)
 unfolding image
-takes-image [] a = itself
-takes-image ((x, v) ∷ σ) a =
-    cond-case (Takes ((x, v) ∷ σ) a) (eqb a x) (λ e. subst (λ c. Takes ((x, v) ∷ σ) c v) (sym (eqb-true a x e)) taken) (λ e. another (eqb-false a x e) (takes-image σ a))
+becomes-image [] a = itself
+becomes-image ((x, v) ∷ σ) a =
+    cond-case (Becomes ((x, v) ∷ σ) a) (eqb a x) (λ e. subst (λ c. Becomes ((x, v) ∷ σ) c v) (sym (eqb-true a x e)) by-pair) (λ e. by-others (eqb-false a x e) (becomes-image σ a))
 
-takes-is : {σ : Substitution} {a b : ℕ} → Takes σ a b → b ≡ image σ a
+becomes-is : {σ : Substitution} {a b : ℕ} → Becomes σ a b → b ≡ image σ a
 unfolding image
-takes-is itself = refl
-takes-is (taken {a = a}) = rw (eq-eqb a a refl)
-takes-is (another {a = a} {c = c} h t) = rw (ne-eqb a c h) (takes-is t)
+becomes-is itself = refl
+becomes-is (by-pair {a = a}) = rw (eq-eqb a a refl)
+becomes-is (by-others {a = a} {c = c} h t) = rw (ne-eqb a c h) (becomes-is t)
 
-all-take : (σ : Substitution) (ws : List ℕ) → AllTake σ ws (map (image σ) ws)
-all-take σ [] = no-more
-all-take σ (w ∷ ws) = and-more (takes-image σ w) (all-take σ ws)
+all-become : (σ : Substitution) (ws : List ℕ) → AllBecome σ ws (map (image σ) ws)
+all-become σ [] = no-more
+all-become σ (w ∷ ws) = and-more (becomes-image σ w) (all-become σ ws)
 
-all-take-is : {σ : Substitution} {ws vs : List ℕ} → AllTake σ ws vs → vs ≡ map (image σ) ws
-all-take-is no-more = refl
-all-take-is (and-more h k) = cc (takes-is h, all-take-is k)
+all-become-is : {σ : Substitution} {ws vs : List ℕ} → AllBecome σ ws vs → vs ≡ map (image σ) ws
+all-become-is no-more = refl
+all-become-is (and-more h k) = cc (becomes-is h, all-become-is k)
 
 pub rewritten-map : (σ : Substitution) (x : Node) → Rewritten σ x (mapNode (image σ) x)
 unfolding mapNode mapBasic mapPrefix
 rewritten-map σ (basic nil) = as-nil
-rewritten-map σ (basic (kill k)) = as-kill (takes-image σ k)
-rewritten-map σ (basic (invoke p o ws)) = as-invoke (takes-image σ p) (takes-image σ o) (all-take σ ws)
-rewritten-map σ (prefix (receive p o ws)) = as-receive (takes-image σ p) (takes-image σ o) (all-take σ ws)
+rewritten-map σ (basic (kill k)) = as-kill (becomes-image σ k)
+rewritten-map σ (basic (invoke p o ws)) = as-invoke (becomes-image σ p) (becomes-image σ o) (all-become σ ws)
+rewritten-map σ (prefix (receive p o ws)) = as-receive (becomes-image σ p) (becomes-image σ o) (all-become σ ws)
 rewritten-map σ (prefix (wait n)) = as-wait
 rewritten-map σ (prefix protection) = as-protection
-rewritten-map σ (prefix (delimitation d)) = as-delimitation (takes-image σ d)
+rewritten-map σ (prefix (delimitation d)) = as-delimitation (becomes-image σ d)
 rewritten-map σ (prefix replication) = as-replication
 rewritten-map σ (join j) = as-join
 
 pub rewritten-is : {σ : Substitution} {x y : Node} → Rewritten σ x y → y ≡ mapNode (image σ) x
 unfolding mapNode mapBasic mapPrefix
 rewritten-is as-nil = refl
-rewritten-is (as-kill h) = cc (takes-is h)
-rewritten-is (as-invoke h k l) = cc (takes-is h, takes-is k, all-take-is l)
-rewritten-is (as-receive h k l) = cc (takes-is h, takes-is k, all-take-is l)
+rewritten-is (as-kill h) = cc (becomes-is h)
+rewritten-is (as-invoke h k l) = cc (becomes-is h, becomes-is k, all-become-is l)
+rewritten-is (as-receive h k l) = cc (becomes-is h, becomes-is k, all-become-is l)
 rewritten-is as-wait = refl
 rewritten-is as-protection = refl
-rewritten-is (as-delimitation h) = cc (takes-is h)
+rewritten-is (as-delimitation h) = cc (becomes-is h)
 rewritten-is as-replication = refl
 rewritten-is as-join = refl
 
@@ -146,7 +146,8 @@ root-elapse d v w h (both j s t) zero = rw h
 root-elapse d v w h (both j s t) (suc n) =
     rw (size-elapse d s)
     (cond-case₂ (λ (x y : Spot). root (x .here) ≡ timed d (live (y .way)) (root (y .here))) (ltb n (size s))
-    (λ e. root-elapse d (leftOf j (elapse d t) ∷ v) (leftOf j t ∷ w) (unfold live every onPrefix in h) s n) (λ e. root-elapse d (rightOf j (elapse d s) ∷ v) (rightOf j s ∷ w) (unfold live every onPrefix in h) t (n - size s)))
+    (λ e. root-elapse d (leftOf j (elapse d t) ∷ v) (leftOf j t ∷ w) (unfold live every onPrefix in h) s n)
+    (λ e. root-elapse d (rightOf j (elapse d s) ∷ v) (rightOf j s ∷ w) (unfold live every onPrefix in h) t (n - size s)))
 
 root-elapsed : (d : ℕ) (t : Term) (n : ℕ) → root (sub (elapse d t) n) ≡ timed d (live (wayTo t n)) (root (sub t n))
 unfolding sub spot wayTo

@@ -15,7 +15,7 @@ use Rattle.cows.specs.Tables.{judge}
 use Rattle.cows.specs.Within.{Within}
 use Rattle.cows.specs.Moves.{halt, Substitution, silence, Move, Kill, Communicate, Timeout, Elapse, Unfold, Extrude, successor}
 use Rattle.cows.specs.Allows.{Stands, Meets, Matches, Unheld, Tightest, Ended, Allows}
-use Rattle.cows.specs.Meeting.{MeetingLeaves}
+use Rattle.cows.specs.Remains.{MeetingLeaves}
 use Rattle.cows.specs.Step.{judgeStep, stepTerm, stepReply, stepOutput}
 use Rattle.cows.specs.Load.{load, shielded, endedBy, dropped, lost, spent, copies}
 use Rattle.cows.specs.Run.{Run, start, judgement, run, losses}
@@ -25,7 +25,7 @@ use Rattle.cows.proofs.Format.{encode-bytes, encode-injective}
 use Rattle.cows.proofs.Tables.{judge-encode, judge-within, within-judge}
 use Rattle.cows.proofs.Allows.{allows-unique}
 use Rattle.cows.proofs.Corollaries.{meeting-unheld, meeting-tightest, kill-spares}
-use Rattle.cows.proofs.Meetings.{meeting-leaves, leaves-meeting}
+use Rattle.cows.proofs.Remains.{meeting-leaves, leaves-meeting}
 use Rattle.cows.proofs.Steps.{Steps, accepted-steps, steps-accepted}
 use Rattle.cows.proofs.Step.{refusal-silent, output-behind, output-length}
 use Rattle.cows.proofs.Preserving.{step-within}

@@ -1,6 +1,6 @@
 -- The rules of the six moves as a relation (01, Moves): Allows t m s says that the rules allow the move m on the term t, and that s is the successor.
--- One constructor for each move. The paper's conditions are premises; what a move leaves is said by contexts (a way, filled) and record by record, with no
--- word of the functions of specs/Moves that compute it. Nothing is searched for and nothing refused.
+-- One constructor for each move, with the paper's conditions as premises. What a move leaves is said by contexts (a way, filled) or record by record, and not by
+-- the functions of specs/Moves that compute it. Nothing is searched for and nothing refused.
 use mathlib.Core.Path.{_≡_}
 use mathlib.Core.Logic.{_≢_}
 use mathlib.Core.Bool.{true, false}
@@ -91,7 +91,7 @@ pub data Parent : Frame → Type 0 where
   protected : Parent (inside protection)
   delimited : {d : ℕ} → Parent (inside (delimitation d))
 
--- Record by record: the records of s are, in order, what is left of each record of t, none or one; P n l says that l is left of the record at place n.
+-- Record by record: P n l says that l is left of the record at place n of t, no record or one; the records of s are what is left of each, in order.
 unfoldable pub gathered : (ℕ → List Node) → ℕ → List Node
 gathered left zero = []
 gathered left (suc n) = left 0 ++ gathered (λ i. left (suc i)) n
@@ -116,7 +116,7 @@ pub data Halts : Node → Type 0 where
   halts-receive : {p o : ℕ} {ws : List ℕ} → Halts (prefix (receive p o ws))
   halts-wait : {n : ℕ} → Halts (prefix (wait n))
 
--- the record of a frame; a way on which halting goes through every record
+-- the record of a frame; a way that halting takes, from the root of what is halted: it goes through every record
 unfoldable pub passed : Frame → Node
 passed (inside u) = prefix u
 passed (leftOf j t) = join j
@@ -126,7 +126,7 @@ pub data Reached : Way → Type 0 where
   at-root : Reached []
   goes-through : (f : Frame) {w : Way} → Through (passed f) → Reached w → Reached (f ∷ w)
 
--- What halting leaves of a record, by the way to it: it keeps what it goes through, and a protection whole; what halts is nil, and nothing below is left.
+-- What it leaves of a record, by the way to it: what it goes through stays, and a protection stays whole; what halts is nil, and below it nothing is left.
 pub data Spared : Way → Node → List Node → Type 0 where
   keeps : {w : Way} {x : Node} → Reached w → Through x → Spared w x (x ∷ [])
   keeps-protection : {w : Way} → Reached w → Spared w (prefix protection) (prefix protection ∷ [])
@@ -167,24 +167,24 @@ pub data Exchanged (t : Term) (a b : ℕ) (r : Term) : Term → Type 0 where
       → wayTo t b ≡ u ++ (leftOf parallel x ∷ w) → Exchanged t a b r (fill w (both parallel (fill u (leaf nil)) (fill v r)))
 
 -- An atom under a substitution: what it takes, or itself if it takes nothing.
-pub data Takes : Substitution → ℕ → ℕ → Type 0 where
-  itself : {a : ℕ} → Takes [] a a
-  taken : {a b : ℕ} {σ : Substitution} → Takes ((a, b) ∷ σ) a b
-  another : {a b c d : ℕ} {σ : Substitution} → a ≢ c → Takes σ a b → Takes ((c, d) ∷ σ) a b
+pub data Becomes : Substitution → ℕ → ℕ → Type 0 where
+  itself : {a : ℕ} → Becomes [] a a
+  by-pair : {a b : ℕ} {σ : Substitution} → Becomes ((a, b) ∷ σ) a b
+  by-others : {a b c d : ℕ} {σ : Substitution} → a ≢ c → Becomes σ a b → Becomes ((c, d) ∷ σ) a b
 
-pub data AllTake (σ : Substitution) : List ℕ → List ℕ → Type 0 where
-  no-more : AllTake σ [] []
-  and-more : {a b : ℕ} {ws vs : List ℕ} → Takes σ a b → AllTake σ ws vs → AllTake σ (a ∷ ws) (b ∷ vs)
+pub data AllBecome (σ : Substitution) : List ℕ → List ℕ → Type 0 where
+  no-more : AllBecome σ [] []
+  and-more : {a b : ℕ} {ws vs : List ℕ} → Becomes σ a b → AllBecome σ ws vs → AllBecome σ (a ∷ ws) (b ∷ vs)
 
 -- A record under a substitution: of the same kind, with every atom replaced and nothing else changed.
 pub data Rewritten (σ : Substitution) : Node → Node → Type 0 where
   as-nil : Rewritten σ (basic nil) (basic nil)
-  as-kill : {k l : ℕ} → Takes σ k l → Rewritten σ (basic (kill k)) (basic (kill l))
-  as-invoke : {p q o m : ℕ} {ws vs : List ℕ} → Takes σ p q → Takes σ o m → AllTake σ ws vs → Rewritten σ (basic (invoke p o ws)) (basic (invoke q m vs))
-  as-receive : {p q o m : ℕ} {ws vs : List ℕ} → Takes σ p q → Takes σ o m → AllTake σ ws vs → Rewritten σ (prefix (receive p o ws)) (prefix (receive q m vs))
+  as-kill : {k l : ℕ} → Becomes σ k l → Rewritten σ (basic (kill k)) (basic (kill l))
+  as-invoke : {p q o m : ℕ} {ws vs : List ℕ} → Becomes σ p q → Becomes σ o m → AllBecome σ ws vs → Rewritten σ (basic (invoke p o ws)) (basic (invoke q m vs))
+  as-receive : {p q o m : ℕ} {ws vs : List ℕ} → Becomes σ p q → Becomes σ o m → AllBecome σ ws vs → Rewritten σ (prefix (receive p o ws)) (prefix (receive q m vs))
   as-wait : {n : ℕ} → Rewritten σ (prefix (wait n)) (prefix (wait n))
   as-protection : Rewritten σ (prefix protection) (prefix protection)
-  as-delimitation : {d e : ℕ} → Takes σ d e → Rewritten σ (prefix (delimitation d)) (prefix (delimitation e))
+  as-delimitation : {d e : ℕ} → Becomes σ d e → Rewritten σ (prefix (delimitation d)) (prefix (delimitation e))
   as-replication : Rewritten σ (prefix replication) (prefix replication)
   as-join : {j : Join} → Rewritten σ (join j) (join j)
 

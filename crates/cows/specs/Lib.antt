@@ -8,7 +8,7 @@ pub mod Active
 pub mod Proposed
 pub mod Moves
 pub mod Allows
-pub mod Meeting
+pub mod Remains
 pub mod Step
 pub mod Load
 pub mod Run

@@ -1,5 +1,5 @@
--- What a whole meeting leaves, record by record (01, Moves: the message becomes nil; the receive, with the whole choice around it, becomes its continuation; each
--- bound variable is replaced throughout its delimitation, and that delimitation goes). The rule itself is in specs/Allows, by contexts.
+-- What a whole meeting leaves, record by record (01, Moves): the invoke becomes nil; the receive, with the whole choice around it, becomes its continuation;
+-- each bound variable is replaced, and its delimitation goes. The rule itself is in specs/Allows, by contexts; theorem meeting-records has the two agree.
 use mathlib.Core.Path.{_≡_}
 use mathlib.Core.Logic.{_≢_}
 use mathlib.Core.Bool.{true, false}

@@ -1,4 +1,4 @@
--- What a whole meeting leaves, record by record (specs/Meeting): meeting-leaves. On the way: where the whole choice around a guard begins, and the records when a
+-- What a whole meeting leaves, record by record (specs/Remains): meeting-leaves. On the way: where the whole choice around a guard begins, and the records when a
 -- guard continues and an invoke is silent, by the places of the term as it was.
 use mathlib.Core.Path.{_≡_, refl, sym, ap, ap₂, subst, _∙_}
 use mathlib.Core.Logic.{_≢_}
@@ -7,7 +7,7 @@ use mathlib.Core.Option.{some}
 use mathlib.Core.List.{List, [], _∷_, _++_}
 use Prim.Native.Nat.{ℕ, zero, suc, _+_, _-_, _≤_, _<_}
 use native.Mathlib.Omega.{arith}
-use native.Mathlib.Nat.{zero-add, sub-zero}
+use native.Mathlib.Nat.{sub-zero}
 use lib.Dec.{ltb, eqb}
 use lib.ListN.{length, getD, take, drop, set, length-append, length-drop}
 use lib.Seq.{take-at, take-all, getD-take, getD-drop, length-take-le, set-split, getD-set-same, getD-set-other}
@@ -20,13 +20,13 @@ use Rattle.cows.specs.Active.{passesLive, live}
 use Rattle.cows.specs.Within.{Within}
 use Rattle.cows.specs.Moves.{Substitution, silence, continue, bind, aroundChoice, communicateAt}
 use Rattle.cows.specs.Allows.{Meets, gathered, InOrder, Choices, no-choice, left-choice, right-choice, Choice, as-nil}
-use Rattle.cows.specs.Meeting.{Begins, InTerm, keys, BoundRecord, binder-goes, is-replaced, Remains, of-invoke, of-choice, of-continuation, of-others, MeetingLeaves}
+use Rattle.cows.specs.Remains.{Begins, InTerm, keys, BoundRecord, binder-goes, is-replaced, Remains, of-invoke, of-choice, of-continuation, of-others, MeetingLeaves}
 use Rattle.cows.proofs.Basics.{never, clash, cond-case, bool-case, lt-case, or-left, or-right, or-case, not-so, same-test, same-some, any-append}
 use Rattle.cows.proofs.Places.{size-pos, fill-spot, fill-append, descend-way, At, spot-under, spot-part, spot-fits}
 use Rattle.cows.proofs.Format.{length-nodes}
 use Rattle.cows.proofs.Stands.{prefixed-is, delimits-atom}
 use Rattle.cows.proofs.Ways.{ahead, opens, behind, nodes-fill, length-ahead, nodes-here, nodes-replaced}
-use Rattle.cows.proofs.Halting.{gathered-same, gathered-append, in-order-unique}
+use Rattle.cows.proofs.Gathered.{gathered-same, in-order-unique, stretch, stretch-whole, stretch-split, stretch-none}
 use Rattle.cows.proofs.Contexts.{choice-around, choice-split, live-unchosen, at-fill, dormant, stopped}
 use Rattle.cows.proofs.Silence.{relieved-size, alike-at, alike-ahead, alike-around, silence-size, silence-prefix, silence-nodes}
 use Rattle.cows.proofs.Recordwise.{node-at, rewritten-map, rewritten-is}
@@ -158,31 +158,7 @@ module _ (t : Term) (a b : ℕ) (g : Prefix) (r : Term) (x : Basic) (l : a < siz
       choices-free x (wayTo t c) (o .choice .choices) (under g r) (under-free x (wayTo t c) g r stops) (b - c)
       (ap (λ (z : Spot). z .here) (sym e) ∙ eb) (ap (λ (z : Spot). live (z .way)) (sym e) ∙ lb) (ap (λ (z : Spot). any frameChooses (z .way)) (sym e) ∙ free)
 
--- Stretches of places: from i up to k.
-stretch : (ℕ → List Node) → ℕ → ℕ → List Node
-stretch f i k = gathered (λ n. f (i + n)) (k - i)
-
-stretch-whole : (f : ℕ → List Node) (n : ℕ) → gathered f n ≡ stretch f 0 n
-unfolding stretch
-stretch-whole f n = gathered-same f (λ i. f (0 + i)) n (λ i h. ap f (sym (zero-add i))) ∙ ap (gathered (λ i. f (0 + i))) (sym (sub-zero n))
-
-stretch-split : (f : ℕ → List Node) (i j k : ℕ) → i ≤ j → j ≤ k → stretch f i k ≡ stretch f i j ++ stretch f j k
-unfolding stretch
-stretch-split f i j k l m =
-    let e : (j - i) + (k - j) ≡ k - i = omega arith in
-    ap (gathered (λ n. f (i + n))) (sym e)
-    ∙ (gathered-append (λ n. f (i + n)) (j - i) (k - j)
-    ∙ ap (λ q. stretch f i j ++ q) (gathered-same _ _ (k - j) (λ n h. ap f (let z : i + ((j - i) + n) ≡ j + n = omega arith in z))))
-
-gathered-none : (n : ℕ) → gathered (λ i. []) n ≡ []
-unfolding gathered
-gathered-none zero = refl
-gathered-none (suc n) = gathered-none n
-
-stretch-none : (f : ℕ → List Node) (i k : ℕ) → ((n : ℕ) → i ≤ n → n < k → f n ≡ []) → stretch f i k ≡ []
-unfolding stretch
-stretch-none f i k h = gathered-same _ (λ n. []) (k - i) (λ n l. h (i + n) (omega arith) (omega arith)) ∙ gathered-none (k - i)
-
+-- the bound records of a stretch of places
 module _ (σ : Substitution) where
   bound-at : List Node → ℕ → List Node
   bound-at ns n = bindNode σ (getD ns n (basic nil))
@@ -276,9 +252,9 @@ module _ (t : Term) (a b : ℕ) (g : Prefix) (r : Term) (x : Basic) (σ : Substi
   unfolding left
   left-before n h = rw (lt-ltb n begin h)
 
-  left-choice' : (n : ℕ) → begin ≤ n → n < suc a → left n ≡ []
+  left-cut : (n : ℕ) → begin ≤ n → n < suc a → left n ≡ []
   unfolding left
-  left-choice' n h i = rw (le-ltb n begin h, lt-ltb n (suc a) i)
+  left-cut n h i = rw (le-ltb n begin h, lt-ltb n (suc a) i)
 
   left-body : (n : ℕ) → suc a ≤ n → n < stop → left n ≡ kept n
   unfolding left
@@ -308,7 +284,7 @@ module _ (t : Term) (a b : ℕ) (g : Prefix) (r : Term) (x : Basic) (σ : Substi
       let body-long : stop - suc a ≡ size (sub t a) - 1 = omega arith in
       left-split ∙ rw (
         ahead-is,
-        stretch-none left begin (suc a) left-choice',
+        stretch-none left begin (suc a) left-cut,
         body-is,
         stretch-none left stop end left-rest,
         behind-is,
@@ -350,7 +326,7 @@ module _ (t : Term) (a b : ℕ) (g : Prefix) (r : Term) (x : Basic) (σ : Substi
       (λ e. let i : n ≢ b = eqb-false n b e in
       let others = bound-other n h i in
       lt-case _ n begin (λ p. by (left-before n p) (of-others i (λ z. omega arith) others))
-      (λ p. lt-case _ n (suc a) (λ q. by (left-choice' n p q) (of-choice i (p, omega (arith, inner, size-pos (sub t a))) (λ z. omega arith)))
+      (λ p. lt-case _ n (suc a) (λ q. by (left-cut n p q) (of-choice i (p, omega (arith, inner, size-pos (sub t a))) (λ z. omega arith)))
       (λ q. lt-case _ n stop (λ m. by (left-body n q m) (of-continuation i (q, m) others))
       (λ m. lt-case _ n end (λ o. by (left-rest n m o) (of-choice i (p, o) (λ z. omega arith))) (λ o. by (left-behind n o) (of-others i (λ z. omega arith) others))))))
 
@@ -361,7 +337,7 @@ module _ (t : Term) (a b : ℕ) (g : Prefix) (r : Term) (x : Basic) (σ : Substi
   remains-one : (n : ℕ) → n < size t → {q : List Node} → Remains t a b begin σ n q → q ≡ left n
   remains-one n h of-invoke = sym left-sent
   remains-one n h (of-choice i p z) =
-      lt-case _ n (suc a) (λ q. sym (left-choice' n (p .0) q))
+      lt-case _ n (suc a) (λ q. sym (left-cut n (p .0) q))
       (λ q. lt-case _ n stop (λ m. absurd (z (q, m))) (λ m. sym (left-rest n m (p .1))))
   remains-one n h (of-continuation i p e) = bound-kept h i e (left-body n (p .0) (p .1))
   remains-one n h (of-others i z e) =
