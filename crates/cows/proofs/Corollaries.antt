@@ -1,6 +1,6 @@
 -- Demand 2 in accepted moves: a ready kill holds back the meetings in its scope, the receive that binds fewest variables goes first,
--- and a kill spares, inside its scope, only what halting keeps.
-use mathlib.Core.Path.{_≡_, sym, ap, _∙_}
+-- and a kill halts what stands parallel to it inside its scope. What halting leaves.
+use mathlib.Core.Path.{_≡_, sym, ap, subst, _∙_}
 use mathlib.Core.Bool.{false}
 use mathlib.Core.List.{List, _∷_, _++_}
 use Prim.Native.Nat.{ℕ}
@@ -9,10 +9,13 @@ use Rattle.cows.specs.Basics.{accept}
 use Rattle.cows.specs.Terms.{nil, kill, invoke, receive, delimitation, Term, leaf, under}
 use Rattle.cows.specs.Places.{inside, Way, fill, wayTo, sub, enclosed}
 use Rattle.cows.specs.Within.{Within}
-use Rattle.cows.specs.Moves.{Substitution, afterKill, Kill, Communicate, successor}
-use Rattle.cows.specs.Allows.{Stands, Meets, Matches, Unheld, Tightest, Ended}
+use Rattle.cows.specs.Moves.{Substitution, halt, afterKill, Kill, Communicate, successor}
+use Rattle.cows.specs.Allows.{Stands, Meets, Matches, Unheld, Tightest, Halted, Ended}
+use Rattle.cows.specs.Load.{load, shielded}
 use Rattle.cows.proofs.Places.{fill-spot}
 use Rattle.cows.proofs.Meeting.{matches-unique}
+use Rattle.cows.proofs.Halting.{halt-halted, halted-halt}
+use Rattle.cows.proofs.Load.{halt-halt, load-halt}
 use Rattle.cows.proofs.Contexts.{fill-cut}
 use Rattle.cows.proofs.Allows.{kill-fires, kill-leaves, communicate-meets}
 
@@ -54,3 +57,12 @@ kill-spares t s a k h e st =
     let (v, u, w, c, n, d, z) = kill-leaves t a k h (rw same at l) in
     let before = sym (fill-spot t a) ∙ (ap (fill (wayTo t a)) (st .stands) ∙ fill-cut k v w _ c (leaf (kill k))) in
     (v, u, w, c, n, d, before, sym q ∙ (ap (λ j. afterKill j t a) same ∙ z))
+
+-- Halting twice is halting once; what it leaves has the load of what is shielded.
+pub halted-twice : {t s : Term} → Halted t s → Halted s s
+halted-twice {t} {s} h =
+    let e = halted-halt h in
+    subst (λ r. Halted r r) (sym e) (subst (Halted (halt t)) (halt-halt t) (halt-halted (halt t)))
+
+pub halted-load : {t s : Term} → Halted t s → load s ≡ shielded t
+halted-load {t} h = ap load (halted-halt h) ∙ load-halt t

@@ -13,8 +13,8 @@ use Rattle.cows.specs.Places.{inside, Way, fill, wayTo, sub, enclosed}
 use Rattle.cows.specs.Format.{Bytes, encode}
 use Rattle.cows.specs.Tables.{judge}
 use Rattle.cows.specs.Within.{Within}
-use Rattle.cows.specs.Moves.{halt, Substitution, silence, Move, Kill, Communicate, Timeout, Elapse, Unfold, Extrude, successor}
-use Rattle.cows.specs.Allows.{Stands, Meets, Matches, Unheld, Tightest, Ended, Allows}
+use Rattle.cows.specs.Moves.{Substitution, silence, Move, Kill, Communicate, Timeout, Elapse, Unfold, Extrude, successor}
+use Rattle.cows.specs.Allows.{Stands, Meets, Matches, Unheld, Tightest, Halted, Ended, Allows}
 use Rattle.cows.specs.Remains.{MeetingLeaves}
 use Rattle.cows.specs.Step.{judgeStep, stepTerm, stepReply, stepOutput}
 use Rattle.cows.specs.Load.{load, shielded, endedBy, dropped, lost, spent, copies}
@@ -24,12 +24,11 @@ use Rattle.cows.specs.Misreadings.{misreadings, misreadings-right}
 use Rattle.cows.proofs.Format.{encode-bytes, encode-injective}
 use Rattle.cows.proofs.Tables.{judge-encode, judge-within, within-judge}
 use Rattle.cows.proofs.Allows.{allows-unique}
-use Rattle.cows.proofs.Corollaries.{meeting-unheld, meeting-tightest, kill-spares}
 use Rattle.cows.proofs.Remains.{meeting-leaves, leaves-meeting}
 use Rattle.cows.proofs.Steps.{Steps, accepted-steps, steps-accepted}
 use Rattle.cows.proofs.Step.{refusal-silent, output-behind, output-length}
 use Rattle.cows.proofs.Preserving.{step-within}
-use Rattle.cows.proofs.Load.{halt-halt, load-halt}
+use Rattle.cows.proofs.Corollaries.{meeting-unheld, meeting-tightest, kill-spares, halted-twice, halted-load}
 use Rattle.cows.proofs.Run.{load-law, run-balance, run-bound, judgement-step, run-within}
 
 -- 1. Every well-formed table stands for one term, and every term within the limits has one table.
@@ -129,11 +128,11 @@ output-as-long table m out = output-length table m out
 
 -- 6. Halting twice is halting once; what it leaves is the load of the protections reached from the root through parallels, delimitations and
 -- replications only.
-pub halting-twice : (t : Term) → halt (halt t) ≡ halt t
-halting-twice t = halt-halt t
+pub halting-twice : (t s : Term) → Halted t s → Halted s s
+halting-twice t s h = halted-twice h
 
-pub halting-load : (t : Term) → load (halt t) ≡ shielded t
-halting-load t = load-halt t
+pub halting-load : (t s : Term) → Halted t s → load s ≡ shielded t
+halting-load t s h = halted-load h
 
 -- N1 to N12, and the misreadings.
 pub nights : T (every right papers)
