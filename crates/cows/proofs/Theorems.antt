@@ -23,7 +23,7 @@ use Rattle.cows.specs.Papers.{right, papers, papers-right}
 use Rattle.cows.specs.Misreadings.{misreadings, misreadings-right}
 use Rattle.cows.proofs.Format.{encode-bytes, encode-injective}
 use Rattle.cows.proofs.Tables.{judge-encode, judge-within, within-judge}
-use Rattle.cows.proofs.Allows.{allows-unique}
+use Rattle.cows.proofs.Allows.{successor-allows, allows-successor, allows-unique}
 use Rattle.cows.proofs.Remains.{meeting-leaves, leaves-meeting}
 use Rattle.cows.proofs.Steps.{Steps, accepted-steps, steps-accepted}
 use Rattle.cows.proofs.Step.{refusal-silent, output-behind, output-length}
@@ -45,6 +45,10 @@ table-bytes t w = encode-bytes t (w .right)
 -- the limits and fits.
 pub step-accepted : (table m : List ℕ) (room : ℕ) (s : Term) → Bytes table → (judgeStep table m room ≡ accept s) ↔ Steps table m room s
 step-accepted table m room s h = (accepted-steps table m room s h, steps-accepted table m room s)
+
+-- what the definitions compute is what the rules say, and nothing else
+pub rules-computed : (t s : Term) (m : Move) → Within t → (successor t m ≡ accept s) ↔ Allows t m s
+rules-computed t s m w = (successor-allows t s m w, allows-successor t s m w)
 
 -- the successor is determined by the term and the move
 pub one-successor : (t s r : Term) (m : Move) → Within t → Allows t m s → Allows t m r → s ≡ r
