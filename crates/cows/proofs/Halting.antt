@@ -1,7 +1,6 @@
 -- Halting record by record, by the ways (specs/Allows: Halted), is what halt computes (specs/Moves): halt-halted, halted-halt.
 use mathlib.Core.Path.{_≡_, refl, sym, subst, _∙_}
 use mathlib.Core.List.{List, [], _∷_, _++_}
-use Prim.Native.Nat.{_+_}
 use Rattle.cows.specs.Terms.{nil, kill, invoke, receive, wait, protection, delimitation, replication, choice, parallel, Term, leaf, under, both, size}
 use Rattle.cows.specs.Places.{Frame, inside, leftOf, rightOf, Way, Spot, spot, wayTo, sub}
 use Rattle.cows.specs.Format.{Node, basic, prefix, join, nodes, root}
