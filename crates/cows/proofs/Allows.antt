@@ -3,24 +3,30 @@
 use mathlib.Core.Path.{_≡_, refl, sym, ap, subst, _∙_}
 use mathlib.Core.Bool.{true, false, not, _||_}
 use mathlib.Core.Option.{Option, none, some}
-use mathlib.Core.List.{[], _∷_}
+use mathlib.Core.List.{[], _∷_, _++_, map}
 use Prim.Native.Nat.{ℕ, _≤_}
 use native.Mathlib.Omega.{arith}
 use lib.Dec.{ltb, eqb}
 use lib.ListN.{length}
-use borrow.Author.Tests.{ltb-true, ltb-false, eqb-true, ne-eqb, eqb-false, not-false}
-use Rattle.cows.specs.Basics.{every, holds, accept, _>>=_, _>>_, forbid, placeIf}
-use Rattle.cows.specs.Terms.{kill, Prefix, receive, wait, protection, delimitation, replication, choice, parallel, Term, leaf, under, both, Ends, label, size, kills, invokes, prefixed, receives, waits, delimits, replicates, below, binders, atoms}
-use Rattle.cows.specs.Places.{Frame, inside, leftOf, rightOf, plug, Way, fill, wayTo, sub, first, frameChooses}
-use Rattle.cows.specs.Within.{Right, Within}
-use Rattle.cows.specs.Active.{live, wanted}
-use Rattle.cows.specs.Moves.{Substitution, binds, Matching, differs, afterKill, killAt, fit, matched, inScope, heldBack, tighter, silence, continue, mapAtoms, image, bind, communicateAt, timeoutAt, elapse, shorter, elapseBy, renaming, copy, afterUnfold, unfoldAt, fitsPrefix, fitting, exchange, afterExtrude, extrudeAt, Move, Kill, Communicate, Timeout, Elapse, Unfold, Extrude, successor}
-use Rattle.cows.specs.Allows.{Live, Meets, Renames, Parent, onLeft, onRight, protected, delimited, Allows, by-kill, by-communicate, by-timeout, by-elapse, by-unfold, by-extrude}
-use Rattle.cows.proofs.Basics.{never, and-true, or-false, bind-accept, same-accept, forbid-accept, placeIf-none}
+use borrow.Author.Tests.{ltb-true, ltb-false, eq-eqb, eqb-true, ne-eqb, eqb-false, not-false}
+use Rattle.cows.specs.Basics.{any, every, holds, accept, _>>=_, _>>_, forbid, placeIf}
+use Rattle.cows.specs.Terms.{nil, kill, Prefix, receive, wait, protection, delimitation, replication, choice, parallel, Term, leaf, under, both, Ends, variable, label, size, kills, invokes, prefixed, receives, waits, delimits, delimitsAtom, replicates, below, guard, uses, usesBasic, binders, atoms}
+use Rattle.cows.specs.Places.{Frame, inside, leftOf, rightOf, plug, Way, fill, wayTo, sub, first, enclosed, frameChooses}
+use Rattle.cows.specs.Within.{Right, one, counts, Within}
+use Rattle.cows.specs.Active.{passesLive, live, wanted}
+use Rattle.cows.specs.Moves.{Substitution, binds, Matching, differs, haltBeside, haltInside, afterKill, killAt, fit, matched, inScope, heldBack, tighter, silence, continue, bind, communicateAt, timeoutAt, shorter, elapseBy, renaming, copy, afterUnfold, unfoldAt, fitsPrefix, fitting, exchange, afterExtrude, extrudeAt, Move, Kill, Communicate, Timeout, Elapse, Unfold, Extrude, successor}
+use Rattle.cows.specs.Allows.{Stands, Live, Meets, Renames, Ended, Choice, Exchanged, Replaced, Instantiated, Elapsed, Parent, onLeft, onRight, protected, delimited, Allows, by-kill, by-communicate, by-timeout, by-elapse, by-unfold, by-extrude}
+use Rattle.cows.proofs.Basics.{never, and-true, or-false, or-right, not-so, any-append, bind-accept, same-accept, forbid-accept, placeIf-none}
 use Rattle.cows.proofs.Renaming.{renaming-renames, renames-unique}
 use Rattle.cows.proofs.Atoms.{few-binders, few-atoms, binders-right}
-use Rattle.cows.proofs.Stands.{sub-ind, right-at, kills-is, invokeOf, invokes-is, receiveOf, receives-is, waits-is, delimits-is, replicates-is, prefixed-is, wanted-live, live-wanted, first-fails, fails-first, prefixed-stands}
+use Rattle.cows.proofs.Places.{fill-spot}
+use Rattle.cows.proofs.Stands.{sub-ind, right-at, scoped-at, kills-is, invokeOf, invokes-is, receiveOf, receives-is, waits-is, delimits-is, replicates-is, prefixed-is, wanted-live, live-wanted, first-fails, fails-first, prefixed-stands}
 use Rattle.cows.proofs.Meeting.{fit-fits, fits-fit, inScope-reaches, reaches-inScope, heldBack-unheld, unheld-heldBack, tighter-tightest, tightest-tighter}
+use Rattle.cows.proofs.Scopes.{counts-fill, counts-enclosed}
+use Rattle.cows.proofs.Parts.{part-counts, part-silence, part-continue}
+use Rattle.cows.proofs.Recordwise.{map-replaced, replaced-map, elapse-elapsed, elapsed-elapse}
+use Rattle.cows.proofs.Contexts.{halts-ended, ended-halts, halt-cut, nearest, fill-cut, live-unchosen, choice-around, choice-split, Met, exchanged-met, parties-exchanged}
+use Rattle.cows.proofs.Instances.{Unique, instantiated-bind, Distinct, bind-instantiated, matches-distinct, reach-keyed}
 
 -- a live prefix of the kind looked for
 wanted-under : {A : Type 0} (f : Prefix → Option A) (g : A → Prefix) → ((u : Prefix) (x : A) → f u ≡ some x → u ≡ g x) → (t : Term) (n : ℕ) (x : A) → wanted (prefixed f) t n ≡ accept x
@@ -33,6 +39,45 @@ unfolding killAt
 kill-fires t s a e =
     let (k, ek, es) = bind-accept (wanted kills t a) _ s e in
     (k, wanted-live kills t a k _ (kills-is (sub t a) k) ek, same-accept es)
+
+-- there is but one [k]
+kill-once : (t s : Term) (a k : ℕ) (v w : Way) → Within t → sub t a ≡ s → wayTo t a ≡ v ++ (inside (delimitation k) ∷ w) → enclosed k v ≡ false
+unfolding delimitsAtom delimits holds
+kill-once t s a k v w h q e =
+    let whole : t ≡ fill w (under (delimitation k) (fill v s)) = sym (fill-spot t a) ∙ (ap (fill (wayTo t a)) q ∙ fill-cut k v w (wayTo t a) e s) in
+    not-so (λ n. omega (arith, h .formed .unique k, ap (counts k) whole, counts-fill w (under (delimitation k) (fill v s)) k, ap one (eq-eqb k k refl), counts-enclosed v s k n))
+
+kill-after : (t : Term) (a k : ℕ) (v u w : Way) → wayTo t a ≡ v ++ (inside (delimitation k) ∷ w) → enclosed k v ≡ false → Ended v u
+    → afterKill k t a ≡ fill w (under (delimitation k) (fill u (leaf nil)))
+unfolding afterKill
+kill-after t a k v u w e n h =
+    ap (λ z. fill (haltInside k z) (leaf nil)) e ∙ (ap (λ z. fill z (leaf nil)) (halt-cut k v w n)
+    ∙ (fill-cut k (map haltBeside v) w _ refl (leaf nil) ∙ ap (λ z. fill w (under (delimitation k) (fill z (leaf nil)))) (sym (ended-halts h))))
+
+-- a kill stands inside the [k] of its label
+kill-enclosed : (t : Term) (a k : ℕ) → Within t → Stands t a (leaf (kill k)) → enclosed k (wayTo t a) ≡ true
+unfolding uses usesBasic
+kill-enclosed t a k w h =
+    rw (h .stands) at (scoped-at (λ c. variable c || label c) t a (w .formed .closed)) .0
+    (or-right (variable k) (label k) (subst Right (h .stands) (right-at t a (w .right))))
+
+-- what a live kill of k leaves: the way to it is v inside its [k] and w outside, and v becomes u
+abbrev pub KillLeaves : Term → ℕ → ℕ → Term → Type 0
+KillLeaves t a k s =
+    (v : Way) × (u : Way) × (w : Way) × (wayTo t a ≡ v ++ (inside (delimitation k) ∷ w)) × (enclosed k v ≡ false) × Ended v u
+    × (s ≡ fill w (under (delimitation k) (fill u (leaf nil))))
+
+pub kill-leaves : (t : Term) (a k : ℕ) → Within t → Live t a (leaf (kill k)) → KillLeaves t a k (afterKill k t a)
+kill-leaves t a k h l =
+    let (v, w, c, n) = nearest k (wayTo t a) (kill-enclosed t a k h (l .at)) in
+    let d = halts-ended v (or-false (any frameChooses v) _ (rw (c, any-append) at (live-unchosen t a (leaf (kill k)) (h .formed .guarded) l (unfold guard in refl))) .0) in
+    (v, map haltBeside v, w, c, n, d, kill-after t a k v _ w c n d)
+
+kill-allows : (t s : Term) (a : ℕ) → Within t → killAt t a ≡ accept s → Allows t (Kill a) s
+kill-allows t s a h e =
+    let (k, l, q) = kill-fires t s a e in
+    let (v, u, w, c, n, d, z) = kill-leaves t a k h l in
+    subst (Allows t (Kill a)) (sym z ∙ q) (by-kill a k v u w l c d)
 
 allows-kill : (t : Term) (a k : ℕ) → Live t a (leaf (kill k)) → killAt t a ≡ accept (afterKill k t a)
 unfolding killAt _>>=_ kills
@@ -75,7 +120,7 @@ communicate-meets t s a b e =
     let (tg, e₆) = forbid-accept 15 (first (tighter m (length σ)) t) _ s e₅ in
     (σ, meets t a b r m σ er em (matched-accept a (fit r m) σ eσ) (not-false _ (placeIf-none _ a sc)) hb tg, same-accept e₆)
 
-meets-communicate : (t : Term) (a b : ℕ) (σ : Substitution) → Meets t a b σ → communicateAt t a b ≡ accept (bind σ (continue (silence t b) a))
+pub meets-communicate : (t : Term) (a b : ℕ) (σ : Substitution) → Meets t a b σ → communicateAt t a b ≡ accept (bind σ (continue (silence t b) a))
 unfolding communicateAt _>>=_ _>>_ forbid matched placeIf prefixed receives invokes
 meets-communicate t a b σ h =
     let r : Ends = record { partner = h .partner; operation = h .operation; tuple = h .pattern } in
@@ -89,18 +134,58 @@ meets-communicate t a b σ h =
       tightest-tighter t m (length σ) (h .tightest),
     )
 
+-- what a meeting leaves before its variables are bound
+module _ (t : Term) (a b : ℕ) (σ : Substitution) (h : Meets t a b σ) where
+  met : {r : Term} → Exchanged t a b (h .body) r → Met t a b (h .body) r
+  met = exchanged-met t a b _ (h .body) _ (h .receiver) (h .sender)
+
+  exchanges : Within t → (r : Term) × Exchanged t a b (h .body) r
+  exchanges w = parties-exchanged t a b _ (h .body) _ (h .receiver) (h .sender) (unfold passesLive in refl) (unfold guard in refl) (w .formed .guarded)
+
+  met-unique : {r : Term} → Within t → Exchanged t a b (h .body) r → Unique r
+  unfolding prefixed delimits
+  met-unique {r} w e =
+      let m = met e in
+      let p = part-continue (silence t b) a (rw (m .guard-there _ (h .receiver .at .stands)) refl) .1 in
+      subst Unique (m .continues) (λ c. omega (arith, part-counts p c, part-counts (part-silence t b) c, w .formed .unique c))
+
+  met-distinct : Within t → Distinct σ
+  met-distinct w = matches-distinct (h .matches) (subst Right (h .receiver .at .stands) (right-at t a (w .right)) .0 .3)
+
+communicate-allows : (t s : Term) (a b : ℕ) → Within t → communicateAt t a b ≡ accept s → Allows t (Communicate a b) s
+communicate-allows t s a b w e =
+    let (σ, h, q) = communicate-meets t s a b e in
+    let (r, x) = exchanges t a b σ h w in
+    let m = met t a b σ h x in
+    let i = bind-instantiated σ r (met-unique t a b σ h w x) (met-distinct t a b σ h w) (reach-keyed t a b r (m .encloses) σ (h .scoped)) in
+    by-communicate a b σ r s h x (subst (Instantiated σ r) (ap (bind σ) (sym (m .continues)) ∙ q) i)
+
+allows-communicate : (t s : Term) (a b : ℕ) (σ : Substitution) (r : Term) → Within t → (h : Meets t a b σ) → Exchanged t a b (h .body) r → Instantiated σ r s
+    → communicateAt t a b ≡ accept s
+allows-communicate t s a b σ r w h x i =
+    meets-communicate t a b σ h ∙ ap accept (ap (bind σ) (met t a b σ h x .continues) ∙ instantiated-bind (met-unique t a b σ h w x) i)
+
 -- timeout
+continue-leaves : (t : Term) (a : ℕ) (u : Prefix) (r : Term) (c w : Way) → sub t a ≡ under u r → wayTo t a ≡ c ++ w → Choice c w → continue t a ≡ fill w r
+unfolding continue below
+continue-leaves t a u r c w e q h = rw (e, q, choice-around c w h)
+
+timeout-leaves : (t : Term) (a : ℕ) (r : Term) → Live t a (under (wait 0) r) → Allows t (Timeout a) (continue t a)
+timeout-leaves t a r l =
+    let (c, w, q, h) = choice-split (wayTo t a) in
+    subst (Allows t (Timeout a)) (sym (continue-leaves t a (wait 0) r c w (l .at .stands) q h)) (by-timeout a r c w l q h)
+
 timeout-allows : (t s : Term) (a : ℕ) → timeoutAt t a ≡ accept s → Allows t (Timeout a) s
 unfolding timeoutAt
 timeout-allows t s a e =
     let (i, ei, e₁) = bind-accept (wanted (prefixed waits) t a) _ s e in
     let (z, e₂) = forbid-accept 16 (placeIf (not (eqb i 0)) a) _ s e₁ in
     let q = eqb-true i 0 (not-false _ (placeIf-none _ a z)) in
-    subst (Allows t (Timeout a)) (same-accept e₂) (by-timeout a (below (sub t a)) (rw q at (wanted-under waits wait waits-is t a i ei)))
+    subst (Allows t (Timeout a)) (same-accept e₂) (timeout-leaves t a (below (sub t a)) (rw q at (wanted-under waits wait waits-is t a i ei)))
 
-allows-timeout : (t : Term) (a : ℕ) (s : Term) → Live t a (under (wait 0) s) → timeoutAt t a ≡ accept (continue t a)
+allows-timeout : (t : Term) (a : ℕ) (r : Term) (c w : Way) → Live t a (under (wait 0) r) → wayTo t a ≡ c ++ w → Choice c w → timeoutAt t a ≡ accept (fill w r)
 unfolding timeoutAt _>>=_ _>>_ forbid placeIf prefixed waits
-allows-timeout t a s l = rw (live-wanted (prefixed waits) t a 0 (under (wait 0) s) refl l)
+allows-timeout t a r c w l q h = rw (live-wanted (prefixed waits) t a 0 (under (wait 0) r) refl l) (ap accept (continue-leaves t a (wait 0) r c w (l .at .stands) q h))
 
 -- elapse
 abbrev Covered : Term → ℕ → Type 0
@@ -122,11 +207,11 @@ unfolding elapseBy
 elapse-allows t s d e =
     let (z, e₁) = forbid-accept 17 (placeIf (eqb d 0) 0) _ s e in
     let (n, e₂) = forbid-accept 17 (first (shorter d) t) _ s e₁ in
-    subst (Allows t (Elapse d)) (same-accept e₂) (by-elapse d (omega (arith, eqb-false d 0 (placeIf-none _ 0 z))) (shorter-covered t d n))
+    subst (Allows t (Elapse d)) (same-accept e₂) (by-elapse d _ (omega (arith, eqb-false d 0 (placeIf-none _ 0 z))) (shorter-covered t d n) (elapse-elapsed d t))
 
-allows-elapse : (t : Term) (d : ℕ) → 1 ≤ d → Covered t d → elapseBy t d ≡ accept (elapse d t)
+allows-elapse : (t s : Term) (d : ℕ) → 1 ≤ d → Covered t d → Elapsed d t s → elapseBy t d ≡ accept s
 unfolding elapseBy _>>_ forbid placeIf
-allows-elapse t d h k = rw (ne-eqb d 0 (λ q. omega arith), covered-shorter t d k)
+allows-elapse t s d h k e = rw (ne-eqb d 0 (λ q. omega arith), covered-shorter t d k) (ap accept (sym (elapsed-elapse d t s e)))
 
 -- unfold: there is room for new atoms
 body-right : (t s : Term) (a : ℕ) → sub t a ≡ under replication s → Right t → Right s
@@ -141,24 +226,25 @@ copy-renames t s a w e =
     renaming-renames (atoms t) (binders s) (binders-right s (body-right t s a e (w .right)))
     (omega (arith, w .small, few-atoms t (w .right), few-binders s, body-size t s a e))
 
-unfolded-is : (t s : Term) (a : ℕ) (σ : Substitution) → sub t a ≡ under replication s → renaming (atoms t) (binders s) ≡ σ
-    → afterUnfold t a ≡ fill (wayTo t a) (both parallel (mapAtoms (image σ) s) (under replication s))
+unfolded-is : (t s c : Term) (a : ℕ) (σ : Substitution) → sub t a ≡ under replication s → renaming (atoms t) (binders s) ≡ σ → Replaced σ s c
+    → afterUnfold t a ≡ fill (wayTo t a) (both parallel c (under replication s))
 unfolding afterUnfold copy below
-unfolded-is t s a σ e q = rw (e, q)
+unfolded-is t s c a σ e q h = rw (e, q, replaced-map σ s c h)
 
 unfold-allows : (t s : Term) (a : ℕ) → Within t → unfoldAt t a ≡ accept s → Allows t (Unfold a) s
 unfolding unfoldAt
 unfold-allows t s a w e =
     let (i, ei, e₁) = bind-accept (wanted (prefixed replicates) t a) _ s e in
     let l = wanted-under replicates (λ x. replication) replicates-is t a i ei in
-    subst (Allows t (Unfold a)) (sym (unfolded-is t _ a _ (l .at .stands) refl) ∙ same-accept e₁) (by-unfold a _ _ l (copy-renames t _ a w (l .at .stands)))
+    let c = map-replaced (renaming (atoms t) (binders (below (sub t a)))) (below (sub t a)) in
+    subst (Allows t (Unfold a)) (sym (unfolded-is t _ _ a _ (l .at .stands) refl c) ∙ same-accept e₁) (by-unfold a _ _ _ l (copy-renames t _ a w (l .at .stands)) c)
 
-allows-unfold : (t : Term) (a : ℕ) (s : Term) (σ : Substitution) → Within t → Live t a (under replication s) → Renames (atoms t) (binders s) σ
-    → unfoldAt t a ≡ accept (fill (wayTo t a) (both parallel (mapAtoms (image σ) s) (under replication s)))
+allows-unfold : (t : Term) (a : ℕ) (s c : Term) (σ : Substitution) → Within t → Live t a (under replication s) → Renames (atoms t) (binders s) σ → Replaced σ s c
+    → unfoldAt t a ≡ accept (fill (wayTo t a) (both parallel c (under replication s)))
 unfolding unfoldAt _>>=_ prefixed replicates
-allows-unfold t a s σ w l r =
+allows-unfold t a s c σ w l r h =
     let e = l .at .stands in
-    rw (live-wanted (prefixed replicates) t a tt (under replication s) refl l) (ap accept (unfolded-is t s a σ e (renames-unique (copy-renames t s a w e) r)))
+    rw (live-wanted (prefixed replicates) t a tt (under replication s) refl l) (ap accept (unfolded-is t s c a σ e (renames-unique (copy-renames t s a w e) r) h))
 
 -- extrude
 fitting-parent : (w : Way) → fitting w ≡ true → (f : Frame) × (v : Way) × (w ≡ f ∷ v) × Parent f
@@ -204,12 +290,8 @@ allows-extrude t a d s f w l h q p =
 -- the six together
 pub successor-allows : (t s : Term) (m : Move) → Within t → successor t m ≡ accept s → Allows t m s
 unfolding successor
-successor-allows t s (Kill a) w e =
-    let (k, l, q) = kill-fires t s a e in
-    subst (Allows t (Kill a)) q (by-kill a k l)
-successor-allows t s (Communicate a b) w e =
-    let (σ, h, q) = communicate-meets t s a b e in
-    subst (Allows t (Communicate a b)) q (by-communicate a b σ h)
+successor-allows t s (Kill a) w e = kill-allows t s a w e
+successor-allows t s (Communicate a b) w e = communicate-allows t s a b w e
 successor-allows t s (Timeout a) w e = timeout-allows t s a e
 successor-allows t s (Elapse d) w e = elapse-allows t s d e
 successor-allows t s (Unfold a) w e = unfold-allows t s a w e
@@ -217,11 +299,11 @@ successor-allows t s (Extrude a) w e = extrude-allows t s a e
 
 pub allows-successor : (t s : Term) (m : Move) → Within t → Allows t m s → successor t m ≡ accept s
 unfolding successor
-allows-successor t s m w (by-kill a k l) = allows-kill t a k l
-allows-successor t s m w (by-communicate a b σ h) = meets-communicate t a b σ h
-allows-successor t s m w (by-timeout a r l) = allows-timeout t a r l
-allows-successor t s m w (by-elapse d h k) = allows-elapse t d h k
-allows-successor t s m w (by-unfold a r σ l h) = allows-unfold t a r σ w l h
+allows-successor t s m w (by-kill a k v u z l e h) = allows-kill t a k l ∙ ap accept (kill-after t a k v u z e (kill-once t _ a k v z w (l .at .stands) e) h)
+allows-successor t s m w (by-communicate a b σ r q h x i) = allows-communicate t q a b σ r w h x i
+allows-successor t s m w (by-timeout a r c z l q h) = allows-timeout t a r c z l q h
+allows-successor t s m w (by-elapse d q h k e) = allows-elapse t q d h k e
+allows-successor t s m w (by-unfold a r c σ l h k) = allows-unfold t a r c σ w l h k
 allows-successor t s m w (by-extrude a d r f v l h q p) = allows-extrude t a d r f v l h q p
 
 pub allows-unique : (t s r : Term) (m : Move) → Within t → Allows t m s → Allows t m r → s ≡ r

@@ -11,12 +11,12 @@ use Rattle.cows.specs.Basics.{any, every, member, holds, found, accept}
 use Rattle.cows.specs.Terms.{nil, kill, invoke, Prefix, receive, wait, protection, delimitation, replication, choice, parallel, Term, leaf, under, both, Ends, value, variable, label, datum, size, invokes, prefixed, delimits, delimitsAtom, guard, usesBasic, usesPrefix, binders}
 use Rattle.cows.specs.Places.{inside, leftOf, rightOf, Way, wayTo, first, frameDelimits, enclosed}
 use Rattle.cows.specs.Within.{Right, Guarded, one, counts, restricted, nowhere, Formed}
-use Rattle.cows.specs.Moves.{Substitution, Matching, binds, differs, extend, match, closedEnds, fit, matched, outside, inScope, mapAtoms, image, instantiate, bind}
+use Rattle.cows.specs.Moves.{Substitution, Matching, binds, differs, extend, match, closedEnds, fit, matched, outside, inScope, image, instantiate, bind}
 use Rattle.cows.proofs.Basics.{never, cond-case, and-true, and-not, or-false, or-left, or-right, or-second, or-case, not-so, found-none, holds-some, same-accept}
 use Rattle.cows.proofs.Places.{Everywhere, at-first, at-under, at-left, at-right, Fails, first-none}
 use Rattle.cows.proofs.Sets.{value-range, variable-range, label-range}
 use Rattle.cows.proofs.Scopes.{Rule, inner, Used, local, Need, Inside, Weakens, And, inside-refl, need-weakens, all-map, used-mono, used-both, used-any, used-scoped, scoped-used, restricted-mono}
-use Rattle.cows.proofs.Mapping.{Carries, Fits, guarded-mapped, used-mapped, counts-mapped, right-mapped}
+use Rattle.cows.proofs.Mapping.{Carries, Fits, guarded-mapped, used-mapped, counts-at, right-mapped}
 use Rattle.cows.proofs.Parts.{Sound, Part, part-used, part-counts}
 
 -- Where x is used, v may be used by the rule P.
@@ -117,16 +117,12 @@ module _ (x v : ℕ) (vx : variable x ≡ true) (vv : value v ≡ true) where
   guarded-instantiate (both parallel s t) h = (tt, guarded-instantiate s (h .1), guarded-instantiate t (h .2))
 
   -- delimitations: there is no second [x]
-  pub counts-at : (t : Term) → counts x t ≡ 0 → (a : ℕ) → counts a (mapAtoms at t) ≡ counts a t
-  counts-at t z a =
-      counts-mapped at a a t (λ d l. at-case (λ c. eqb a c ≡ eqb a d) d (λ e. absurd (omega (arith, ap (λ c. counts c t) (eqb-true d x e)))) (λ e. refl))
-
   counts-instantiate : (t : Term) → counts x t ≤ 1 → (a : ℕ) → counts a (instantiate x v t) ≤ counts a t
   unfolding instantiate
   counts-instantiate (leaf y) l a = omega arith
   counts-instantiate (under u t) l a =
       cond-case (λ r. counts a r ≤ one (delimitsAtom a u) + counts a t) (delimitsAtom x u)
-      (λ e. omega (arith, counts-at t (omega (arith, ap one e)) a)) (λ e. omega (arith, counts-instantiate t (omega arith) a))
+      (λ e. omega (arith, counts-at x v t (omega (arith, ap one e)) a)) (λ e. omega (arith, counts-instantiate t (omega arith) a))
   counts-instantiate (both j s t) l a = omega (arith, counts-instantiate s (omega arith) a, counts-instantiate t (omega arith) a)
 
   -- scopes: outside [x] nothing changes; inside it, all atoms delimited around a use but x stay so

@@ -1,24 +1,23 @@
 -- Demand 2 in accepted moves: a ready kill holds back the meetings in its scope, the receive that binds fewest variables goes first,
--- and a kill spares, inside its scope, only what halting keeps.
-use mathlib.Core.Path.{_≡_, refl, sym, ap, subst, _∙_}
-use mathlib.Core.Bool.{Bool, true, false, _||_}
-use mathlib.Core.Option.{some}
-use mathlib.Core.List.{List, [], _∷_, _++_, map}
+-- and a kill halts what stands parallel to it inside its scope. What halting leaves.
+use mathlib.Core.Path.{_≡_, sym, ap, subst, _∙_}
+use mathlib.Core.Bool.{false}
+use mathlib.Core.List.{List, _∷_, _++_}
 use Prim.Native.Nat.{ℕ}
-use lib.Dec.{eqb}
 use lib.ListN.{length}
-use borrow.Author.Tests.{eqb-true}
-use Rattle.cows.specs.Basics.{any, accept}
-use Rattle.cows.specs.Terms.{nil, kill, invoke, receive, delimitation, Term, leaf, under, variable, label, delimitsAtom, delimits, uses, usesBasic}
-use Rattle.cows.specs.Places.{Frame, inside, leftOf, rightOf, plug, Way, fill, wayTo, sub, frameDelimits, enclosed}
-use Rattle.cows.specs.Within.{Right, Within}
-use Rattle.cows.specs.Moves.{Substitution, haltBeside, haltInside, afterKill, Kill, Communicate, successor}
-use Rattle.cows.specs.Allows.{Stands, Meets, Matches, Unheld, Tightest}
-use Rattle.cows.proofs.Basics.{never, or-right, holds-some}
-use Rattle.cows.proofs.Places.{fill-spot, fill-append}
-use Rattle.cows.proofs.Stands.{right-at, delimits-is, scoped-at}
+use Rattle.cows.specs.Basics.{accept}
+use Rattle.cows.specs.Terms.{nil, kill, invoke, receive, delimitation, Term, leaf, under}
+use Rattle.cows.specs.Places.{inside, Way, fill, wayTo, sub, enclosed}
+use Rattle.cows.specs.Within.{Within}
+use Rattle.cows.specs.Moves.{Substitution, halt, afterKill, Kill, Communicate, successor}
+use Rattle.cows.specs.Allows.{Stands, Meets, Matches, Unheld, Tightest, Halted, Ended}
+use Rattle.cows.specs.Load.{load, shielded}
+use Rattle.cows.proofs.Places.{fill-spot}
 use Rattle.cows.proofs.Meeting.{matches-unique}
-use Rattle.cows.proofs.Allows.{kill-fires, communicate-meets}
+use Rattle.cows.proofs.Halting.{halt-halted, halted-halt}
+use Rattle.cows.proofs.Load.{halt-halt, load-halt}
+use Rattle.cows.proofs.Contexts.{fill-cut}
+use Rattle.cows.proofs.Allows.{kill-fires, kill-leaves, communicate-meets}
 
 -- No [k] around either party of an accepted meeting holds a ready kill of k.
 pub meeting-unheld : (t s : Term) (a b : ℕ) → Within t → successor t (Communicate a b) ≡ accept s → Unheld t a × Unheld t b
@@ -46,50 +45,24 @@ meeting-tightest t s a b p o ws vs r σ w e ra ib m =
     let (τ, h, q) = communicate-meets t s a b e in
     tightest-met t a b p o ws vs r σ τ h (ra .stands) (ib .stands) m
 
--- the way from a kill(k), cut at the nearest [k]
-abbrev Cut : ℕ → Way → Type 0
-Cut k z = (v : Way) × (w : Way) × (z ≡ v ++ (inside (delimitation k) ∷ w)) × (enclosed k v ≡ false) × (haltInside k z ≡ map haltBeside v ++ (inside (delimitation k) ∷ w))
-
-frame-is : (k : ℕ) (f : Frame) → frameDelimits k f ≡ true → f ≡ inside (delimitation k)
-unfolding frameDelimits delimitsAtom
-frame-is k (inside u) e =
-    let (d, is, q) = holds-some (eqb k) (delimits u) e in
-    ap inside (delimits-is u k (is ∙ ap some (sym (eqb-true k d q))))
-frame-is k (leftOf j t) e = never e
-frame-is k (rightOf j s) e = never e
-
-cut : (k : ℕ) (z : Way) → enclosed k z ≡ true → Cut k z
-unfolding enclosed any haltInside
-cut k [] e = never e
-cut k (f ∷ z) e = go (frameDelimits k f) refl e (cut k z)
-  where
-    go : (b : Bool) → frameDelimits k f ≡ b → (b || enclosed k z) ≡ true → (enclosed k z ≡ true → Cut k z) → Cut k (f ∷ z)
-    go true p h r = ([], z, ap (λ g. g ∷ z) (frame-is k f p), refl, rw p (ap (λ g. g ∷ z) (frame-is k f p)))
-    go false p h r =
-        let (v, w, e, n, q) = r h in
-        (f ∷ v, w, ap (λ l. f ∷ l) e, rw p n, rw p (ap (λ l. haltBeside f ∷ l) q))
-
-fill-cut : (k : ℕ) (v w z : Way) → z ≡ v ++ (inside (delimitation k) ∷ w) → (s : Term) → fill z s ≡ fill w (under (delimitation k) (fill v s))
-unfolding fill plug
-fill-cut k v w z e s = ap (λ l. fill l s) e ∙ fill-append v (inside (delimitation k) ∷ w) s
-
--- a kill stands inside the [k] of its label
-kill-enclosed : (t : Term) (a k : ℕ) → Within t → Stands t a (leaf (kill k)) → enclosed k (wayTo t a) ≡ true
-unfolding uses usesBasic
-kill-enclosed t a k w h =
-    rw (h .stands) at (scoped-at (λ c. variable c || label c) t a (w .formed .closed)) .0
-    (or-right (variable k) (label k) (subst Right (h .stands) (right-at t a (w .right))))
-
--- An accepted kill of k: the way to it is v inside its [k] and w outside. Outside nothing changes; inside, of what stands parallel to the kill only
--- what halting keeps is left, also where a protection on the way holds the kill.
+-- An accepted kill of k: the way to it is v inside its [k] and w outside. Outside nothing changes; inside, what stands parallel to the kill is halted, also
+-- where a protection on the way holds the kill.
 pub kill-spares : (t s : Term) (a k : ℕ) → Within t → successor t (Kill a) ≡ accept s → Stands t a (leaf (kill k))
-    → (v : Way) × (w : Way) × (wayTo t a ≡ v ++ (inside (delimitation k) ∷ w)) × (enclosed k v ≡ false)
-    × (t ≡ fill w (under (delimitation k) (fill v (leaf (kill k))))) × (s ≡ fill w (under (delimitation k) (fill (map haltBeside v) (leaf nil))))
-unfolding successor afterKill
+    → (v : Way) × (u : Way) × (w : Way) × (wayTo t a ≡ v ++ (inside (delimitation k) ∷ w)) × (enclosed k v ≡ false) × Ended v u
+    × (t ≡ fill w (under (delimitation k) (fill v (leaf (kill k))))) × (s ≡ fill w (under (delimitation k) (fill u (leaf nil))))
+unfolding successor
 kill-spares t s a k h e st =
     let (i, l, q) = kill-fires t s a e in
     let same : i ≡ k = cc (l .at .stands, st .stands) in
-    let (v, w, c, n, p) = cut k (wayTo t a) (kill-enclosed t a k h st) in
+    let (v, u, w, c, n, d, z) = kill-leaves t a k h (rw same at l) in
     let before = sym (fill-spot t a) ∙ (ap (fill (wayTo t a)) (st .stands) ∙ fill-cut k v w _ c (leaf (kill k))) in
-    let after = sym q ∙ (ap (λ d. afterKill d t a) same ∙ fill-cut k (map haltBeside v) w _ p (leaf nil)) in
-    (v, w, c, n, before, after)
+    (v, u, w, c, n, d, before, sym q ∙ (ap (λ j. afterKill j t a) same ∙ z))
+
+-- Halting twice is halting once; what it leaves has the load of what is shielded.
+pub halted-twice : {t s : Term} → Halted t s → Halted s s
+halted-twice {t} {s} h =
+    let e = halted-halt h in
+    subst (λ r. Halted r r) (sym e) (subst (Halted (halt t)) (halt-halt t) (halt-halted (halt t)))
+
+pub halted-load : {t s : Term} → Halted t s → load s ≡ shielded t
+halted-load {t} h = ap load (halted-halt h) ∙ load-halt t

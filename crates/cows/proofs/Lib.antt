@@ -12,6 +12,10 @@ pub mod Stands
 pub mod Reach
 pub mod Ways
 pub mod Scans
+pub mod Gathered
+pub mod Halting
+pub mod Contexts
+pub mod Recordwise
 pub mod Meeting
 pub mod Scopes
 pub mod Atoms
@@ -20,8 +24,11 @@ pub mod Extrusion
 pub mod Silence
 pub mod Mapping
 pub mod Binding
+pub mod Binds
 pub mod Unfolding
 pub mod Preserving
+pub mod Instances
+pub mod Remains
 pub mod Allows
 pub mod Corollaries
 pub mod Accepts

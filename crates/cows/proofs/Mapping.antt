@@ -11,8 +11,8 @@ use Rattle.cows.specs.Basics.{any, every, member, holds}
 use Rattle.cows.specs.Terms.{Basic, nil, kill, invoke, Prefix, receive, wait, protection, delimitation, replication, choice, parallel, Term, leaf, under, both, value, variable, label, datum, atom, delimits, delimitsAtom, guard, usesBasic, usesPrefix}
 use Rattle.cows.specs.Format.{distinct}
 use Rattle.cows.specs.Within.{RightTuple, RightBasic, RightPrefix, Right, Guarded, one, counts}
-use Rattle.cows.specs.Moves.{mapBasic, mapPrefix, mapAtoms}
-use Rattle.cows.proofs.Basics.{never, and-true, true-and, not-mono, or-left, or-both, or-case}
+use Rattle.cows.specs.Moves.{mapBasic, mapPrefix, mapAtoms, image}
+use Rattle.cows.proofs.Basics.{never, cond-case, and-true, true-and, not-mono, or-left, or-both, or-case}
 use Rattle.cows.proofs.Scopes.{All, Rule, inner, Used}
 
 -- guards
@@ -92,6 +92,13 @@ counts-mapped f a b (leaf x) h = refl
 counts-mapped f a b (under u t) h =
     omega (arith, ap one (delimits-mapped f a b u (λ d e. h d (omega (arith, ap one e)))), counts-mapped f a b t (λ d l. h d (omega arith)))
 counts-mapped f a b (both j s t) h = omega (arith, counts-mapped f a b s (λ d l. h d (omega arith)), counts-mapped f a b t (λ d l. h d (omega arith)))
+
+-- where x is not delimited, another atom for it changes no delimitation
+pub counts-at : (x v : ℕ) (t : Term) → counts x t ≤ 0 → (a : ℕ) → counts a (mapAtoms (image ((x, v) ∷ [])) t) ≡ counts a t
+unfolding image
+counts-at x v t z a =
+    counts-mapped (image ((x, v) ∷ [])) a a t
+    (λ d l. cond-case (λ c. eqb a c ≡ eqb a d) (eqb d x) (λ e. absurd (omega (arith, ap (λ c. counts c t) (eqb-true d x e)))) (λ e. refl))
 
 -- every atom delimited afterwards is the image of one delimited before
 delimits-source : (f : ℕ → ℕ) (b : ℕ) (u : Prefix) → delimitsAtom b (mapPrefix f u) ≡ true → (d : ℕ) × (delimitsAtom d u ≡ true) × (b ≡ f d)

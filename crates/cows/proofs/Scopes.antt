@@ -168,6 +168,10 @@ unfolding member any optional holds
 member-optional a none = refl
 member-optional a (some d) = or-none (eqb a d)
 
+pub one-false : (b : Bool) → one b ≤ 0 → b ≡ false
+one-false true h = absurd (omega arith)
+one-false false h = refl
+
 one-positive : (b : Bool) → b ≡ ltb 0 (one b)
 one-positive true = refl
 one-positive false = refl

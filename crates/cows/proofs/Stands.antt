@@ -10,7 +10,7 @@ use native.Mathlib.Nat.{zero-add}
 use lib.Dec.{ltb, eqb}
 use borrow.Author.Tests.{ltb-true, lt-ltb, eqb-true, eq-eqb}
 use Rattle.cows.specs.Basics.{any, member, holds, found, accept}
-use Rattle.cows.specs.Terms.{Basic, nil, kill, invoke, Prefix, receive, wait, protection, delimitation, replication, Join, Term, leaf, under, both, Ends, size, kills, invokes, prefixed, receives, waits, delimits, replicates, below, uses, optional, binders}
+use Rattle.cows.specs.Terms.{Basic, nil, kill, invoke, Prefix, receive, wait, protection, delimitation, replication, Join, Term, leaf, under, both, Ends, size, kills, invokes, prefixed, receives, waits, delimits, delimitsAtom, replicates, below, uses, optional, binders}
 use Rattle.cows.specs.Places.{inside, leftOf, rightOf, Way, Spot, descend, spot, wayTo, sub, first, frameDelimits, enclosed}
 use Rattle.cows.specs.Within.{Right, Bound, Scoped, nowhere}
 use Rattle.cows.specs.Active.{live, wanted}
@@ -84,6 +84,12 @@ delimits-is (wait i) d e = cc
 delimits-is protection d e = cc
 delimits-is (delimitation c) d e = cc
 delimits-is replication d e = cc
+
+pub delimits-atom : (d : ℕ) (u : Prefix) → delimitsAtom d u ≡ true → u ≡ delimitation d
+unfolding delimitsAtom
+delimits-atom d u e =
+    let (c, is, q) = holds-some (eqb d) (delimits u) e in
+    delimits-is u d (is ∙ ap some (sym (eqb-true d c q)))
 
 pub replicates-is : (u : Prefix) (i : Unit {0}) → replicates u ≡ some i → u ≡ replication
 unfolding replicates

@@ -2,7 +2,7 @@
 use mathlib.Core.Path.{_≡_, sym, ap, _∙_}
 use mathlib.Core.Logic.{_≢_, _↔_}
 use mathlib.Core.Bool.{false}
-use mathlib.Core.List.{List, _++_, _∷_, map}
+use mathlib.Core.List.{List, _++_, _∷_}
 use Prim.Native.Nat.{ℕ, _+_, _*_, _≤_}
 use native.Mathlib.Omega.{arith}
 use lib.Dec.{T}
@@ -13,8 +13,9 @@ use Rattle.cows.specs.Places.{inside, Way, fill, wayTo, sub, enclosed}
 use Rattle.cows.specs.Format.{Bytes, encode}
 use Rattle.cows.specs.Tables.{judge}
 use Rattle.cows.specs.Within.{Within}
-use Rattle.cows.specs.Moves.{halt, haltBeside, Substitution, silence, Move, Kill, Communicate, Timeout, Elapse, Unfold, Extrude, successor}
-use Rattle.cows.specs.Allows.{Stands, Matches, Unheld, Tightest, Allows}
+use Rattle.cows.specs.Moves.{Substitution, silence, Move, Kill, Communicate, Timeout, Elapse, Unfold, Extrude, successor}
+use Rattle.cows.specs.Allows.{Stands, Meets, Matches, Unheld, Tightest, Halted, Ended, Allows}
+use Rattle.cows.specs.Remains.{MeetingLeaves}
 use Rattle.cows.specs.Step.{judgeStep, stepTerm, stepReply, stepOutput}
 use Rattle.cows.specs.Accepts.{Accepts}
 use Rattle.cows.specs.Load.{load, shielded, endedBy, dropped, lost, spent, copies}
@@ -23,12 +24,12 @@ use Rattle.cows.specs.Papers.{right, papers, papers-right}
 use Rattle.cows.specs.Misreadings.{misreadings, misreadings-right}
 use Rattle.cows.proofs.Format.{encode-bytes, encode-injective}
 use Rattle.cows.proofs.Tables.{judge-encode, judge-within, within-judge}
-use Rattle.cows.proofs.Allows.{allows-unique}
-use Rattle.cows.proofs.Corollaries.{meeting-unheld, meeting-tightest, kill-spares}
+use Rattle.cows.proofs.Allows.{successor-allows, allows-successor, allows-unique}
+use Rattle.cows.proofs.Remains.{meeting-leaves, leaves-meeting}
 use Rattle.cows.proofs.Accepts.{accepted-accepts, accepts-accepted, accepts-one, accepts-within}
 use Rattle.cows.proofs.Step.{answer-accepts, refusal-silent, output-behind, output-length}
 use Rattle.cows.proofs.Preserving.{step-within}
-use Rattle.cows.proofs.Load.{halt-halt, load-halt}
+use Rattle.cows.proofs.Corollaries.{meeting-unheld, meeting-tightest, kill-spares, halted-twice, halted-load}
 use Rattle.cows.proofs.Run.{load-law, run-balance, run-bound, judgement-step, run-within}
 
 -- 1. Every well-formed table stands for one term, and every term within the limits has one table.
@@ -54,6 +55,10 @@ answer-zero table m out = answer-accepts table m out
 pub one-accepted : (table m : List ℕ) (room : ℕ) (s u : Term) → Accepts table m room s → Accepts table m room u → s ≡ u
 one-accepted table m room s u a b = accepts-one table m room s u a b
 
+-- what the definitions compute is what the rules say, and nothing else
+pub rules-computed : (t s : Term) (m : Move) → Within t → (successor t m ≡ accept s) ↔ Allows t m s
+rules-computed t s m w = (successor-allows t s m w, allows-successor t s m w)
+
 -- the successor is determined by the term and the move
 pub one-successor : (t s r : Term) (m : Move) → Within t → Allows t m s → Allows t m r → s ≡ r
 one-successor t s r m w a b = allows-unique t s r m w a b
@@ -67,10 +72,15 @@ pub meeting-most-defined : (t s : Term) (a b p o : ℕ) (ws vs : List ℕ) (r : 
     → Stands t a (under (receive p o ws) r) → Stands t b (leaf (invoke p o vs)) → Matches ws vs σ → Tightest t p o vs (length σ)
 meeting-most-defined t s a b p o ws vs r σ w e h k m = meeting-tightest t s a b p o ws vs r σ w e h k m
 
--- a kill inside [k] leaves, of what stands parallel to it there, only what halting keeps; outside nothing changes
+-- a meeting is accepted with successor s if, and only if, its conditions hold and the records of s are, in order, what remains of each record of t
+pub meeting-records : (t s : Term) (a b : ℕ) → Within t → (successor t (Communicate a b) ≡ accept s) ↔ ((σ : Substitution) × Meets t a b σ × MeetingLeaves t a b σ s)
+unfolding successor
+meeting-records t s a b w = (meeting-leaves t s a b w, λ p. leaves-meeting t s a b (p .0) w (p .1) (p .2))
+
+-- a kill halts what stands parallel to it inside its [k]; outside nothing changes
 pub kill-leaves : (t s : Term) (a k : ℕ) → Within t → successor t (Kill a) ≡ accept s → Stands t a (leaf (kill k))
-    → (v : Way) × (w : Way) × (wayTo t a ≡ v ++ (inside (delimitation k) ∷ w)) × (enclosed k v ≡ false)
-    × (t ≡ fill w (under (delimitation k) (fill v (leaf (kill k))))) × (s ≡ fill w (under (delimitation k) (fill (map haltBeside v) (leaf nil))))
+    → (v : Way) × (u : Way) × (w : Way) × (wayTo t a ≡ v ++ (inside (delimitation k) ∷ w)) × (enclosed k v ≡ false) × Ended v u
+    × (t ≡ fill w (under (delimitation k) (fill v (leaf (kill k))))) × (s ≡ fill w (under (delimitation k) (fill u (leaf nil))))
 kill-leaves t s a k w e h = kill-spares t s a k w e h
 
 -- 3. The successor of an accepted move is within the limits again, and so is every table of a run.
@@ -134,11 +144,11 @@ output-as-long table m out = output-length table m out
 
 -- 6. Halting twice is halting once; what it leaves is the load of the protections reached from the root through parallels, delimitations and
 -- replications only.
-pub halting-twice : (t : Term) → halt (halt t) ≡ halt t
-halting-twice t = halt-halt t
+pub halting-twice : (t s : Term) → Halted t s → Halted s s
+halting-twice t s h = halted-twice h
 
-pub halting-load : (t : Term) → load (halt t) ≡ shielded t
-halting-load t = load-halt t
+pub halting-load : (t s : Term) → Halted t s → load s ≡ shielded t
+halting-load t s h = halted-load h
 
 -- N1 to N12, and the misreadings.
 pub nights : T (every right papers)

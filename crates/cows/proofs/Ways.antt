@@ -93,6 +93,24 @@ module _ (t : Term) (n : ℕ) (l : n < size t) where
   pub encode-replaced : (r : Term) → encode (fill (wayTo t n) r) ≡ take (16 * n) (encode t) ++ (encode r ++ drop (16 * (n + size (sub t n))) (encode t))
   encode-replaced r = rw (take-ahead, drop-behind) (encode-fill (wayTo t n) r)
 
+-- The records of a term with r at place n: up to n and behind what stood there they are as before.
+module _ (t : Term) (n : ℕ) (l : n < size t) where
+  nodes-whole : nodes t ≡ ahead (wayTo t n) ++ (nodes (sub t n) ++ behind (wayTo t n))
+  nodes-whole = ap nodes (sym (fill-spot t n)) ∙ nodes-fill (wayTo t n) (sub t n)
+
+  nodes-ahead : take n (nodes t) ≡ ahead (wayTo t n)
+  nodes-ahead = ap (take n) nodes-whole ∙ take-at (ahead (wayTo t n)) _ n (length-ahead t n l)
+
+  pub nodes-here : drop n (nodes t) ≡ nodes (sub t n) ++ behind (wayTo t n)
+  nodes-here = ap (drop n) nodes-whole ∙ drop-at (ahead (wayTo t n)) _ n (length-ahead t n l)
+
+  nodes-behind : drop (n + size (sub t n)) (nodes t) ≡ behind (wayTo t n)
+  nodes-behind =
+      sym (drop-drop (size (sub t n)) n (nodes t)) ∙ (ap (drop (size (sub t n))) nodes-here ∙ drop-at (nodes (sub t n)) _ (size (sub t n)) (length-nodes (sub t n)))
+
+  pub nodes-replaced : (r : Term) → nodes (fill (wayTo t n) r) ≡ take n (nodes t) ++ (nodes r ++ drop (n + size (sub t n)) (nodes t))
+  nodes-replaced r = rw (nodes-ahead, nodes-behind) (nodes-fill (wayTo t n) r)
+
 -- The record above a place: where the record of the nearest frame stands. No record between the two reaches over the place.
 abbrev pub Clear : Term → ℕ → ℕ → Type 0
 Clear t p n = (q : ℕ) → p < q → q < n → q + size (sub t q) ≤ n

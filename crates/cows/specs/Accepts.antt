@@ -6,7 +6,7 @@ use Prim.Native.Nat.{ℕ, _*_, _≤_}
 use Rattle.cows.specs.Terms.{Term, size, depth}
 use Rattle.cows.specs.Format.{encode}
 use Rattle.cows.specs.Within.{Within}
-use Rattle.cows.specs.Moves.{Move}
+use Rattle.cows.specs.Proposed.{Move}
 use Rattle.cows.specs.Allows.{Allows}
 use Rattle.cows.specs.Step.{readMove}
 

@@ -5,8 +5,10 @@ pub mod Format
 pub mod Tables
 pub mod Within
 pub mod Active
+pub mod Proposed
 pub mod Moves
 pub mod Allows
+pub mod Remains
 pub mod Step
 pub mod Accepts
 pub mod Load

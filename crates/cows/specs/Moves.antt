@@ -2,14 +2,15 @@
 -- Names of the calculus stand for the paper's: kill (stop fires), communicate (meeting), timeout (expiry), elapse (time), unfold (unfolding), extrude (floating).
 use mathlib.Core.Bool.{Bool, true, false, cond, not, _&&_, _||_}
 use mathlib.Core.List.{List, [], _∷_, map}
-use mathlib.Core.Option.{none}
 use Prim.Native.Nat.{ℕ, zero, suc, _-_}
 use lib.Dec.{ltb, eqb}
 use lib.ListN.{length}
 use Rattle.cows.specs.Basics.{any, every, member, holds, found, placeIf, Result, refuse, accept, _>>=_, _>>_, forbid}
 use Rattle.cows.specs.Terms.{Basic, nil, kill, invoke, Prefix, receive, wait, protection, delimitation, replication, Join, choice, parallel, Term, leaf, under, both, Ends, value, variable, label, atoms, binders, kills, invokes, prefixed, receives, waits, delimits, replicates, delimitsAtom, delimitsAt, below}
 use Rattle.cows.specs.Places.{Frame, inside, leftOf, rightOf, plug, Way, fill, Spot, wayTo, sub, first, encloses, frameDelimits, enclosed, frameChooses}
+use Rattle.cows.specs.Format.{Node, basic, prefix, join}
 use Rattle.cows.specs.Active.{passesLive, live, ready, wanted}
+pub use Rattle.cows.specs.Proposed.{Substitution, Move, Kill, Communicate, Timeout, Elapse, Unfold, Extrude}
 
 -- Kill. Halting (001) makes nil of kills, invokes and whole choices, receives and waits; it goes down both sides of a parallel,
 -- through each delimitation and each replication, and keeps a protection whole.
@@ -51,11 +52,7 @@ killAt t a = do
   k ← wanted kills t a
   accept (afterKill k t a)
 
--- Communicate. A substitution is pairs of a variable and the value that it takes.
-abbrev pub Substitution : Type 0
-Substitution = List (ℕ × ℕ)
-
--- What matching says: the tuples match and bind these variables, or something differs.
+-- Communicate. What matching says: the tuples match and bind these variables, or something differs.
 pub data Matching : Type 0 where
   binds : Substitution → Matching
   differs : Matching
@@ -123,7 +120,7 @@ aroundChoice (f ∷ w) = cond (frameChooses f) (aroundChoice w) (f ∷ w)
 unfoldable pub continue : Term → ℕ → Term
 continue t a = fill (aroundChoice (wayTo t a)) (below (sub t a))
 
--- f of every atom
+-- f of every atom, of a record and of a term
 unfoldable pub mapBasic : (ℕ → ℕ) → Basic → Basic
 mapBasic f nil = nil
 mapBasic f (kill k) = kill (f k)
@@ -135,6 +132,11 @@ mapPrefix f (wait n) = wait n
 mapPrefix f protection = protection
 mapPrefix f (delimitation d) = delimitation (f d)
 mapPrefix f replication = replication
+
+unfoldable pub mapNode : (ℕ → ℕ) → Node → Node
+mapNode f (basic x) = basic (mapBasic f x)
+mapNode f (prefix u) = prefix (mapPrefix f u)
+mapNode f (join j) = join j
 
 unfoldable pub mapAtoms : (ℕ → ℕ) → Term → Term
 mapAtoms f (leaf x) = leaf (mapBasic f x)
@@ -253,15 +255,7 @@ extrudeAt t a = do
   forbid 18 (placeIf (label d || not (fitting (wayTo t a))) a)
   accept (afterExtrude d t a)
 
--- The moves, and the successor that a move gives, or its refusal.
-pub data Move : Type 0 where
-  Kill : ℕ → Move
-  Communicate : ℕ → ℕ → Move
-  Timeout : ℕ → Move
-  Elapse : ℕ → Move
-  Unfold : ℕ → Move
-  Extrude : ℕ → Move
-
+-- The successor that a move gives, or its refusal.
 unfoldable pub successor : Term → Move → Result Term
 successor t (Kill a) = killAt t a
 successor t (Communicate a b) = communicateAt t a b
@@ -272,5 +266,5 @@ successor t (Extrude a) = extrudeAt t a
 
 -- (for computed checks) to unfold this is to unfold every definition of this file
 unfoldable pub open-moves : Unit {0}
-unfolding haltUnder haltBoth halt haltBeside haltInside afterKill killAt extend match closedEnds fit matched outside inScope readyKill heldBack fewer tighter silence aroundChoice continue mapBasic mapPrefix mapAtoms image instantiate bind communicateAt timeoutAt lower elapse shorter elapseBy smallest least fresh renaming copy afterUnfold unfoldAt fitsPrefix fitting exchange afterExtrude extrudeAt successor
+unfolding haltUnder haltBoth halt haltBeside haltInside afterKill killAt extend match closedEnds fit matched outside inScope readyKill heldBack fewer tighter silence aroundChoice continue mapBasic mapPrefix mapNode mapAtoms image instantiate bind communicateAt timeoutAt lower elapse shorter elapseBy smallest least fresh renaming copy afterUnfold unfoldAt fitsPrefix fitting exchange afterExtrude extrudeAt successor
 open-moves = tt

@@ -12,6 +12,7 @@ use Rattle.cows.specs.Format.{word, Node, nodes, bytes, encode}
 use Rattle.cows.specs.Moves.{silence, communicateAt}
 use Rattle.cows.proofs.Format.{length-nodes, length-encode}
 use Rattle.cows.proofs.Silence.{silence-size}
+use Rattle.cows.proofs.Binds.{boundNodes}
 use Rattle.cows.proofs.Stands.{invokeOf, receiveOf}
 use Rattle.records.specs.declared.Takes.{Takes}
 use Rattle.records.specs.Rewrites.{put}
@@ -21,7 +22,7 @@ use Rattle.passes.proofs.Tables.{table-size, table-ended}
 use Rattle.renaming.specs.Bound.{bound}
 use Rattle.moves.specs.Plans.{Asks}
 use Rattle.moves.specs.Cutting.{Span}
-use Rattle.moves.specs.Binding.{boundNodes, Met}
+use Rattle.moves.specs.Binding.{Met}
 use Rattle.moves.specs.Replacing.{takesOf}
 use Rattle.moves.proofs.Continuing.{span}
 use Rattle.moves.proofs.Meets.{accepted-met}

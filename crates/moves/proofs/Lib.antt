@@ -9,7 +9,6 @@ pub mod Elapses
 pub mod Extrudes
 pub mod Unfolds
 pub mod Silences
-pub mod Binds
 pub mod Meets
 pub mod Scoping
 pub mod Communicates

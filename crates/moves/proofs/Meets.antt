@@ -21,15 +21,15 @@ use Rattle.cows.proofs.Scopes.{counts-enclosed}
 use Rattle.cows.proofs.Fields.{append-bytes}
 use Rattle.cows.proofs.Parts.{Sound}
 use Rattle.cows.proofs.Binding.{AllBind, matched-binds}
+use Rattle.cows.proofs.Binds.{boundNodes, bound-append, bind-nodes, bind-depth, Once, bind-size}
 use Rattle.cows.proofs.Meeting.{fit-fits, inScope-reaches}
 use Rattle.cows.proofs.Preserving.{meeting-binds, scopes-passed}
 use Rattle.cows.proofs.Stands.{right-at, receiveOf, invokes-is, receives-is, prefixed-is, wanted-live}
 use Rattle.passes.specs.Ways.{startOf}
-use Rattle.moves.specs.Binding.{boundNodes, Matched, Left, Met}
+use Rattle.moves.specs.Binding.{Matched, Left, Met}
 use Rattle.moves.proofs.Planning.{within-limits}
 use Rattle.moves.proofs.Continuing.{cuts}
-use Rattle.moves.proofs.Silences.{silence-enclosed, met-nodes, met-size, met-depth}
-use Rattle.moves.proofs.Binds.{bound-append, bind-nodes, bind-depth, Once, bind-size}
+use Rattle.moves.proofs.Silences.{silence-enclosed, left-nodes, left-size, left-depth}
 
 -- the variables bound are the pattern's, and those are distinct
 keys-member : {ws vs : List ℕ} {σ : Substitution} → Matches ws vs σ → (y : ℕ) → any (λ (p : ℕ × ℕ). eqb (p .0) y) σ ≡ true → member y ws ≡ true
@@ -85,14 +85,14 @@ module _ (t : Term) (a b : ℕ) (q m : Ends) (σ : Substitution) (w : Within t) 
 
   left-count : size (bind σ s) + length σ + size (sub t c) ≡ size t + (size (sub t a) - 1)
   left-count =
-      omega (arith, bind-size σ s (met-binds .0) (met-binds .1) once, met-size t a b (h .receiver) (h .receives) (h .invokes))
+      omega (arith, bind-size σ s (met-binds .0) (met-binds .1) once, left-size t a b (h .receiver) (h .receives) (h .invokes))
 
   left-table : encode (bind σ s) ≡ bytes (boundNodes σ (take c N)) ++ (bytes (boundNodes σ (take (size (sub t a) - 1) (drop (suc a) N))) ++ bytes (boundNodes σ (drop (c + size (sub t c)) N)))
   unfolding encode
   left-table =
       rw (
         bind-nodes σ s (met-binds .0) (met-binds .1),
-        met-nodes t a b (h .receiver) (h .receives) (h .invokes),
+        left-nodes t a b (h .receiver) (h .receives) (h .invokes),
         bound-append σ,
         bound-append σ,
         append-bytes,
@@ -105,7 +105,7 @@ module _ (t : Term) (a b : ℕ) (q m : Ends) (σ : Substitution) (w : Within t) 
       record {
         table = left-table;
         count = left-count;
-        shallow = omega (arith, bind-depth σ s, met-depth t a b (h .receiver) (h .receives) (h .invokes), w .shallow);
+        shallow = omega (arith, bind-depth σ s, left-depth t a b (h .receiver) (h .receives) (h .invokes), w .shallow);
         small = omega (arith, left-count, k, w .small);
       }
 

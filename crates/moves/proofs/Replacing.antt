@@ -1,4 +1,4 @@
--- What the four slots of a receive take (specs/Replacing) is the substitution of its matching, and the records of a table so bound are those of specs/Binding.
+-- What the four slots of a receive take (specs/Replacing) is the substitution of its matching, and the records of a table so bound are its boundNodes (crate cows, proofs/Binds).
 use mathlib.Core.Path.{_≡_, refl, sym, ap, ap₂, subst, _∙_}
 use mathlib.Core.Logic.{_≢_}
 use mathlib.Core.Bool.{Bool, true, false, cond, _||_, or-assoc}
@@ -22,6 +22,8 @@ use Rattle.cows.proofs.Fields.{drop-bytes, append-bytes, first-delimitation}
 use Rattle.cows.proofs.Records.{RightNode, length-record16}
 use Rattle.cows.proofs.Format.{length-nodes, RightNodes, right-nodes}
 use Rattle.cows.proofs.Binding.{AllBind, values-fit, all-in-scope}
+use Rattle.cows.proofs.Silence.{silence-nodes}
+use Rattle.cows.proofs.Binds.{nodeDelimits, bindNode, boundNodes, image-both, image-other, image-value}
 use Rattle.cows.proofs.Meeting.{fit-fits}
 use Rattle.cows.proofs.Stands.{right-at, invokeOf}
 use Rattle.records.specs.declared.Atom.the-variants.{Value, Variable}
@@ -36,11 +38,9 @@ use Rattle.renaming.specs.Mapped.{mapNode, mapRecord, along}
 use Rattle.renaming.specs.Bound.{takesOne, imageOfAll, goes, boundRecord, bound}
 use Rattle.renaming.proofs.Mapped.{record-mapped}
 use Rattle.renaming.proofs.Occurring.{not-zero}
-use Rattle.moves.specs.Binding.{nodeDelimits, bindNode, boundNodes, Matched}
+use Rattle.moves.specs.Binding.{Matched}
 use Rattle.moves.specs.Replacing as slots
 use Rattle.moves.specs.Replacing.{nothing, takesOf}
-use Rattle.moves.proofs.Silences.{silence-nodes}
-use Rattle.moves.proofs.Binds.{image-both, image-other, image-value}
 
 -- what one slot takes
 class-variable : (w : ℕ) → variable w ≡ true → classOf w ≡ Variable (record { 0 = w })

@@ -1,33 +1,18 @@
--- The records of a table when variables take their values (crate cows, specs/Moves: bind); what a communication asks of its two parties, and what it leaves.
+-- What a communication asks of its two parties, and what it leaves, as it is written.
 use mathlib.Core.Path.{_≡_}
-use mathlib.Core.Bool.{Bool, true, false, cond}
-use mathlib.Core.List.{List, [], _∷_, _++_}
+use mathlib.Core.Bool.{true}
+use mathlib.Core.List.{List, _++_}
 use Prim.Native.Nat.{ℕ, suc, _+_, _-_, _≤_, _<_}
 use lib.ListN.{length, take, drop}
-use Rattle.cows.specs.Basics.{any, every}
-use Rattle.cows.specs.Terms.{Term, leaf, under, Ends, size, depth, delimitsAtom, below}
+use Rattle.cows.specs.Basics.{every}
+use Rattle.cows.specs.Terms.{Term, leaf, under, Ends, size, depth, below}
 use Rattle.cows.specs.Places.{wayTo, sub}
-use Rattle.cows.specs.Format.{Node, basic, prefix, join, nodes, bytes, encode}
+use Rattle.cows.specs.Format.{Node, nodes, bytes, encode}
 use Rattle.cows.specs.Active.{live}
-use Rattle.cows.specs.Moves.{Substitution, binds, fit, inScope, silence, continue, image, bind}
+use Rattle.cows.specs.Moves.{Substitution, binds, fit, inScope, silence, continue, bind}
 use Rattle.cows.proofs.Stands.{invokeOf, receiveOf}
+use Rattle.cows.proofs.Binds.{boundNodes}
 use Rattle.passes.specs.Ways.{startOf}
-use Rattle.renaming.specs.Mapped.{mapNode}
-
--- the record is a delimitation of d
-unfoldable pub nodeDelimits : ℕ → Node → Bool
-nodeDelimits d (basic x) = false
-nodeDelimits d (prefix u) = delimitsAtom d u
-nodeDelimits d (join j) = false
-
--- one record when the variables of σ take their values: a delimitation of one of them goes, in every other record each is replaced
-unfoldable pub bindNode : Substitution → Node → List Node
-bindNode σ n = cond (any (λ (p : ℕ × ℕ). nodeDelimits (p .0) n) σ) [] (mapNode (image σ) n ∷ [])
-
--- the same of each record, one behind the other
-unfoldable pub boundNodes : Substitution → List Node → List Node
-boundNodes σ [] = []
-boundNodes σ (n ∷ ns) = bindNode σ n ++ boundNodes σ ns
 
 -- The receive q at place a fits the invoke m at place b, and each variable that it binds is in scope.
 pub record Matched (t : Term) (a b : ℕ) (q m : Ends) (σ : Substitution) : Type 0 where

@@ -2,14 +2,8 @@
 use mathlib.Core.List.{List, [], _++_}
 use Prim.Native.Nat.{ℕ, zero, suc, _*_}
 use lib.ListN.{getD, take, drop}
-use Rattle.cows.specs.Format.{bytes2, word, Node, basic, prefix, join}
-use Rattle.cows.specs.Moves.{mapBasic, mapPrefix}
-
--- f of every atom of one record
-unfoldable pub mapNode : (ℕ → ℕ) → Node → Node
-mapNode f (basic x) = basic (mapBasic f x)
-mapNode f (prefix u) = prefix (mapPrefix f u)
-mapNode f (join j) = join j
+use Rattle.cows.specs.Format.{bytes2, word}
+unfoldable pub use Rattle.cows.specs.Moves.{mapNode}
 
 -- the four atoms of a tuple as bytes
 unfoldable pub tupleBytes : ℕ → ℕ → ℕ → ℕ → List ℕ

@@ -1,4 +1,4 @@
--- Variables that take their values, record by record (crate cows, specs/Moves: instantiate, bind; specs/Binding: boundNodes): the records, size and depth of what is left.
+-- Variables that take their values, record by record (boundNodes): the records, size and depth of what instantiate and bind leave (specs/Moves).
 use mathlib.Core.Path.{_≡_, refl, sym, ap, ap₂, subst, _∙_}
 use mathlib.Core.Bool.{Bool, true, false, cond, _||_}
 use mathlib.Core.List.{List, [], _∷_, _++_, map, append-nil, append-assoc}
@@ -7,26 +7,35 @@ use native.Mathlib.Omega.{arith}
 use lib.Dec.{eqb}
 use lib.ListN.{length}
 use borrow.Author.Tests.{eqb-true, eq-eqb}
 use Rattle.cows.specs.Basics.{any, holds}
 use Rattle.cows.specs.Terms.{Basic, nil, kill, invoke, Prefix, receive, wait, protection, delimitation, replication, Term, leaf, under, both, value, variable, label, size, depth, delimits, delimitsAtom, usesBasic, usesPrefix}
 use Rattle.cows.specs.Format.{Node, basic, prefix, join, nodes}
 use Rattle.cows.specs.Within.{nowhere, one, counts}
-use Rattle.cows.specs.Moves.{Substitution, mapBasic, mapPrefix, mapAtoms, image, instantiate, bind}
+use Rattle.cows.specs.Moves.{Substitution, mapBasic, mapPrefix, mapNode, mapAtoms, image, instantiate, bind}
 use Rattle.cows.proofs.Basics.{clash, cond-case, or-false, or-left, not-so, eqb-swap}
-use Rattle.cows.proofs.Scopes.{All, inner, Used, local, Need, all-map, used-any, scoped-used}
+use Rattle.cows.proofs.Scopes.{All, inner, Used, local, Need, all-map, used-any, scoped-used, one-false}
 use Rattle.cows.proofs.Sets.{value-range, variable-range}
+use Rattle.cows.proofs.Mapping.{counts-at}
 use Rattle.cows.proofs.Parts.{Sound}
-use Rattle.cows.proofs.Binding.{delimits-one, AllBind, counts-at, sound-instantiate, all-instantiate}
-use Rattle.renaming.specs.Mapped.{mapNode}
-use Rattle.moves.specs.Binding.{nodeDelimits, bindNode, boundNodes}
+use Rattle.cows.proofs.Binding.{delimits-one, AllBind, sound-instantiate, all-instantiate}
+use Rattle.cows.proofs.Recordwise.{size-map}
+
+-- the record is a delimitation of d
+unfoldable pub nodeDelimits : ℕ → Node → Bool
+nodeDelimits d (basic x) = false
+nodeDelimits d (prefix u) = delimitsAtom d u
+nodeDelimits d (join j) = false
+
+-- one record when the variables of σ take their values: a delimitation of one of them goes, in every other record each is replaced
+unfoldable pub bindNode : Substitution → Node → List Node
+bindNode σ n = cond (any (λ (p : ℕ × ℕ). nodeDelimits (p .0) n) σ) [] (mapNode (image σ) n ∷ [])
+
+-- the same of each record, one behind the other
+unfoldable pub boundNodes : Substitution → List Node → List Node
+boundNodes σ [] = []
+boundNodes σ (n ∷ ns) = bindNode σ n ++ boundNodes σ ns
 
 -- mapping changes no shape
-size-mapped : (f : ℕ → ℕ) (t : Term) → size (mapAtoms f t) ≡ size t
-unfolding size mapAtoms
-size-mapped f (leaf x) = refl
-size-mapped f (under u t) = ap suc (size-mapped f t)
-size-mapped f (both j s t) = omega (arith, size-mapped f s, size-mapped f t)
-
 depth-mapped : (f : ℕ → ℕ) (t : Term) → depth (mapAtoms f t) ≡ depth t
 unfolding depth mapAtoms
 depth-mapped f (leaf x) = refl
@@ -62,10 +71,6 @@ module _ (f : ℕ → ℕ) where
   prefix-same (delimitation d) h k = ap delimitation (k d (eq-eqb d d refl))
   prefix-same replication h k = refl
 
-no-one : (b : Bool) → one b ≡ 0 → b ≡ false
-no-one true e = absurd (omega arith)
-no-one false e = refl
-
 -- One variable x takes a value v.
 module _ (x v : ℕ) where
   abbrev at : ℕ → ℕ
@@ -84,7 +89,7 @@ module _ (x v : ℕ) where
   bound-inside : (t : Term) → counts x t ≡ 0 → boundNodes ((x, v) ∷ []) (nodes t) ≡ nodes (mapAtoms at t)
   unfolding boundNodes nodes mapAtoms nodeDelimits mapNode
   bound-inside (leaf y) e = rw (node-kept (basic y) refl)
-  bound-inside (under u t) e = rw (node-kept (prefix u) (no-one (delimitsAtom x u) (omega arith)), bound-inside t (omega arith))
+  bound-inside (under u t) e = rw (node-kept (prefix u) (one-false (delimitsAtom x u) (omega arith)), bound-inside t (omega arith))
   bound-inside (both j s t) e =
       rw (node-kept (join j) refl, bound-append ((x, v) ∷ []) (nodes s) (nodes t), bound-inside s (omega arith), bound-inside t (omega arith))
 
@@ -126,7 +131,7 @@ module _ (x v : ℕ) where
   instantiate-size (leaf y) l = refl
   instantiate-size (under u t) l =
       cond-case (λ r. size r + (one (delimitsAtom x u) + counts x t) ≡ suc (size t)) (delimitsAtom x u)
-      (λ e. omega (arith, ap one e, size-mapped at t)) (λ e. omega (arith, ap one e, instantiate-size t (omega arith)))
+      (λ e. omega (arith, ap one e, size-map at t)) (λ e. omega (arith, ap one e, instantiate-size t (omega arith)))
   instantiate-size (both j s t) l = omega (arith, instantiate-size s (omega arith), instantiate-size t (omega arith))
 
   pub instantiate-depth : (t : Term) → depth (instantiate x v t) ≤ depth t
@@ -142,7 +147,7 @@ module _ (x v : ℕ) where
   counts-other vx vv y o (leaf b) l = refl
   counts-other vx vv y o (under u t) l =
       cond-case (λ r. counts y r ≡ one (delimitsAtom y u) + counts y t) (delimitsAtom x u)
-      (λ e. omega (arith, counts-at x v vx vv t (omega (arith, ap one e)) y, ap one (not-so (λ k. clash (eq-eqb y x (delimits-one y x u k e)) o))))
+      (λ e. omega (arith, counts-at x v t (omega (arith, ap one e)) y, ap one (not-so (λ k. clash (eq-eqb y x (delimits-one y x u k e)) o))))
       (λ e. omega (arith, counts-other vx vv y o t (omega arith)))
   counts-other vx vv y o (both j s t) l = omega (arith, counts-other vx vv y o s (omega arith), counts-other vx vv y o t (omega arith))
 
@@ -198,7 +203,10 @@ module _ (x v : ℕ) (σ : Substitution) (same : image σ v ≡ v) where
       go true e = refl
       go false e =
           append-nil (bindNode σ (mapNode (image ((x, v) ∷ [])) n))
-          ∙ rw (any-key (mapNode (image ((x, v) ∷ [])) n) n (delimits-kept x v n e) σ, node-both (image σ) (image ((x, v) ∷ [])) (image ((x, v) ∷ σ)) image-both n)
+          ∙ rw (
+            any-key (mapNode (image ((x, v) ∷ [])) n) n (delimits-kept x v n e) σ,
+            node-both (image σ) (image ((x, v) ∷ [])) (image ((x, v) ∷ σ)) image-both n,
+          )
 
   pub bound-bound : (ns : List Node) → boundNodes σ (boundNodes ((x, v) ∷ []) ns) ≡ boundNodes ((x, v) ∷ σ) ns
   unfolding boundNodes
@@ -244,7 +252,8 @@ abbrev pub Once : Term → Substitution → Type 0
 Once t [] = Unit {0}
 Once t (p ∷ σ) = (counts (p .0) t ≡ 1) × (any (λ (q : ℕ × ℕ). eqb (q .0) (p .0)) σ ≡ false) × Once t σ
 
-once-instantiate : (x v : ℕ) → variable x ≡ true → value v ≡ true → (t : Term) → counts x t ≤ 1 → (σ : Substitution) → any (λ (q : ℕ × ℕ). eqb (q .0) x) σ ≡ false → Once t σ → Once (instantiate x v t) σ
+once-instantiate : (x v : ℕ) → variable x ≡ true → value v ≡ true → (t : Term) → counts x t ≤ 1
+    → (σ : Substitution) → any (λ (q : ℕ × ℕ). eqb (q .0) x) σ ≡ false → Once t σ → Once (instantiate x v t) σ
 unfolding any
 once-instantiate x v vx vv t l [] e h = tt
 once-instantiate x v vx vv t l (p ∷ σ) e h =
