@@ -97,8 +97,8 @@ misreadings =
     ∷ accepted (new k (stop ∣ po! v ∣ stop ∣ po?then v ⟦ qo! v ⟧ ∣ after 3 ⟦ qo! v ⟧ ∣ (po? v ⊕ after 1 𝟘))) (killing 2) (new k (𝟘 ∣ 𝟘 ∣ 𝟘 ∣ 𝟘 ∣ 𝟘 ∣ 𝟘))
     (0 ∷ 1 ∷ 0 ∷ 0 ∷ [])
     -- M17: it goes through delimitations and replications, which stay, and keeps a protection whole; the kill stands on the right
-    ∷ accepted (new k ((new n (new x (po! x ∣ ⟦ qo! n ⟧)) ∣ rep (new j (⟦ stop ⟧ ∣ leaf (kill j)))) ∣ stop)) (killing 15)
-    (new k ((new n (new x (𝟘 ∣ ⟦ qo! n ⟧)) ∣ rep (new j (⟦ stop ⟧ ∣ 𝟘))) ∣ 𝟘)) (0 ∷ 1 ∷ 0 ∷ 2 ∷ [])
+    ∷ accepted (new k ((new n (new x (po! x ∣ ⟦ qo! n ⟧)) ∣ rep (new j (⟦ stop ⟧ ∣ leaf (kill j) ∣ po! v))) ∣ stop)) (killing 17)
+    (new k ((new n (new x (𝟘 ∣ ⟦ qo! n ⟧)) ∣ rep (new j (⟦ stop ⟧ ∣ 𝟘 ∣ 𝟘))) ∣ 𝟘)) (0 ∷ 1 ∷ 0 ∷ 2 ∷ [])
     -- M18: a protection and a delimitation of another atom on the way shelter nothing and stay; outside [k] nothing is halted
     ∷ accepted ((po! v ∣ new k (qo! v ∣ new j (⟦ po! v ∣ new n (stop ∣ qo! n) ⟧ ∣ po? v))) ∣ qo! v) (killing 13)
     ((po! v ∣ new k (𝟘 ∣ new j (⟦ 𝟘 ∣ new n (𝟘 ∣ 𝟘) ⟧ ∣ 𝟘))) ∣ qo! v) (0 ∷ 1 ∷ 0 ∷ 2 ∷ [])
