@@ -1,7 +1,7 @@
 -- Readings of document 01 that N1 to N12 do not all tell apart: a small case for each, in the form of the nights on paper, and one
 -- check of them. First those that were seen to go wrong, then a case for each clause of specs/Moves, move by move: docs/DECISIONS.md
 -- has for every clause a change of it and the case that turns false. The files of must-fail/ make some of the wrong readings.
-use mathlib.Core.List.{List, [], _∷_}
+use mathlib.Core.List.{List, [], _∷_, map}
 use Prim.Native.Nat.{ℕ}
 use lib.Dec.{T}
 use Rattle.cows.specs.Basics.{every}
@@ -30,6 +30,9 @@ receive? p o ws t = under (receive p o ws) t
 abbrev pair : ℕ → ℕ → Term
 pair a b = new a (new b (invoke! 1 2 (a ∷ b ∷ [])))
 
+abbrev one-of-each : Term
+one-of-each = po! v ∣ po? v ∣ after 0 𝟘 ∣ ⟦ rep 𝟘 ⟧ ∣ new k stop ∣ 𝟘
+
 abbrev offers : ℕ → Term
 offers w = po! v ∣ invoke! 1 2 (v ∷ v ∷ v ∷ []) ∣ invoke! 3 2 (v ∷ v ∷ []) ∣ invoke! 1 3 (v ∷ v ∷ []) ∣ invoke! 1 2 (v ∷ n ∷ []) ∣ invoke! 1 2 (w ∷ v ∷ [])
 
@@ -55,6 +58,10 @@ accepted s m t c = night s (m ∷ []) (says 0 0 (size t) ∷ []) t c
 
 abbrev refused : Term → List (List ℕ) → List Reply → ℕ → Night
 refused t ms rs l = night t ms rs t (0 ∷ 0 ∷ 0 ∷ l ∷ [])
+
+-- moves on one-of-each that name a record of another kind than they ask for: each is 11 at that place
+abbrev none-there : (ℕ → List ℕ) → List ℕ → Night
+none-there m ps = refused one-of-each (map m ps) (map (λ p. says 11 p 16) ps) 4
 
 pub misreadings : List Night
 misreadings =
@@ -92,69 +99,81 @@ misreadings =
     -- M15: of a meeting a is looked at before b; a receive is live in a protection, a delimitation and a choice
     ∷ night (rep (po? v ∣ po! v) ∣ ⟦ new n (po? v ⊕ after 1 𝟘) ⟧ ∣ po! v) (meeting 3 5 ∷ meeting 10 5 ∷ meeting 14 10 ∷ meeting 10 14 ∷ [])
     (says 11 3 15 ∷ says 11 5 15 ∷ says 11 14 15 ∷ says 0 0 11 ∷ []) (rep (po? v ∣ po! v) ∣ ⟦ new n 𝟘 ⟧ ∣ 𝟘) (1 ∷ 0 ∷ 0 ∷ 2 ∷ [])
+    -- M16: a kill asks for a kill: 11 of nil, an invoke, a prefix, a parallel
+    ∷ none-there killing (15 ∷ 1 ∷ 3 ∷ 0 ∷ [])
+    -- M17: a meeting asks for a receive: 11 of each other prefix, and of what is none
+    ∷ none-there (λ a. meeting a 1) (6 ∷ 9 ∷ 13 ∷ 10 ∷ 15 ∷ 0 ∷ [])
+    -- M18: and for an invoke: 11 of nil, a kill, a prefix, a parallel
+    ∷ none-there (meeting 3) (15 ∷ 14 ∷ 3 ∷ 0 ∷ [])
+    -- M19: a timeout asks for a wait
+    ∷ none-there expiry (3 ∷ 9 ∷ 13 ∷ 10 ∷ 15 ∷ 0 ∷ [])
+    -- M20: an unfolding asks for a replication
+    ∷ none-there unfold-at (3 ∷ 6 ∷ 9 ∷ 13 ∷ 15 ∷ 0 ∷ [])
+    -- M21: a floating asks for a delimitation
+    ∷ none-there float (3 ∷ 6 ∷ 9 ∷ 10 ∷ 15 ∷ 0 ∷ [])
     -- Kill.
-    -- M16: halting makes nil of invokes and kills, and of whole receives, waits and choices
+    -- M22: halting makes nil of invokes and kills, and of whole receives, waits and choices
     ∷ accepted (new k (stop ∣ po! v ∣ stop ∣ po?then v ⟦ qo! v ⟧ ∣ after 3 ⟦ qo! v ⟧ ∣ (po? v ⊕ after 1 𝟘))) (killing 2) (new k (𝟘 ∣ 𝟘 ∣ 𝟘 ∣ 𝟘 ∣ 𝟘 ∣ 𝟘))
     (0 ∷ 1 ∷ 0 ∷ 0 ∷ [])
-    -- M17: it goes through delimitations and replications, which stay, and keeps a protection whole; the kill stands on the right
+    -- M23: it goes through delimitations and replications, which stay, and keeps a protection whole; the kill stands on the right
     ∷ accepted (new k ((new n (new x (po! x ∣ ⟦ qo! n ⟧)) ∣ rep (new j (⟦ stop ⟧ ∣ leaf (kill j) ∣ po! v))) ∣ stop)) (killing 17)
     (new k ((new n (new x (𝟘 ∣ ⟦ qo! n ⟧)) ∣ rep (new j (⟦ stop ⟧ ∣ 𝟘 ∣ 𝟘))) ∣ 𝟘)) (0 ∷ 1 ∷ 0 ∷ 2 ∷ [])
-    -- M18: a protection and a delimitation of another atom on the way shelter nothing and stay; outside [k] nothing is halted
+    -- M24: a protection and a delimitation of another atom on the way shelter nothing and stay; outside [k] nothing is halted
     ∷ accepted ((po! v ∣ new k (qo! v ∣ new j (⟦ po! v ∣ new n (stop ∣ qo! n) ⟧ ∣ po? v))) ∣ qo! v) (killing 13)
     ((po! v ∣ new k (𝟘 ∣ new j (⟦ 𝟘 ∣ new n (𝟘 ∣ 𝟘) ⟧ ∣ 𝟘))) ∣ qo! v) (0 ∷ 1 ∷ 0 ∷ 2 ∷ [])
     -- Communicate.
-    -- M19: 12 looks at the count, from both sides, at partner, operation and each value, and at a variable that is sent
+    -- M25: 12 looks at the count, from both sides, at partner, operation and each value, and at a variable that is sent
     ∷ night (new x (receive? 1 2 (x ∷ v ∷ []) 𝟘 ∣ offers x ∣ invoke! 1 2 (n ∷ v ∷ [])))
     (meeting 2 6 ∷ meeting 2 8 ∷ meeting 2 10 ∷ meeting 2 12 ∷ meeting 2 14 ∷ meeting 2 15 ∷ meeting 2 16 ∷ [])
     (says 12 2 17 ∷ says 12 2 17 ∷ says 12 2 17 ∷ says 12 2 17 ∷ says 12 2 17 ∷ says 12 2 17 ∷ says 0 0 15 ∷ []) (𝟘 ∣ offers n ∣ 𝟘) (1 ∷ 0 ∷ 0 ∷ 6 ∷ [])
-    -- M20: 13 looks at every variable, and each takes the value at its own place
+    -- M26: 13 looks at every variable, and each takes the value at its own place
     ∷ night (new x (new y (new z (receive? 1 2 (x ∷ v ∷ y ∷ z ∷ []) (invoke! 3 2 (x ∷ y ∷ z ∷ []))) ∣ invoke! 1 2 (6 ∷ v ∷ n ∷ 7 ∷ []))))
     (meeting 4 6 ∷ float 3 ∷ meeting 4 6 ∷ []) (says 13 4 7 ∷ says 0 0 7 ∷ says 0 0 3 ∷ []) (invoke! 3 2 (6 ∷ n ∷ 7 ∷ []) ∣ 𝟘) (1 ∷ 0 ∷ 0 ∷ 1 ∷ [])
-    -- M21: 13 comes before 14, and 14 before 15
+    -- M27: 13 comes before 14, and 14 before 15
     ∷ night (new k (stop ∣ new x (po? x) ∣ po! v ∣ po? v)) (meeting 5 8 ∷ float 4 ∷ meeting 5 8 ∷ []) (says 13 5 11 ∷ says 0 0 11 ∷ says 14 0 11 ∷ [])
     (new k (stop ∣ new x (po? x ∣ po! v ∣ po? v))) (0 ∷ 0 ∷ 0 ∷ 4 ∷ [])
-    -- M22: 14 names the [k] of the ready kill, not a delimitation of another label around it
+    -- M28: 14 names the [k] of the ready kill, not a delimitation of another label around it
     ∷ refused (new j (new k (stop ∣ po? v ∣ po! v))) (meeting 5 7 ∷ []) (says 14 1 8 ∷ []) 3
-    -- M23: of two such delimitations it names the first, not the nearest
+    -- M29: of two such delimitations it names the first, not the nearest
     ∷ refused (new k (stop ∣ new j (leaf (kill j) ∣ po? v ∣ po! v))) (meeting 7 9 ∷ []) (says 14 0 10 ∷ []) 4
-    -- M24: a kill that is not ready holds nothing back
+    -- M30: a kill that is not ready holds nothing back
     ∷ accepted (new k (after 1 stop ∣ po? v ∣ po! v)) (meeting 5 7) (new k (after 1 stop ∣ 𝟘 ∣ 𝟘)) (1 ∷ 0 ∷ 0 ∷ 2 ∷ [])
-    -- M25: 15 names the first of two tighter receives
+    -- M31: 15 names the first of two tighter receives
     ∷ refused (new x (po! v ∣ po? x ∣ po? v ∣ rep (po? v))) (meeting 4 2 ∷ []) (says 15 7 12 ∷ []) 4
-    -- M26: 15 leaves out receives with as many variables, on another endpoint, of other values or counts, and not ready ones
+    -- M32: 15 leaves out receives with as many variables, on another endpoint, of other values or counts, and not ready ones
     ∷ accepted (new x (new y (po! v ∣ po? x ∣ others))) (meeting 5 3) (new y (𝟘 ∣ 𝟘 ∣ others)) (1 ∷ 0 ∷ 0 ∷ 7 ∷ [])
-    -- M27: the receive goes with the whole choice around it, however it stands in it; what stands outside [x] stays
+    -- M33: the receive goes with the whole choice around it, however it stands in it; what stands outside [x] stays
     ∷ accepted (qo! v ∣ new n ⟦ new x (⟦ after 3 𝟘 ⊕ (receive? 3 3 (v ∷ []) 𝟘 ⊕ po?then x (qo! x)) ⊕ after 4 𝟘 ⟧ ∣ po! v) ∣ qo! n ⟧) (meeting 15 19)
     (qo! v ∣ new n ⟦ (⟦ qo! v ⟧ ∣ 𝟘) ∣ qo! n ⟧) (1 ∷ 0 ∷ 0 ∷ 3 ∷ [])
-    -- M28: the value replaces the variable in partner, operation and tuple, in protected, replicated and dormant parts
+    -- M34: the value replaces the variable in partner, operation and tuple, in protected, replicated and dormant parts
     ∷ accepted (new x (po! v ∣ po? x ∣ uses x) ∣ new 6 (invoke! 6 6 [])) (meeting 5 3) ((𝟘 ∣ 𝟘 ∣ uses v) ∣ new 6 (invoke! 6 6 [])) (1 ∷ 0 ∷ 0 ∷ 8 ∷ [])
     -- Timeout.
-    -- M29: 16 asks for an interval of 0; only the choice around the wait goes, and the continuation stays
+    -- M35: 16 asks for an interval of 0; only the choice around the wait goes, and the continuation stays
     ∷ night (((after 1 𝟘 ⊕ after 0 (qo! v)) ⊕ po?then v (po! v)) ∣ ⟦ after 0 𝟘 ⟧) (expiry 3 ∷ expiry 5 ∷ []) (says 16 3 12 ∷ says 0 0 5 ∷ [])
     (qo! v ∣ ⟦ after 0 𝟘 ⟧) (0 ∷ 0 ∷ 1 ∷ 2 ∷ [])
     -- Elapse.
-    -- M30: time lowers the waits in protections, delimitations and choices, on both sides; those behind a wait or a receive and under a replication keep theirs
+    -- M36: time lowers the waits in protections, delimitations and choices, on both sides; those behind a wait or a receive and under a replication keep theirs
     ∷ accepted
     (new k (after 5 (after 2 𝟘) ∣ ⟦ after 6 𝟘 ⟧ ∣ new n (after 7 (qo! n)) ∣ (after 8 𝟘 ⊕ po?then v (after 1 𝟘) ⊕ after 9 𝟘) ∣ rep ⟦ after 1 𝟘 ⟧ ∣ stop ∣ po! v))
     (time 5)
     (new k (after 0 (after 2 𝟘) ∣ ⟦ after 1 𝟘 ⟧ ∣ new n (after 2 (qo! n)) ∣ (after 3 𝟘 ⊕ po?then v (after 1 𝟘) ⊕ after 4 𝟘) ∣ rep ⟦ after 1 𝟘 ⟧ ∣ stop ∣ po! v))
     (0 ∷ 0 ∷ 0 ∷ 12 ∷ [])
-    -- M31: 17 refuses a time of 0, at place 0, and names the first live wait that is below, in a choice too
+    -- M37: 17 refuses a time of 0, at place 0, and names the first live wait that is below, in a choice too
     ∷ night (⟦ 𝟘 ⟧ ∣ (po?then v (after 1 𝟘) ⊕ after 4 𝟘)) (time 0 ∷ time 5 ∷ time 4 ∷ []) (says 17 0 9 ∷ says 17 7 9 ∷ says 0 0 9 ∷ [])
     (⟦ 𝟘 ⟧ ∣ (po?then v (after 1 𝟘) ⊕ after 0 𝟘)) (0 ∷ 0 ∷ 0 ∷ 3 ∷ [])
     -- Unfold.
-    -- M32: a new value is sought from 1, a new variable from 32768, a new label from 49152
+    -- M38: a new value is sought from 1, a new variable from 32768, a new label from 49152
     ∷ accepted (rep (three 3 y j)) (unfold-at 0) (three 1 x k ∣ rep (three 3 y j)) (0 ∷ 0 ∷ 0 ∷ 4 ∷ [])
-    -- M33: atoms of the whole table are taken, used or delimited, dormant ones too; an interval is no atom
+    -- M39: atoms of the whole table are taken, used or delimited, dormant ones too; an interval is no atom
     ∷ accepted (rep (new 6 (new 7 (invoke! 6 7 []))) ∣ after 4 (invoke! 1 2 []) ∣ new 3 𝟘) (unfold-at 1)
     ((new n (new v (invoke! n v [])) ∣ rep (new 6 (new 7 (invoke! 6 7 [])))) ∣ after 4 (invoke! 1 2 []) ∣ new 3 𝟘) (0 ∷ 0 ∷ 0 ∷ 4 ∷ [])
-    -- M34: the copy is renamed in every field and every part; an atom that is delimited outside the body stays
+    -- M40: the copy is renamed in every field and every part; an atom that is delimited outside the body stays
     ∷ accepted (⟦ new n (po? n ∣ rep (body 6 x)) ⟧) (unfold-at 5) (⟦ new n (po? n ∣ body 3 y ∣ rep (body 6 x)) ⟧) (0 ∷ 0 ∷ 0 ∷ 9 ∷ [])
     -- Extrude.
-    -- M35: a delimitation floats over a delimitation, out of a left and a right side, and over a protection; at the root it stays
+    -- M41: a delimitation floats over a delimitation, out of a left and a right side, and over a protection; at the root it stays
     ∷ night (⟦ qo! v ∣ new k (new n (po! n)) ∣ 𝟘 ⟧) (float 5 ∷ float 4 ∷ float 3 ∷ float 1 ∷ float 0 ∷ [])
     (says 0 0 8 ∷ says 0 0 8 ∷ says 0 0 8 ∷ says 0 0 8 ∷ says 18 0 8 ∷ []) (new n ⟦ qo! v ∣ new k (po! n) ∣ 𝟘 ⟧) (0 ∷ 0 ∷ 0 ∷ 2 ∷ [])
-    -- M36: 18: a label does not float; a variable does
+    -- M42: 18: a label does not float; a variable does
     ∷ night (new k stop ∣ new x (po? x)) (float 1 ∷ float 3 ∷ []) (says 18 1 6 ∷ says 0 0 6 ∷ []) (new x (new k stop ∣ po? x)) (0 ∷ 0 ∷ 0 ∷ 2 ∷ [])
     ∷ []
 
