@@ -164,9 +164,10 @@ misreadings =
     -- Unfold.
     -- M38: a new value is sought from 1, a new variable from 32768, a new label from 49152
     ∷ accepted (rep (three 3 y j)) (unfold-at 0) (three 1 x k ∣ rep (three 3 y j)) (0 ∷ 0 ∷ 0 ∷ 4 ∷ [])
-    -- M39: atoms of the whole table are taken, used or delimited, dormant ones too; an interval is no atom
-    ∷ accepted (rep (new 6 (new 7 (invoke! 6 7 []))) ∣ after 4 (invoke! 1 2 []) ∣ new 3 𝟘) (unfold-at 1)
-    ((new n (new v (invoke! n v [])) ∣ rep (new 6 (new 7 (invoke! 6 7 [])))) ∣ after 4 (invoke! 1 2 []) ∣ new 3 𝟘) (0 ∷ 0 ∷ 0 ∷ 4 ∷ [])
+    -- M39: atoms of the whole table are taken, used or delimited, dormant ones too; an interval is no atom; the left side chooses first
+    ∷ accepted (rep (new 6 (invoke! 6 6 []) ∣ new 7 (invoke! 7 7 [])) ∣ after 4 (invoke! 1 2 []) ∣ new 3 𝟘) (unfold-at 1)
+    (((new n (invoke! n n []) ∣ new v (invoke! v v [])) ∣ rep (new 6 (invoke! 6 6 []) ∣ new 7 (invoke! 7 7 []))) ∣ after 4 (invoke! 1 2 []) ∣ new 3 𝟘)
+    (0 ∷ 0 ∷ 0 ∷ 6 ∷ [])
     -- M40: the copy is renamed in every field and every part; an atom that is delimited outside the body stays
     ∷ accepted (⟦ new n (po? n ∣ rep (body 6 x)) ⟧) (unfold-at 5) (⟦ new n (po? n ∣ body 3 y ∣ rep (body 6 x)) ⟧) (0 ∷ 0 ∷ 0 ∷ 9 ∷ [])
     -- Extrude.
