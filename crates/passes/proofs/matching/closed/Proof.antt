@@ -1,4 +1,5 @@
 use borrow.Author.Needs.{needs}
+use Rattle.records.proofs.Atoms.{variable-class}
 use Rattle.passes.specs.Matching.{closedAt}
 use Rattle.passes.proofs.matching.closed.Statement.{statement}
 use Rattle.passes.proofs.matching.closed.Tie as tie
@@ -26,4 +27,24 @@ closed-spec =
     (λ c. search needs)
     (λ c κs. search needs)
     (λ c κs. search needs)
-    (λ c. rw (c .is-variable6 .ensures, c .before .word-at6 .ensures, c .before .before .is-variable5 .ensures, c .before .before .before .word-at5 .ensures, c .before .before .before .before .is-variable4 .ensures, c .before .before .before .before .before .word-at4 .ensures, c .before .before .before .before .before .before .is-variable3 .ensures, c .before .before .before .before .before .before .before .word-at3 .ensures, c .before .before .before .before .before .before .before .before .is-variable2 .ensures, c .before .before .before .before .before .before .before .before .before .word-at2 .ensures, c .before .before .before .before .before .before .before .before .before .before .is-variable .ensures, c .before .before .before .before .before .before .before .before .before .before .before .word-at .ensures)))
+    (λ c.
+    rw (
+      c .is-variable6 .ensures,
+      c .before .atom-at6 .ensures,
+      variable-class,
+      c .before .before .is-variable5 .ensures,
+      c .before .before .before .atom-at5 .ensures,
+      variable-class,
+      c .before .before .before .before .is-variable4 .ensures,
+      c .before .before .before .before .before .atom-at4 .ensures,
+      variable-class,
+      c .before .before .before .before .before .before .is-variable3 .ensures,
+      c .before .before .before .before .before .before .before .atom-at3 .ensures,
+      variable-class,
+      c .before .before .before .before .before .before .before .before .is-variable2 .ensures,
+      c .before .before .before .before .before .before .before .before .before .atom-at2 .ensures,
+      variable-class,
+      c .before .before .before .before .before .before .before .before .before .before .is-variable .ensures,
+      c .before .before .before .before .before .before .before .before .before .before .before .atom-at .ensures,
+      variable-class,
+    )))
