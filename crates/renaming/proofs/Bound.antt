@@ -1,7 +1,7 @@
 -- Laws of bound records (specs/Bound): what becomes of one record.
 use mathlib.Core.Path.{_≡_, ap}
 use mathlib.Core.Logic.{_≢_}
-use mathlib.Core.Bool.{true, false, _&&_}
+use mathlib.Core.Bool.{true, false, _&&_, _||_}
 use mathlib.Core.List.{List, []}
 use Prim.Native.Nat.{ℕ, _+_, _*_, _≤_, _<_}
 use native.Mathlib.Omega.{arith}
@@ -11,15 +11,17 @@ use borrow.Author.Tests.{eq-eqb, ne-eqb}
 use Rattle.cows.specs.Terms.{nil}
 use Rattle.cows.specs.Format.{word, basic, record16}
 use Rattle.cows.proofs.Records.{length-record16}
+use Rattle.records.specs.declared.Atom.{Atom}
 use Rattle.records.specs.declared.Takes.{Takes}
+use Rattle.records.specs.Atoms.{classOf, takesAtom}
 use Rattle.records.proofs.Pieces.{piece, word-piece, first-piece}
 use Rattle.renaming.specs.Mapped.{mapRecord}
-use Rattle.renaming.specs.Bound.{takesOne, imageOfAll, goes, boundRecord}
+use Rattle.renaming.specs.Bound.{imageOfAll, goes, boundRecord}
 use Rattle.renaming.proofs.Mapped.{length-mapRecord}
 
 module _ (t₀ t₁ t₂ t₃ : Takes) where
   -- the test as the code reads it
-  pub goes-read : (s : List ℕ) (k : ℕ) {d : ℕ} → d ≡ word s (k + 2) → (eqb (getD s k 0) 8 && takesOne t₀ t₁ t₂ t₃ d) ≡ goes t₀ t₁ t₂ t₃ (piece s k)
+  pub goes-read : (s : List ℕ) (k : ℕ) {d : Atom} → d ≡ classOf (word s (k + 2)) → (eqb (getD s k 0) 8 && (takesAtom t₀ d || takesAtom t₁ d || takesAtom t₂ d || takesAtom t₃ d)) ≡ goes t₀ t₁ t₂ t₃ (piece s k)
   unfolding goes
   goes-read s k e = rw (first-piece s k, word-piece s k 2 (omega arith), e)
 

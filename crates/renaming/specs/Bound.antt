@@ -6,16 +6,16 @@ use lib.Dec.{eqb}
 use Rattle.cows.specs.Terms.{nil}
 use Rattle.cows.specs.Format.{byte, word, basic, record16}
 use Rattle.records.specs.declared.Takes.{Takes}
-use Rattle.records.specs.Atoms.{takesAtom, imageOf}
+use Rattle.records.specs.Atoms.{classOf, numberOf, takesAtom, imageOf}
 use Rattle.renaming.specs.Mapped.{mapRecord, along}
 
--- one of the four takes the atom; what stands for an atom when each of them in turn takes its value
+-- one of the four takes the atom of a number; the number that stands for one when each of them in turn takes its value
 module _ (t₀ t₁ t₂ t₃ : Takes) where
   abbrev pub takesOne : ℕ → Bool
-  takesOne a = takesAtom t₀ a || takesAtom t₁ a || takesAtom t₂ a || takesAtom t₃ a
+  takesOne n = takesAtom t₀ (classOf n) || takesAtom t₁ (classOf n) || takesAtom t₂ (classOf n) || takesAtom t₃ (classOf n)
 
   abbrev pub imageOfAll : ℕ → ℕ
-  imageOfAll a = imageOf t₃ (imageOf t₂ (imageOf t₁ (imageOf t₀ a)))
+  imageOfAll n = numberOf (imageOf t₃ (imageOf t₂ (imageOf t₁ (imageOf t₀ (classOf n)))))
 
   -- the record is a delimitation of an atom that one of them takes
   unfoldable pub goes : List ℕ → Bool

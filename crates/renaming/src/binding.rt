@@ -1,14 +1,16 @@
 // Binding: the records of a part of a table after a communication. Up to four variables become values, their delimitations go, and the invoke becomes nil.
 use crate::fields::put_record;
+use records::Atom;
 use records::Takes;
+use records::atom_at;
 use records::copying::put_nil;
 use records::image;
 use records::takes_atom;
-use records::word_at;
 ghost use mathlib.Core.Path.{_≡_};
 ghost use Prim.Native.Nat.{_+_, _-_, _*_, _<_, _≤_};
 ghost use lib.ListN.{length, take, drop};
 ghost use Rattle.cows.specs.Format.{word};
+ghost use Rattle.records.specs.Atoms.{classOf, imageOf};
 ghost use Rattle.records.specs.Rewrites.{put};
 ghost use Rattle.renaming.specs.Mapped.{mapRecord};
 ghost use Rattle.renaming.specs.Bound.{imageOfAll, goes, boundRecord, bound};
@@ -18,17 +20,17 @@ fn delimits_taken(s: &[u8], i: usize, t0: Takes, t1: Takes, t2: Takes, t3: Takes
     requires { ⌜ 16 * i + 15 < length (now s) ⌝ }
     ensures { λ r. ⌜ r ≡ goes t0 t1 t2 t3 (take 16 (drop (16 * i) (now (s .entry)))) ⌝ }
 {
-    let d = word_at(s, 16 * i + 2);
+    let d = atom_at(s, 16 * i + 2);
     let taken = takes_atom(t0, d) | takes_atom(t1, d) | takes_atom(t2, d) | takes_atom(t3, d);
     (s[16 * i] == 8) & taken
 }
 
 // What stands for the atom at byte k.
-fn image_at(s: &[u8], k: usize, t0: Takes, t1: Takes, t2: Takes, t3: Takes) -> u16
+fn image_at(s: &[u8], k: usize, t0: Takes, t1: Takes, t2: Takes, t3: Takes) -> Atom
     requires { ⌜ k + 1 < length (now s) ⌝ }
-    ensures { λ r. ⌜ r ≡ imageOfAll t0 t1 t2 t3 (word (now (s .entry)) k) ⌝ }
+    ensures { λ r. ⌜ r ≡ imageOf t3 (imageOf t2 (imageOf t1 (imageOf t0 (classOf (word (now (s .entry)) k))))) ⌝ }
 {
-    image(t3, image(t2, image(t1, image(t0, word_at(s, k)))))
+    image(t3, image(t2, image(t1, image(t0, atom_at(s, k)))))
 }
 
 // Writes the record at place i with what stands for its atoms.

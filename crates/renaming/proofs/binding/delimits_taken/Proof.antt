@@ -16,4 +16,4 @@ delimits-taken-spec =
     (λ c κs. search needs)
     (λ c. search needs)
     (λ c. search needs)
-    (λ c. rw (← goes-read _ _ _ _ _ _ (c .before .before .before .before .before .word-at .ensures), c .before .before .before .before .takes-atom .ensures, c .before .before .before .takes-atom2 .ensures, c .before .before .takes-atom3 .ensures, c .before .takes-atom4 .ensures)))
+    (λ c. rw (← goes-read _ _ _ _ _ _ (c .before .before .before .before .before .atom-at .ensures), c .before .before .before .before .takes-atom .ensures, c .before .before .before .takes-atom2 .ensures, c .before .before .takes-atom3 .ensures, c .before .takes-atom4 .ensures)))
