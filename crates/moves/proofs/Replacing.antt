@@ -36,7 +36,7 @@ use Rattle.moves.specs.Binding.{nodeDelimits, bindNode, boundNodes, Matc
 use Rattle.moves.specs.Replacing.{takesOf}
 use Rattle.moves.proofs.Silences.{silence-nodes}
 use Rattle.moves.proofs.Binds.{image-other}
-use Rattle.moves.proofs.Taking.{images, takers, images-match, takers-match}
+use Rattle.moves.proofs.Taking.{images-match, takers-match}
 
 -- The records from place i on, with nil at place b.
 silenced : (b i : ℕ) → List Node → List Node
@@ -154,16 +154,14 @@ module _ (s : List ℕ) (t : Term) (a b : ℕ) (q m : Ends) (σ : Substitution) 
       all-in-scope t a b (w .formed) σ (values-fit q m σ (r .2 .1) (h .fits)) (h .scopes)
 
   images-all : (x : ℕ) → imageOfAll t₀ t₁ t₂ t₃ x ≡ image σ x
-  unfolding images
   images-all x =
       rw (e₀, e₁, e₂, e₃, receiver .slot0, receiver .slot1, receiver .slot2, receiver .slot3, sender .slot0, sender .slot1, sender .slot2, sender .slot3)
-      (images-match t matches all-bind 4 (receiver .few) x)
+      (images-match t matches all-bind (receiver .few) x)
 
   takers-all : (x : ℕ) → x ≢ 0 → takesOne t₀ t₁ t₂ t₃ x ≡ any (λ (p : ℕ × ℕ). eqb (p .0) x) σ
-  unfolding takers
   takers-all x z =
       rw (e₀, e₁, e₂, e₃, receiver .slot0, receiver .slot1, receiver .slot2, receiver .slot3, sender .slot0, sender .slot1, sender .slot2, sender .slot3)
-      (takers-match t matches all-bind 4 (receiver .few) x false)
+      (takers-match t matches all-bind (receiver .few) x)
 
   -- the n records from place i on
   module _ (i n : ℕ) (l : i + n ≤ size t) where

@@ -17,13 +17,13 @@ use Rattle.cows.specs.Format.{byte, word, root, record16}
 use Rattle.cows.specs.Moves.{Substitution, Matching, binds, differs, extend, match, closedEnds, fit}
 use Rattle.cows.proofs.Basics.{never, clash, cond-case, and-none, and-one, or-none}
 use Rattle.records.specs.Ends.{oneIf}
-use Rattle.records.specs.Atoms.{classOf}
+use Rattle.records.specs.Atoms.{classOf, closedAt}
 use Rattle.records.proofs.Atoms.{number-class, variable-class}
 use Rattle.passes.specs.declared.matching.Fit.{Fit}
 use Rattle.passes.specs.declared.matching.Fit.the-variants.{Binds, Differs}
 use Rattle.passes.specs.declared.matching.SlotFit.{SlotFit}
 use Rattle.passes.specs.declared.matching.SlotFit.the-variants.{Takes, Same, Other}
-use Rattle.passes.specs.Matching.{fitOf, slotOf, agrees, boundIn, agree, agreeAt, variablesAt, slotsAt, closedAt, EndsAt}
+use Rattle.passes.specs.Matching.{fitOf, slotOf, agrees, boundIn, agree, agreeAt, variablesAt, slotsAt, EndsAt}
 
 -- one slot by its numbers
 slot-agrees : (w v : ℕ) → agrees (slotOf (classOf w) (classOf v)) ≡ agree w v

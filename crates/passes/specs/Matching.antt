@@ -1,6 +1,6 @@
 -- Matching as the code answers it: how many variables are bound, or that something differs; an endpoint and a tuple by the bytes of a record.
 use mathlib.Core.Path.{_≡_}
-use mathlib.Core.Bool.{Bool, true, false, cond, not, _&&_, _||_}
+use mathlib.Core.Bool.{Bool, true, false, cond, _&&_, _||_}
 use mathlib.Core.List.{List}
 use Prim.Native.Nat.{ℕ, _+_, _*_, _≤_}
 use lib.Dec.{eqb}
@@ -51,12 +51,6 @@ variablesAt s k =
 
 unfoldable pub slotsAt : List ℕ → ℕ → ℕ → Fit
 slotsAt s k m = cond (agreeAt s k m) (Binds (variablesAt s k)) Differs
-
--- whether none of the six atoms of the record at byte k is a variable
-unfoldable pub closedAt : List ℕ → ℕ → Bool
-closedAt s k =
-    not
-    (variable (word s (k + 2)) || (variable (word s (k + 4)) || (variable (word s (k + 6)) || (variable (word s (k + 8)) || (variable (word s (k + 10)) || variable (word s (k + 12)))))))
 
 -- The record at place j has the endpoint and the tuple of r.
 pub record EndsAt (s : List ℕ) (j : ℕ) (r : Ends) : Type 0 where

@@ -1,6 +1,7 @@
 // Matching: whether a receive fits an invoke, by the atoms of their records. The meeting and the conflict test both ask it.
 use records::Atom;
 use records::atom_at;
+use records::closed;
 use records::equal;
 use records::is_variable;
 use records::word_at;
@@ -12,7 +13,7 @@ ghost use Rattle.cows.specs.Terms.{Ends};
 ghost use Rattle.cows.specs.Format.{word};
 ghost use Rattle.cows.specs.Moves.{closedEnds, fit};
 ghost use Rattle.records.specs.Atoms.{classOf};
-ghost use Rattle.passes.specs.Matching.{fitOf, slotOf, agrees, boundIn, closedAt, slotsAt, EndsAt};
+ghost use Rattle.passes.specs.Matching.{fitOf, slotOf, agrees, boundIn, slotsAt, EndsAt};
 
 // The tuples match and bind so many variables, or something differs.
 pub enum Fit {
@@ -82,16 +83,6 @@ fn slots_fit(s: &[u8], k: usize, m: usize) -> Fit
         return Fit::Differs;
     }
     Fit::Binds(bound_in(w) + bound_in(x) + bound_in(y) + bound_in(z))
-}
-
-// Whether the record at byte k holds no variable.
-fn closed(s: &[u8], k: usize) -> bool
-    requires { ⌜ k + 15 < length (now s) ⌝ }
-    ensures { λ r. ⌜ r ≡ closedAt (now (s .entry)) k ⌝ }
-{
-    let back = is_variable(atom_at(s, k + 10)) | is_variable(atom_at(s, k + 12));
-    let tuple = is_variable(atom_at(s, k + 6)) | (is_variable(atom_at(s, k + 8)) | back);
-    !(is_variable(atom_at(s, k + 2)) | (is_variable(atom_at(s, k + 4)) | tuple))
 }
 
 // Whether the receive at place a fits the invoke at place b, which holds no variable.

@@ -8,7 +8,7 @@ ghost use Prim.Native.Nat.{_+_, _-_, _<_, _≤_};
 ghost use lib.Dec.{eqb};
 ghost use lib.ListN.{length};
 ghost use Rattle.cows.specs.Format.{word};
-ghost use Rattle.records.specs.Atoms.{classOf, numberOf, isVariable, isThe, takesAtom, imageOf};
+ghost use Rattle.records.specs.Atoms.{classOf, numberOf, isVariable, closedAt, takesVariable, imageOf};
 ghost use Rattle.records.specs.Ends.{childrenOf};
 
 // The three disjoint sets of atoms, each with a type of its own. Atoms are made only by the classifying read.
@@ -104,6 +104,16 @@ pub fn is_variable(a: Atom) -> bool
     }
 }
 
+// Whether the record at byte k holds no variable.
+pub fn closed(s: &[u8], k: usize) -> bool
+    requires { ⌜ k + 15 < length (now s) ⌝ }
+    ensures { λ r. ⌜ r ≡ closedAt (now (s .entry)) k ⌝ }
+{
+    let back = is_variable(atom_at(s, k + 10)) | is_variable(atom_at(s, k + 12));
+    let tuple = is_variable(atom_at(s, k + 6)) | (is_variable(atom_at(s, k + 8)) | back);
+    !(is_variable(atom_at(s, k + 2)) | (is_variable(atom_at(s, k + 4)) | tuple))
+}
+
 // Which of the labels it is, from 0 on.
 pub fn label_index(k: Label) -> usize
     requires { ⌜ 49152 ≤ k .0 ⌝ }
@@ -118,39 +128,27 @@ pub enum Takes {
     Nothing,
 }
 
-// Whether the atom a is the variable x.
-fn is_the(x: Variable, a: Atom) -> bool
-    ensures { λ r. ⌜ r ≡ isThe x a ⌝ }
+// Whether the variable x takes a value.
+pub fn takes_variable(t: Takes, x: Variable) -> bool
+    ensures { λ r. ⌜ r ≡ takesVariable t x ⌝ }
 {
-    match a {
-        Atom::None => false,
-        Atom::Value(v) => false,
-        Atom::Variable(y) => x.0 == y.0,
-        Atom::Label(k) => false,
-    }
-}
-
-// Whether the atom a is the variable that takes a value.
-pub fn takes_atom(t: Takes, a: Atom) -> bool
-    ensures { λ r. ⌜ r ≡ takesAtom t a ⌝ }
-{
-    let Takes::Pair(x, v) = t else {
+    let Takes::Pair(y, v) = t else {
         return false;
     };
-    is_the(x, a)
+    x.0 == y.0
 }
 
-// What stands for the atom a: the value, if a is the variable.
-pub fn image(t: Takes, a: Atom) -> Atom
-    ensures { λ r. ⌜ r ≡ imageOf t a ⌝ }
+// What stands for the variable x: the value that it takes, or else the other atom.
+pub fn image(t: Takes, x: Variable, other: Atom) -> Atom
+    ensures { λ r. ⌜ r ≡ imageOf t x other ⌝ }
 {
-    let Takes::Pair(x, v) = t else {
-        return a;
+    let Takes::Pair(y, v) = t else {
+        return other;
     };
-    if is_the(x, a) {
+    if x.0 == y.0 {
         return Atom::Value(v);
     }
-    a
+    other
 }
 
 // Kinds 3 and up have a child, 5 and 6 one more.

@@ -1,8 +1,8 @@
 use borrow.Author.Needs.{needs}
 use Rattle.records.proofs.Atoms.{variable-class}
-use Rattle.passes.specs.Matching.{closedAt}
-use Rattle.passes.proofs.matching.closed.Statement.{statement}
-use Rattle.passes.proofs.matching.closed.Tie as tie
+use Rattle.records.specs.Atoms.{closedAt}
+use Rattle.records.proofs.closed.Statement.{statement}
+use Rattle.records.proofs.closed.Tie as tie
 
 pub closed-spec : {M : Type 1} → statement M
 unfolding closedAt
