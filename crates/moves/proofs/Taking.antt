@@ -20,15 +20,12 @@ use Rattle.records.specs.declared.Atom.the-variants.{Variable}
 use Rattle.records.specs.declared.Takes.{Takes}
 use Rattle.records.specs.declared.Takes.the-variants.{Pair, Nothing}
 use Rattle.records.specs.Atoms.{classOf, numberOf, takesVariable, imageOf}
-use Rattle.records.proofs.Atoms.{class-case, class-value, class-variable}
+use Rattle.records.proofs.Atoms.{apart, class-case, class-value, class-variable}
 use Rattle.renaming.specs.Bound.{takesOne, imageOfAll}
 use Rattle.renaming.proofs.Bound.{not-taken, not-changed}
 use Rattle.moves.specs.Replacing as slots
 use Rattle.moves.specs.Replacing.{takesOf}
 use Rattle.moves.proofs.Binds.{image-other}
-
-apart : {A : Type 0} → _≡_ {A = ℕ} 0 1 → A
-apart z = absurd (omega arith)
 
 -- what one slot takes
 takes-so : (w v : ℕ) → variable w ≡ true → value v ≡ true → takesOf w v ≡ Pair (record { 0 = w }) (record { 0 = v })

@@ -1,15 +1,13 @@
 -- Laws of the classes of atoms (specs/Atoms): an atom that was read has the number that was read, and is of the set that its class says.
 use mathlib.Core.Path.{_≡_, refl, sym}
 use mathlib.Core.Bool.{true}
-use Prim.Native.Nat.{ℕ, _≤_, _<_}
+use Prim.Native.Nat.{ℕ, _≤_}
 use native.Mathlib.Omega.{arith}
 use lib.Dec.{leb, ltb, eqb}
 use borrow.Author.Tests.{eqb-true, eqb-false, ne-eqb, ltb-true, ltb-false, lt-ltb, le-ltb}
-use Rattle.cows.specs.Terms.{value, variable, label}
+use Rattle.cows.specs.Terms.{value, variable}
 use Rattle.cows.proofs.Basics.{cond-case, and-none}
-use Rattle.cows.proofs.Sets.{in-values, in-variables, value-range, variable-range, label-range}
-use Rattle.records.specs.declared.Variable as variables
-use Rattle.records.specs.declared.Value as values
+use Rattle.cows.proofs.Sets.{in-values, in-variables, value-range, variable-range}
 use Rattle.records.specs.declared.Label as labels
 use Rattle.records.specs.declared.Atom.{Atom}
 use Rattle.records.specs.declared.Atom.the-variants.{None, Value, Variable, Label}
@@ -36,20 +34,11 @@ pub class-variable : (n : ℕ) → variable n ≡ true → classOf n ≡ Variabl
 unfolding classOf
 class-variable n e = let (l, k) = variable-range n e in rw (ne-eqb n 0 (λ z. omega arith), le-ltb n 32768 l, lt-ltb n 49152 k)
 
-pub class-label : (n : ℕ) → label n ≡ true → classOf n ≡ Label (record { 0 = n })
-unfolding classOf
-class-label n e = let (l, k) = label-range n e in rw (ne-eqb n 0 (λ z. omega arith), le-ltb n 32768 (omega arith), le-ltb n 49152 l)
-
--- and back
-apart : {A : Type 0} → _≡_ {A = ℕ} 0 1 → A
+-- two constructors are never equal, which `cc` finds
+pub apart : {A : Type 0} → _≡_ {A = ℕ} 0 1 → A
 apart z = absurd (omega arith)
 
-pub is-value : (n : ℕ) (v : values.Value) → classOf n ≡ Value v → (v .0 ≡ n) × (value n ≡ true)
-is-value n v = class-case (λ a. a ≡ Value v → (v .0 ≡ n) × (value n ≡ true)) n (λ z e. apart (cc)) (λ h e. (cc, h)) (λ h e. apart (cc)) (λ l e. apart (cc))
-
-pub is-variable : (n : ℕ) (x : variables.Variable) → classOf n ≡ Variable x → (x .0 ≡ n) × (variable n ≡ true)
-is-variable n x = class-case (λ a. a ≡ Variable x → (x .0 ≡ n) × (variable n ≡ true)) n (λ z e. apart (cc)) (λ h e. apart (cc)) (λ h e. (cc, h)) (λ l e. apart (cc))
-
+-- and back
 pub is-label : (n : ℕ) (k : labels.Label) → classOf n ≡ Label k → (k .0 ≡ n) × (49152 ≤ n)
 is-label n k = class-case (λ a. a ≡ Label k → (k .0 ≡ n) × (49152 ≤ n)) n (λ z e. apart (cc)) (λ h e. apart (cc)) (λ h e. apart (cc)) (λ l e. (cc, l))
 
