@@ -12,9 +12,10 @@ use Rattle.cows.specs.Terms.{Term, leaf, under, Ends, size, prefixed, receives,
 use Rattle.cows.specs.Places.{wayTo, sub, first}
 use Rattle.cows.specs.Format.{byte, root, layout, record16, kindOf}
 use Rattle.cows.specs.Active.{live, wanted}
-use Rattle.cows.specs.Moves.{Substitution, Matching, binds, differs, fit, matched, inScope, heldBack, tighter, silence, continue, bind, communicateAt}
+use Rattle.cows.specs.Moves.{Substitution, Matching, binds, differs, closedEnds, fit, matched, inScope, heldBack, tighter, silence, continue, bind, communicateAt}
 use Rattle.cows.specs.Step.{overLimits}
 use Rattle.cows.proofs.Fields.{kind-receive, kind-invoke}
+use Rattle.cows.proofs.Meeting.{fit-fits}
 use Rattle.cows.proofs.Stands.{receiveOf, invokeOf, receives-is, invokes-is, prefixed-is, live-wanted}
 use Rattle.passes.specs.Known.{Table}
 use Rattle.passes.specs.Ways.{startOf, LiveAt}
@@ -117,6 +118,10 @@ module _ (s ends receiver : List ℕ) (t : Term) (a b k : ℕ) (z : Table s ends
         invokes = invoke-at .1;
         fits = pairs .1;
       }
+
+      pub closed : closedEnds m ≡ true
+      unfolding closedEnds
+      closed = rw (fit-fits q m σ (pairs .1) .closed)
 
       pub apart : every (inScope t a b) σ ≡ false → communicateAt t a b ≡ refuse 13 a
       unfolding communicateAt _>>=_ _>>_ matched forbid placeIf

@@ -28,10 +28,6 @@ use Rattle.moves.proofs.Continuing.{span}
 use Rattle.moves.proofs.Meets.{accepted-met}
 use Rattle.moves.proofs.Replacing.{part-bound}
 
--- what a slot takes is known by its fields
-pub takes-made : (r : Takes) (w v : ℕ) → (r .variable ≡ w) × (r .value ≡ v) → r ≡ record { variable = w; value = v }
-takes-made r w v e = ap₂ (λ (x y : ℕ). record { variable = x; value = y }) (e .0) (e .1)
-
 -- Where the parties and the choice stand in the table.
 pub record Spans (s ends : List ℕ) (a b from : ℕ) : Type 0 where
   pub span : Span ends (length s / 16) a from

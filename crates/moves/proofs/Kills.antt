@@ -8,15 +8,15 @@ use native.Mathlib.Omega.{arith}
 use lib.Dec.{ltb, eqb}
 use lib.ListN.{length, take, drop, length-drop}
 use lib.Seq.{take-all, length-take-le}
-use borrow.Author.Tests.{ne-eqb, le-ltb, leb-true}
 use Rattle.cows.specs.Basics.{refuse, accept, _>>=_}
-use Rattle.cows.specs.Terms.{kill, Term, leaf, size, kills, label}
+use Rattle.cows.specs.Terms.{kill, Term, leaf, size, kills}
 use Rattle.cows.specs.Places.{wayTo, sub}
 use Rattle.cows.specs.Format.{byte, word, root, layout, record16, kindOf, encode}
 use Rattle.cows.specs.Active.{live, wanted}
 use Rattle.cows.specs.Allows.{Live}
 use Rattle.cows.specs.Moves.{afterKill, killAt}
-use Rattle.cows.proofs.Basics.{and-true, bind-accept, same-accept}
+use Rattle.cows.proofs.Basics.{bind-accept, same-accept}
+use Rattle.cows.proofs.Sets.{label-range}
 use Rattle.cows.proofs.Places.{spot-fits}
 use Rattle.cows.proofs.Format.{length-encode}
 use Rattle.cows.proofs.Fields.{kind-kill, first-kill}
@@ -24,10 +24,11 @@ use Rattle.cows.proofs.Stands.{kills-is, wanted-live, live-wanted}
 use Rattle.records.specs.Atoms.{classOf}
 use Rattle.records.specs.Rows.{foundOf}
 use Rattle.records.specs.Rewrites.{put, Stands, Ready, Done, Rewrites}
-use Rattle.records.specs.declared.Atom.{Atom}
+use Rattle.records.specs.declared.Label as labels
 use Rattle.records.specs.declared.Atom.the-variants.{Label}
 use Rattle.records.specs.declared.Found.{Found}
 use Rattle.records.specs.declared.Found.the-variants.{At, Nothing}
+use Rattle.records.proofs.Atoms as classes
 use Rattle.records.proofs.Put.{and-then}
 use Rattle.records.proofs.Stands.{holds-word, holds-stands}
 use Rattle.records.proofs.Rewrites.{ready}
@@ -40,7 +41,7 @@ use Rattle.passes.proofs.Tables.{table-size}
 use Rattle.moves.specs.declared.Judgement.the-variants.{Allowed}
 use Rattle.moves.specs.declared.Plan.{Plan}
 use Rattle.moves.specs.Plans.{Planned, Asks}
-use Rattle.moves.specs.Killing.{killScope, labelScope}
+use Rattle.moves.specs.Killing.{killScope}
 use Rattle.moves.proofs.Planning.{planned-allowed, absent}
 use Rattle.moves.proofs.Killing.{is-label, has-scope, scope-place, body-placed, left-is, kill-size, kill-limits, kill-bytes}
 
@@ -51,12 +52,6 @@ kind-of-kill s k e = ap kindOf (kills-is s k e)
 pub no-kill : (t : Term) (a : ℕ) → (ltb a (size t) && live (wayTo t a) && eqb (kindOf (sub t a)) 1) ≡ false → killAt t a ≡ refuse 11 a
 unfolding killAt _>>=_
 no-kill t a h = rw (absent kills 1 kind-of-kill t a h)
-
-label-class : (k : ℕ) → label k ≡ true → classOf k ≡ Label (record { 0 = k })
-unfolding label classOf
-label-class k e =
-    let l = leb-true 49152 k (and-true _ _ e .0) in
-    rw (ne-eqb k 0 (λ z. omega arith), le-ltb k 32768 (omega arith), le-ltb k 49152 l)
 
 -- a live kill, its label, and the move on it
 module _ (s way : List ℕ) (t : Term) (a n : ℕ) (h : LiveAt s way a 1 t n) where
@@ -74,15 +69,19 @@ module _ (s way : List ℕ) (t : Term) (a n : ℕ) (h : LiveAt s way a 1 t n) wh
       holds-word s t a 2 (h .walks .holds) (h .walks .inside) (omega arith)
       ∙ (ap (λ x. word (record16 (root x)) 2) (kill-at .1) ∙ first-kill k)
 
+  -- no other atom is killed
+  pub label-there : (ends : List ℕ) → Table s ends t → word s (16 * a + 2) < 49152 → ⊥
+  label-there ends z x = omega (arith, label-word, label-range k (is-label t (z .within) a k kill-live))
+
   fires : killAt t a ≡ accept (afterKill k t a)
   unfolding killAt _>>=_ kills
   fires = rw (live-wanted kills t a k (leaf (kill k)) refl kill-live)
 
   -- the scope that is found
-  module _ (ends : List ℕ) (z : Table s ends t) (atom : Atom) (c : atom ≡ classOf (word s (16 * a + 2)))
-      (f : Found) (e : f ≡ foundOf (labelScope atom (wayTo t a))) where
+  module _ (ends : List ℕ) (z : Table s ends t) (l : labels.Label) (c : classOf (word s (16 * a + 2)) ≡ Label l)
+      (f : Found) (e : f ≡ foundOf (scopeOf (l .0) (wayTo t a))) where
     found-scope : f ≡ foundOf (scopeOf k (wayTo t a))
-    found-scope = e ∙ rw (c, label-word, label-class k (is-label t (z .within) a k kill-live))
+    found-scope = e ∙ ap (λ d. foundOf (scopeOf d (wayTo t a))) (classes.is-label _ l c .0 ∙ label-word)
 
     pub scope-there : f ≡ Nothing → ⊥
     scope-there x =

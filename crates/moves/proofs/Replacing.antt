@@ -1,23 +1,21 @@
 -- What the four slots of a receive take (specs/Replacing) is the substitution of its matching, and the records of a table so bound are its boundNodes (crate cows, proofs/Binds).
 use mathlib.Core.Path.{_≡_, refl, sym, ap, ap₂, subst, _∙_}
 use mathlib.Core.Logic.{_≢_}
-use mathlib.Core.Bool.{Bool, true, false, cond, _||_, or-assoc}
+use mathlib.Core.Bool.{Bool, true, false, cond}
 use mathlib.Core.List.{List, [], _∷_, _++_, append-nil}
 use Prim.Native.Nat.{ℕ, zero, suc, _+_, _*_, _≤_, _<_}
 use native.Mathlib.Omega.{arith}
-use lib.Dec.{ltb, eqb}
+use lib.Dec.{eqb}
 use lib.ListN.{length, getD, take, drop, length-drop, take-append-drop}
 use lib.Seq.{length-take-le}
-use borrow.Author.Tests.{eqb-true, eq-eqb, ne-eqb, ltb-false, lt-ltb, le-ltb, le-leb}
+use borrow.Author.Tests.{eq-eqb, ne-eqb}
 use Rattle.cows.specs.Basics.{any, holds}
-use Rattle.cows.specs.Terms.{nil, kill, invoke, receive, wait, protection, delimitation, replication, choice, parallel, Term, leaf, Ends, value, variable, size, delimits, delimitsAtom, below}
+use Rattle.cows.specs.Terms.{nil, kill, invoke, receive, wait, protection, delimitation, replication, choice, parallel, Term, leaf, Ends, variable, size, delimits, delimitsAtom, below}
 use Rattle.cows.specs.Places.{sub}
 use Rattle.cows.specs.Format.{byte, word, Node, basic, prefix, join, nodes, root, layout, record16, bytes, encode}
 use Rattle.cows.specs.Within.{Right, Within}
-use Rattle.cows.specs.Allows.{Matches, empty, takes, equals}
+use Rattle.cows.specs.Allows.{Matches}
 use Rattle.cows.specs.Moves.{Substitution, mapBasic, silence, image}
-use Rattle.cows.proofs.Basics.{clash, cond-case, true-and, or-none}
-use Rattle.cows.proofs.Sets.{value-range, variable-range}
 use Rattle.cows.proofs.Fields.{drop-bytes, append-bytes, first-delimitation}
 use Rattle.cows.proofs.Records.{RightNode, length-record16}
 use Rattle.cows.proofs.Format.{length-nodes, RightNodes, right-nodes}
@@ -26,9 +24,7 @@ use Rattle.cows.proofs.Silence.{silence-nodes}
 use Rattle.cows.proofs.Binds.{nodeDelimits, bindNode, boundNodes, image-both, image-other, image-value}
 use Rattle.cows.proofs.Meeting.{fit-fits}
 use Rattle.cows.proofs.Stands.{right-at, invokeOf}
-use Rattle.records.specs.declared.Atom.the-variants.{Value, Variable}
 use Rattle.records.specs.declared.Takes.{Takes}
-use Rattle.records.specs.Atoms.{classOf, takesAtom, imageOf}
 use Rattle.records.specs.Holds.{Holds}
 use Rattle.records.specs.Rewrites.{Has}
 use Rattle.records.proofs.Put.{has-left, has-right, has-take}
@@ -39,71 +35,8 @@ use Rattle.renaming.specs.Bound.{takesOne, imageOfAll, goes, boundRecord, bound
 use Rattle.renaming.proofs.Mapped.{record-mapped}
 use Rattle.renaming.proofs.Occurring.{not-zero}
 use Rattle.moves.specs.Binding.{Matched}
-use Rattle.moves.specs.Replacing as slots
-use Rattle.moves.specs.Replacing.{nothing, takesOf}
-
--- what one slot takes
-class-variable : (w : ℕ) → variable w ≡ true → classOf w ≡ Variable (record { 0 = w })
-unfolding classOf
-class-variable w e = let (l, k) = variable-range w e in rw (ne-eqb w 0 (λ z. omega arith), le-ltb w 32768 l, lt-ltb w 49152 k)
-
-class-value : (v : ℕ) → value v ≡ true → classOf v ≡ Value (record { 0 = v })
-unfolding classOf
-class-value v e = let (l, k) = value-range v e in rw (ne-eqb v 0 (λ z. omega arith), lt-ltb v 32768 k)
-
-takes-so : (w v : ℕ) → variable w ≡ true → value v ≡ true → takesOf w v ≡ record { variable = w; value = v }
-unfolding takesOf
-takes-so w v e k = rw (class-variable w e, class-value v k)
-
-takes-none : (w v : ℕ) → variable w ≡ false → takesOf w v ≡ nothing
-unfolding takesOf classOf variable
-takes-none w v e =
-    cond-case (λ c. slots.takes c (classOf v) ≡ nothing) (eqb w 0) (λ z. refl)
-    (λ z.
-    cond-case (λ c. slots.takes c (classOf v) ≡ nothing) (ltb w 32768) (λ l. refl)
-    (λ l. cond-case (λ c. slots.takes c (classOf v) ≡ nothing) (ltb w 49152) (λ k. clash (true-and (le-leb 32768 w (ltb-false w 32768 l)) k) e) (λ k. refl)))
-
-none-image : (w v : ℕ) → variable w ≡ false → (a : ℕ) → imageOf (takesOf w v) a ≡ a
-unfolding imageOf image
-none-image w v e a = rw (takes-none w v e) (cond-case (λ x. x ≡ a) (eqb a 0) (λ k. sym (eqb-true a 0 k)) (λ k. refl))
-
-none-takes : (w v : ℕ) → variable w ≡ false → (a : ℕ) → a ≢ 0 → (x : Bool) → (x || takesAtom (takesOf w v) a) ≡ x
-none-takes w v e a n x = rw (takes-none w v e, ne-eqb 0 a (λ z. n (sym z))) (or-none x)
-
--- What stands for an atom when n slots take their values in turn; whether one of them takes the atom, or x.
-images : ℕ → (ℕ → ℕ) → (ℕ → ℕ) → ℕ → ℕ
-images zero w v a = a
-images (suc n) w v a = images n (λ i. w (suc i)) (λ i. v (suc i)) (imageOf (takesOf (w 0) (v 0)) a)
-
-takers : ℕ → (ℕ → ℕ) → (ℕ → ℕ) → ℕ → Bool → Bool
-takers zero w v a x = x
-takers (suc n) w v a x = takers n (λ i. w (suc i)) (λ i. v (suc i)) a (x || takesAtom (takesOf (w 0) (v 0)) a)
-
-module _ (t : Term) where
-  images-match : {ws vs : List ℕ} {σ : Substitution} → Matches ws vs σ → AllBind t σ → (n : ℕ) → length ws ≤ n → (a : ℕ) → images n (λ i. getD ws i 0) (λ i. getD vs i 0) a ≡ image σ a
-  unfolding images imageOf image variable
-  images-match empty h zero l a = refl
-  images-match empty h (suc n) l a = ap (images n (λ i. 0) (λ i. 0)) (none-image 0 0 refl a) ∙ images-match empty h n (omega arith) a
-  images-match (takes e m) h zero l a = absurd (omega arith)
-  images-match (takes {w = w} {v = v} {ws = ws} {vs = vs} {σ = σ} e m) h (suc n) l a =
-      ap (λ r. images n (λ i. getD ws i 0) (λ i. getD vs i 0) (imageOf r a)) (takes-so w v e (h .0 .datum))
-      ∙ (images-match m (h .1) n (omega arith) (image ((w, v) ∷ []) a) ∙ image-both w v σ (image-value t σ (h .1) v (h .0 .datum)) a)
-  images-match (equals e m) h zero l a = absurd (omega arith)
-  images-match (equals {v = v} {ws = ws} {vs = vs} e m) h (suc n) l a =
-      ap (images n (λ i. getD ws i 0) (λ i. getD vs i 0)) (none-image v v e a) ∙ images-match m h n (omega arith) a
-
-  takers-match : {ws vs : List ℕ} {σ : Substitution} → Matches ws vs σ → AllBind t σ → (n : ℕ) → length ws ≤ n → (a : ℕ) → a ≢ 0 → (x : Bool)
-      → takers n (λ i. getD ws i 0) (λ i. getD vs i 0) a x ≡ (x || any (λ (p : ℕ × ℕ). eqb (p .0) a) σ)
-  unfolding takers any variable
-  takers-match empty h zero l a z x = sym (or-none x)
-  takers-match empty h (suc n) l a z x = ap (takers n (λ i. 0) (λ i. 0) a) (none-takes 0 0 refl a z x) ∙ takers-match empty h n (omega arith) a z x
-  takers-match (takes e m) h zero l a z x = absurd (omega arith)
-  takers-match (takes {w = w} {v = v} {ws = ws} {vs = vs} {σ = σ} e m) h (suc n) l a z x =
-      ap (λ r. takers n (λ i. getD ws i 0) (λ i. getD vs i 0) a (x || takesAtom r a)) (takes-so w v e (h .0 .datum))
-      ∙ (takers-match m (h .1) n (omega arith) a z (x || eqb w a) ∙ or-assoc x (eqb w a) (any (λ (p : ℕ × ℕ). eqb (p .0) a) σ))
-  takers-match (equals e m) h zero l a z x = absurd (omega arith)
-  takers-match (equals {v = v} {ws = ws} {vs = vs} e m) h (suc n) l a z x =
-      ap (takers n (λ i. getD ws i 0) (λ i. getD vs i 0) a) (none-takes v v e a z x) ∙ takers-match m h n (omega arith) a z x
+use Rattle.moves.specs.Replacing.{takesOf}
+use Rattle.moves.proofs.Taking.{images-match, takers-match}
 
 -- The records from place i on, with nil at place b.
 silenced : (b i : ℕ) → List Node → List Node
@@ -221,16 +154,14 @@ module _ (s : List ℕ) (t : Term) (a b : ℕ) (q m : Ends) (σ : Substitution) 
       all-in-scope t a b (w .formed) σ (values-fit q m σ (r .2 .1) (h .fits)) (h .scopes)
 
   images-all : (x : ℕ) → imageOfAll t₀ t₁ t₂ t₃ x ≡ image σ x
-  unfolding images
   images-all x =
       rw (e₀, e₁, e₂, e₃, receiver .slot0, receiver .slot1, receiver .slot2, receiver .slot3, sender .slot0, sender .slot1, sender .slot2, sender .slot3)
-      (images-match t matches all-bind 4 (receiver .few) x)
+      (images-match t matches all-bind (receiver .few) x)
 
   takers-all : (x : ℕ) → x ≢ 0 → takesOne t₀ t₁ t₂ t₃ x ≡ any (λ (p : ℕ × ℕ). eqb (p .0) x) σ
-  unfolding takers
   takers-all x z =
       rw (e₀, e₁, e₂, e₃, receiver .slot0, receiver .slot1, receiver .slot2, receiver .slot3, sender .slot0, sender .slot1, sender .slot2, sender .slot3)
-      (takers-match t matches all-bind 4 (receiver .few) x z false)
+      (takers-match t matches all-bind (receiver .few) x)
 
   -- the n records from place i on
   module _ (i n : ℕ) (l : i + n ≤ size t) where

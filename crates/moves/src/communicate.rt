@@ -6,16 +6,13 @@ use crate::cutting::left;
 use crate::refused;
 use passes::matching::Fit;
 use passes::matching::fits;
-use passes::matching::is_variable;
+use passes::scoping::in_scope;
 use records::Atom;
 use records::Found;
 use records::Takes;
 use records::Variable;
 use records::atom_at;
-use records::takes_nothing;
-use records::taking;
 use records::wide16;
-use records::word_at;
 use renaming::binding::write_bound;
 ghost use mathlib.Core.Path.{_≡_};
 ghost use Prim.Native.Nat.{ℕ, _+_, _*_, _<_};
@@ -32,23 +29,55 @@ ghost use Rattle.moves.specs.Meeting.{Meets, Slot, mismatchOf};
 ghost use Rattle.cows.specs.Format.{word};
 ghost use Rattle.moves.specs.Replacing.{taken, takes, takesOf};
 
-// 13 in one slot, with w in the pattern and v in the message: a variable's scopes are in order.
+// What the variable x takes from an atom that is sent.
+fn variable_takes(x: Variable, sent: Atom) -> Takes
+    ensures { λ r. ⌜ r ≡ taken x sent ⌝ }
+{
+    match sent {
+        Atom::None => Takes::Nothing,
+        Atom::Value(v) => Takes::Pair(x, v),
+        Atom::Variable(y) => Takes::Nothing,
+        Atom::Label(k) => Takes::Nothing,
+    }
+}
+
+// What an atom of a pattern takes from an atom that is sent.
+fn atom_takes(atom: Atom, sent: Atom) -> Takes
+    ensures { λ r. ⌜ r ≡ takes atom sent ⌝ }
+{
+    match atom {
+        Atom::None => Takes::Nothing,
+        Atom::Value(v) => Takes::Nothing,
+        Atom::Variable(x) => variable_takes(x, sent),
+        Atom::Label(k) => Takes::Nothing,
+    }
+}
+
+// What the pattern's slot at byte k takes from the tuple's slot at byte m.
+fn takes_at(s: &[u8], k: usize, m: usize) -> Takes
+    requires { ⌜ (k + 1 < length (now s)) × (m + 1 < length (now s)) ⌝ }
+    ensures { λ r. ⌜ r ≡ takesOf (word (now (s .entry)) k) (word (now (s .entry)) m) ⌝ }
+{
+    atom_takes(atom_at(s, k), atom_at(s, m))
+}
+
+// 13 in one slot, at byte p of the pattern and byte q of the message: the scopes of what is taken are in order.
 fn slot_in_scope(
     s: &[u8],
     receiver: &[u16],
     k: usize,
     sender: &[u16],
     n: usize,
-    w: u16,
-    v: u16,
+    p: usize,
+    q: usize,
 ) -> bool
-    requires { ⌜ Walk (now s) (now receiver) k × Walk (now s) (now sender) n ⌝ }
-    ensures { λ r. ⌜ ((t : Term) (a b : ℕ) → Slot (now (s .entry)) (now (receiver .entry)) k (now (sender .entry)) n w v t a b → r ≡ slotTest (inScope t a b) w v) ⌝ }
+    requires { ⌜ Walk (now s) (now receiver) k × Walk (now s) (now sender) n × (p + 1 < length (now s)) × (q + 1 < length (now s)) ⌝ }
+    ensures { λ r. ⌜ ((t : Term) (a b : ℕ) → Slot (now (s .entry)) (now (receiver .entry)) k (now (sender .entry)) n (word (now (s .entry)) p) (word (now (s .entry)) q) t a b → r ≡ slotTest (inScope t a b) (word (now (s .entry)) p) (word (now (s .entry)) q)) ⌝ }
 {
-    if !is_variable(w) {
+    let Takes::Pair(x, v) = takes_at(s, p, q) else {
         return true;
-    }
-    passes::scoping::in_scope(s, receiver, k, sender, n, w, v)
+    };
+    in_scope(s, receiver, k, sender, n, x, v)
 }
 
 // 13 for the receive at place a and the invoke at place b, which fits it.
@@ -66,44 +95,10 @@ fn all_in_scope(
 {
     let p = 16 * a;
     let q = 16 * b;
-    let back = slot_in_scope(
-        s,
-        receiver,
-        k,
-        sender,
-        n,
-        word_at(s, p + 10),
-        word_at(s, q + 10),
-    )
-        & slot_in_scope(
-            s,
-            receiver,
-            k,
-            sender,
-            n,
-            word_at(s, p + 12),
-            word_at(s, q + 12),
-        );
-    let tail = slot_in_scope(
-        s,
-        receiver,
-        k,
-        sender,
-        n,
-        word_at(s, p + 8),
-        word_at(s, q + 8),
-    )
-        & back;
-    slot_in_scope(
-        s,
-        receiver,
-        k,
-        sender,
-        n,
-        word_at(s, p + 6),
-        word_at(s, q + 6),
-    )
-        & tail
+    let back = slot_in_scope(s, receiver, k, sender, n, p + 10, q + 10)
+        & slot_in_scope(s, receiver, k, sender, n, p + 12, q + 12);
+    let tail = slot_in_scope(s, receiver, k, sender, n, p + 8, q + 8) & back;
+    slot_in_scope(s, receiver, k, sender, n, p + 6, q + 6) & tail
 }
 
 // 12: what the proposer is told of a matching.
@@ -149,38 +144,6 @@ pub fn judge(s: &[u8], ends: &[u16], a: usize, b: usize) -> Plan
         judgement: Judgement::Allowed(left(ends, s.len() / 16, a, from) - l),
         from,
     }
-}
-
-// What the variable x takes from an atom that is sent.
-fn variable_takes(x: Variable, sent: Atom) -> Takes
-    ensures { λ r. ⌜ r ≡ taken (x .0) sent ⌝ }
-{
-    match sent {
-        Atom::None => takes_nothing(),
-        Atom::Value(v) => taking(x, v),
-        Atom::Variable(y) => takes_nothing(),
-        Atom::Label(k) => takes_nothing(),
-    }
-}
-
-// What an atom of a pattern takes from an atom that is sent.
-fn atom_takes(atom: Atom, sent: Atom) -> Takes
-    ensures { λ r. ⌜ r ≡ takes atom sent ⌝ }
-{
-    match atom {
-        Atom::None => takes_nothing(),
-        Atom::Value(v) => takes_nothing(),
-        Atom::Variable(x) => variable_takes(x, sent),
-        Atom::Label(k) => takes_nothing(),
-    }
-}
-
-// What the pattern's slot at byte k takes from the tuple's slot at byte m.
-fn takes_at(s: &[u8], k: usize, m: usize) -> Takes
-    requires { ⌜ (k + 1 < length (now s)) × (m + 1 < length (now s)) ⌝ }
-    ensures { λ r. ⌜ r ≡ takesOf (word (now (s .entry)) k) (word (now (s .entry)) m) ⌝ }
-{
-    atom_takes(atom_at(s, k), atom_at(s, m))
 }
 
 // The successor when the receive at place a meets the invoke at place b: what stands ahead of the choice, the continuation, and what stands behind the choice, with the invoke silenced and the variables bound.

@@ -8,31 +8,12 @@ use records::Atom;
 use records::Found;
 use records::atom_at;
 use records::copying::copy;
-use records::label_number;
 use rewriting::halting::aside_at;
-ghost use mathlib.Core.Path.{_≡_};
-ghost use Prim.Native.Nat.{ℕ};
 ghost use Rattle.cows.specs.Terms.{Term};
-ghost use Rattle.cows.specs.Places.{wayTo};
 ghost use Rattle.cows.specs.Moves.{killAt};
-ghost use Rattle.records.specs.Rows.{foundOf};
 ghost use Rattle.passes.specs.Known.{Table, Known};
-ghost use Rattle.passes.specs.Ways.{Walks, Walk};
 ghost use Rattle.moves.specs.Plans.{Planned, Asks, Gives};
-ghost use Rattle.moves.specs.Killing.{killScope, labelScope};
-
-// The delimitation of a label that encloses the place, by the n records on the way to it. Only labels are killed.
-fn label_scope(s: &[u8], way: &[u16], n: usize, atom: Atom) -> Found
-    requires { ⌜ Walk (now s) (now way) n ⌝ }
-    ensures { λ r. ⌜ ((t : Term) (a : ℕ) → Walks (now (s .entry)) (now (way .entry)) n t a → r ≡ foundOf (labelScope atom (wayTo t a))) ⌝ }
-{
-    match atom {
-        Atom::None => Found::Nothing,
-        Atom::Value(v) => Found::Nothing,
-        Atom::Variable(x) => Found::Nothing,
-        Atom::Label(k) => scope(s, way, n, label_number(k)),
-    }
-}
+ghost use Rattle.moves.specs.Killing.{killScope};
 
 // The move on the kill at place a; the place of its plan is the [k] around it, which every well-formed table has.
 pub fn judge(s: &[u8], ends: &[u16], a: usize) -> Plan
@@ -44,8 +25,11 @@ pub fn judge(s: &[u8], ends: &[u16], a: usize) -> Plan
     let Found::At(n) = found else {
         return refused(Judgement::Absent(a));
     };
-    let scope = label_scope(s, &way, n, atom_at(s, 16 * a + 2));
-    let Found::At(from) = scope else {
+    let atom = atom_at(s, 16 * a + 2);
+    let Atom::Label(k) = atom else {
+        return refused(Judgement::Absent(a));
+    };
+    let Found::At(from) = scope(s, &way, n, Atom::Label(k)) else {
         return refused(Judgement::Absent(a));
     };
     Plan {

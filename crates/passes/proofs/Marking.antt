@@ -2,10 +2,12 @@
 use mathlib.Core.Path.{_≡_, refl, sym, ap, _∙_}
 use mathlib.Core.Logic.{_≢_}
 use mathlib.Core.Bool.{Bool, true, false, not, _&&_, _||_}
-use mathlib.Core.List.{List}
+use mathlib.Core.List.{List, [], _∷_}
 use mathlib.Core.Option.{none, some}
 use Prim.Native.Nat.{ℕ, zero, suc, _+_, _*_, _-_, _/_, _≤_, _<_}
 use native.Mathlib.Omega.{arith}
+use types.Run.{OneOf, miss}
+use denote.Enum.Declared.{tagOf}
 use lib.Dec.{ltb, eqb}
 use lib.ListN.{length, getD, set, replicate}
 use lib.Seq.{getD-set-same, getD-set-other}
@@ -19,7 +21,10 @@ use Rattle.cows.specs.Moves.{readyKill, heldBack}
 use Rattle.cows.proofs.Basics.{clash, bool-case, not-so, and-none, none-found}
 use Rattle.cows.proofs.Fields.{kind-kill, kind-delimitation, first-kill, first-delimitation}
 use Rattle.cows.proofs.Scans.{passing}
-use Rattle.cows.proofs.Sets.{in-labels, label-range}
+use Rattle.cows.proofs.Sets.{in-labels, value-range, variable-range, label-range}
+use Rattle.records.specs.Atoms.{classOf}
+use Rattle.records.proofs.Atom.{the-type}
+use Rattle.records.proofs.Atoms.{class-case}
 use Rattle.records.proofs.Stands.{holds-kind, holds-word}
 use Rattle.passes.specs.Known.{Table}
 use Rattle.passes.specs.Holding.{readyKind, Blank, Marked, Parties, Sides}
@@ -133,6 +138,10 @@ module _ (s ends : List ℕ) (t : Term) (h : Table s ends t) (i : ℕ) (l : i < 
                 (λ n. m .marked k q (λ y. z (other-mark k q n ∙ y)));
           }
 
+-- an atom that the code has told to be no label
+pub no-label : (w : ℕ) → OneOf (0 ∷ 1 ∷ 2 ∷ []) (tagOf the-type (classOf w)) → w < 49152
+no-label w = class-case (λ a. OneOf (0 ∷ 1 ∷ 2 ∷ []) (tagOf the-type a) → w < 49152) w (λ z e. omega arith) (λ h e. omega (arith, value-range w h)) (λ h e. omega (arith, variable-range w h)) (λ l e. absurd (miss (0 ∷ 1 ∷ 2 ∷ []) 3 tt e))
+
 and-one : (a : Bool) → a ≡ (a && true)
 and-one true = refl
 and-one false = refl
@@ -167,10 +176,10 @@ module _ (s ends marks : List ℕ) (a b : ℕ) (d : Sides s ends marks a b) (n :
       mark-is : not (eqb (getD marks (k - 49152) 0) 0) ≡ found (first (readyKill k) t)
       mark-is = h .marked k (in-labels k u v .2)
 
-      pub held-unmarked : getD marks (k - 49152) 0 ≡ 0 → heldBack a b n (spot t n) ≡ false
-      held-unmarked z = held-not (sym mark-is ∙ rw (eq-eqb _ _ z))
+      pub held-unmarked : not (eqb (getD marks (k - 49152) 0) 0) ≡ false → heldBack a b n (spot t n) ≡ false
+      held-unmarked z = held-not (sym mark-is ∙ z)
 
-      pub held-marked : getD marks (k - 49152) 0 ≢ 0 → (end : ℕ) → end ≡ getD ends n 0 → ((ltb n a && ltb a end) || (ltb n b && ltb b end)) ≡ heldBack a b n (spot t n)
+      pub held-marked : not (eqb (getD marks (k - 49152) 0) 0) ≡ true → (end : ℕ) → end ≡ getD ends n 0 → ((ltb n a && ltb a end) || (ltb n b && ltb b end)) ≡ heldBack a b n (spot t n)
       unfolding encloses
       held-marked z end q =
-          rw (held-is, ← mark-is, ne-eqb _ _ z, q, table-ended s ends t (h .table) n known) (and-one _)
+          rw (held-is, sym mark-is ∙ z, q, table-ended s ends t (h .table) n known) (and-one _)

@@ -1,5 +1,6 @@
 -- Matching by four slots of which those that are not used are 0 (specs/Matching) is matching of the tuples (cows, specs/Moves).
 use mathlib.Core.Path.{_≡_, refl, sym, ap, _∙_}
+use mathlib.Core.Logic.{_≢_}
 use mathlib.Core.Bool.{Bool, true, false, cond, not, _&&_, _||_}
 use mathlib.Core.List.{List, [], _∷_}
 use Prim.Native.Nat.{ℕ, suc, _+_, _*_, _≤_, _<_}
@@ -7,8 +8,6 @@ use native.Mathlib.Omega.{arith}
 use native.Mathlib.Numerals.{add-one}
 use lib.Dec.{eqb}
 use lib.ListN.{length, getD}
-use mir.Syntax.{w64}
-use mir.Val.{Fits, boolByte}
 use borrow.Author.Tests.{eq-eqb, ne-eqb, eqb-true, eqb-false}
 use Rattle.cows.specs.Basics.{any, every}
 use Rattle.cows.specs.Allows.{Matches, empty, takes, equals}
@@ -16,23 +15,50 @@ use Rattle.cows.proofs.Meeting.{match-matches}
 use Rattle.cows.specs.Terms.{receive, invoke, Term, leaf, under, Ends, variable}
 use Rattle.cows.specs.Format.{byte, word, root, record16}
 use Rattle.cows.specs.Moves.{Substitution, Matching, binds, differs, extend, match, closedEnds, fit}
-use Rattle.cows.proofs.Basics.{clash, and-true, and-none, and-one, or-none}
+use Rattle.cows.proofs.Basics.{never, clash, cond-case, and-none, and-one, or-none}
 use Rattle.records.specs.Ends.{oneIf}
+use Rattle.records.specs.Atoms.{classOf, closedAt}
+use Rattle.records.proofs.Atoms.{number-class, variable-class}
 use Rattle.passes.specs.declared.matching.Fit.{Fit}
 use Rattle.passes.specs.declared.matching.Fit.the-variants.{Binds, Differs}
-use Rattle.passes.specs.Matching.{fitOf, agree, variables4, closedAt, agreeAt, EndsAt}
+use Rattle.passes.specs.declared.matching.SlotFit.{SlotFit}
+use Rattle.passes.specs.declared.matching.SlotFit.the-variants.{Takes, Same, Other}
+use Rattle.passes.specs.Matching.{fitOf, slotOf, agrees, boundIn, agree, agreeAt, variablesAt, slotsAt, EndsAt}
 
--- four tests as numbers
-pub test-four : (a b c d : Bool) → (boolByte a + boolByte b + boolByte c + boolByte d ≡ oneIf a + oneIf b + oneIf c + oneIf d) × (boolByte a ≤ 1) × (boolByte b ≤ 1) × (boolByte c ≤ 1) × (boolByte d ≤ 1)
-test-four a b c d = rw (one a, one b, one c, one d) (refl, few a, few b, few c, few d)
+-- one slot by its numbers
+slot-agrees : (w v : ℕ) → agrees (slotOf (classOf w) (classOf v)) ≡ agree w v
+slot-agrees w v = rw (variable-class w, number-class w, number-class v) (go (variable w) (eqb w v))
   where
-    one : (a : Bool) → boolByte a ≡ oneIf a
-    one true = refl
-    one false = refl
+    go : (p q : Bool) → agrees (cond p Takes (cond q Same Other)) ≡ (p || q)
+    go true q = refl
+    go false true = refl
+    go false false = refl
 
-    few : (a : Bool) → oneIf a ≤ 1
-    few true = omega arith
-    few false = omega arith
+slot-bound : (w v : ℕ) → boundIn (slotOf (classOf w) (classOf v)) ≡ oneIf (variable w)
+slot-bound w v = rw (variable-class w, number-class w, number-class v) (go (variable w) (eqb w v))
+  where
+    go : (p q : Bool) → boundIn (cond p Takes (cond q Same Other)) ≡ oneIf p
+    go true q = refl
+    go false true = refl
+    go false false = refl
+
+-- The four slots of the records at bytes k and m, as the code reads them.
+module _ (s : List ℕ) (k m : ℕ) (w x y z : SlotFit)
+    (ew : w ≡ slotOf (classOf (word s (k + 6))) (classOf (word s (m + 6)))) (ex : x ≡ slotOf (classOf (word s (k + 8))) (classOf (word s (m + 8))))
+    (ey : y ≡ slotOf (classOf (word s (k + 10))) (classOf (word s (m + 10)))) (ez : z ≡ slotOf (classOf (word s (k + 12))) (classOf (word s (m + 12)))) where
+  agree-slots : (agrees w && (agrees x && (agrees y && agrees z))) ≡ agreeAt s k m
+  unfolding agreeAt
+  agree-slots =
+      rw (ap agrees ew ∙ slot-agrees (word s (k + 6)) (word s (m + 6)), ap agrees ex ∙ slot-agrees (word s (k + 8)) (word s (m + 8)), ap agrees ey ∙ slot-agrees (word s (k + 10)) (word s (m + 10)), ap agrees ez ∙ slot-agrees (word s (k + 12)) (word s (m + 12)))
+
+  pub slots-differ : (agrees w && (agrees x && (agrees y && agrees z))) ≡ false → Differs ≡ slotsAt s k m
+  unfolding slotsAt
+  slots-differ e = rw (sym agree-slots ∙ e)
+
+  pub slots-bind : (agrees w && (agrees x && (agrees y && agrees z))) ≡ true → (i j l n : ℕ) → i ≡ boundIn w → j ≡ boundIn x → l ≡ boundIn y → n ≡ boundIn z → Binds (i + j + l + n) ≡ slotsAt s k m
+  unfolding slotsAt variablesAt
+  slots-bind e i j l n ei ej el en =
+      rw (sym agree-slots ∙ e, ei ∙ (ap boundIn ew ∙ slot-bound (word s (k + 6)) (word s (m + 6))), ej ∙ (ap boundIn ex ∙ slot-bound (word s (k + 8)) (word s (m + 8))), el ∙ (ap boundIn ey ∙ slot-bound (word s (k + 10)) (word s (m + 10))), en ∙ (ap boundIn ez ∙ slot-bound (word s (k + 12)) (word s (m + 12))))
 
 -- tuples of one length: g holds in all slots, and the pattern has so many variables
 pub alls : (ℕ → ℕ → Bool) → List ℕ → List ℕ → Bool
@@ -40,8 +66,8 @@ alls g [] vs = true
 alls g (w ∷ ws) [] = true
 alls g (w ∷ ws) (v ∷ vs) = g w v && alls g ws vs
 
-abbrev agrees : List ℕ → List ℕ → Bool
-agrees ws vs = alls agree ws vs
+abbrev allAgree : List ℕ → List ℕ → Bool
+allAgree ws vs = alls agree ws vs
 
 vars : List ℕ → ℕ
 vars [] = 0
@@ -59,12 +85,12 @@ fit-extend w v (binds σ) false n e = absurd (let z : _≡_ {A = ℕ} 0 1 = cc i
 fit-extend w v differs true n e = absurd (let z : _≡_ {A = ℕ} 0 1 = cc in omega arith)
 fit-extend w v differs false n e = rw (and-none (agree w v))
 
-match-agrees : (ws vs : List ℕ) → length ws ≡ length vs → fitOf (match ws vs) ≡ cond (agrees ws vs) (Binds (vars ws)) Differs
+match-agrees : (ws vs : List ℕ) → length ws ≡ length vs → fitOf (match ws vs) ≡ cond (allAgree ws vs) (Binds (vars ws)) Differs
 unfolding match alls vars
 match-agrees [] [] e = refl
 match-agrees [] (v ∷ vs) e = absurd (omega arith)
 match-agrees (w ∷ ws) [] e = absurd (omega arith)
-match-agrees (w ∷ ws) (v ∷ vs) e = fit-extend w v (match ws vs) (agrees ws vs) (vars ws) (match-agrees ws vs (omega arith))
+match-agrees (w ∷ ws) (v ∷ vs) e = fit-extend w v (match ws vs) (allAgree ws vs) (vars ws) (match-agrees ws vs (omega arith))
 
 match-differs : (ws vs : List ℕ) → (length ws ≡ length vs → ⊥) → match ws vs ≡ differs
 unfolding match
@@ -99,7 +125,7 @@ alls-four g d (w ∷ x ∷ y ∷ z ∷ []) (v ∷ u ∷ t ∷ r ∷ []) l e = ap
 alls-four g d (w ∷ x ∷ y ∷ z ∷ []) (v ∷ u ∷ t ∷ r ∷ b ∷ vs) l e = absurd (omega arith)
 alls-four g d (w ∷ x ∷ y ∷ z ∷ a ∷ ws) vs l e = absurd (omega arith)
 
-vars-four : (ws : List ℕ) → length ws ≤ 4 → vars ws ≡ variables4 (getD ws 0 0) (getD ws 1 0) (getD ws 2 0) (getD ws 3 0)
+vars-four : (ws : List ℕ) → length ws ≤ 4 → vars ws ≡ oneIf (variable (getD ws 0 0)) + oneIf (variable (getD ws 1 0)) + oneIf (variable (getD ws 2 0)) + oneIf (variable (getD ws 3 0))
 unfolding vars variable
 vars-four [] l = refl
 vars-four (w ∷ []) l = omega arith
@@ -119,54 +145,51 @@ any-four p e (w ∷ x ∷ y ∷ z ∷ a ∷ ws) l = absurd (omega arith)
 
 -- The records at places a and b have the endpoints and tuples of q and m.
 module _ (s : List ℕ) (a b : ℕ) (q m : Ends) (h : EndsAt s a q) (k : EndsAt s b m) where
-  closed-ends : closedAt s (16 * b) ≡ closedEnds m
+  pub closed-ends : closedAt s (16 * b) ≡ closedEnds m
   unfolding closedAt closedEnds variable any
   closed-ends = rw (k .partner, k .operation, k .slot0, k .slot1, k .slot2, k .slot3, any-four variable refl (m .tuple) (k .few))
 
-  -- what the code tests
-  abbrev ends : Bool
-  ends = closedAt s (16 * b) && eqb (word s (16 * a + 2)) (word s (16 * b + 2)) && eqb (word s (16 * a + 4)) (word s (16 * b + 4))
+  pub not-closed : closedAt s (16 * b) ≡ false → Differs ≡ fitOf (fit q m)
+  unfolding fit
+  not-closed e = rw (sym closed-ends ∙ e)
 
-  abbrev counts : Bool
-  counts = eqb (getD s (16 * a + 1) 0) (getD s (16 * b + 1) 0)
-
-  ends-same : ends ≡ (closedEnds m && eqb (q .partner) (m .partner) && eqb (q .operation) (m .operation))
-  ends-same = rw (closed-ends, h .partner, h .operation, k .partner, k .operation)
-
-  counts-same : counts ≡ eqb (length (q .tuple)) (length (m .tuple))
+  counts-same : eqb (getD s (16 * a + 1) 0) (getD s (16 * b + 1) 0) ≡ eqb (length (q .tuple)) (length (m .tuple))
   unfolding byte
   counts-same = rw (h .count, k .count)
 
-  agree-same : length (q .tuple) ≡ length (m .tuple) → agreeAt s (16 * a) (16 * b) ≡ agrees (q .tuple) (m .tuple)
-  unfolding agreeAt variable
-  agree-same e = rw (h .slot0, h .slot1, h .slot2, h .slot3, k .slot0, k .slot1, k .slot2, k .slot3) (sym (alls-four agree refl (q .tuple) (m .tuple) (h .few) e))
+  slots-same : length (q .tuple) ≡ length (m .tuple) → slotsAt s (16 * a) (16 * b) ≡ fitOf (match (q .tuple) (m .tuple))
+  unfolding slotsAt agreeAt variablesAt variable
+  slots-same e =
+      rw (h .slot0, h .slot1, h .slot2, h .slot3, k .slot0, k .slot1, k .slot2, k .slot3, ← alls-four agree refl (q .tuple) (m .tuple) (h .few) e, ← vars-four (q .tuple) (h .few)) (sym (match-agrees (q .tuple) (m .tuple) e))
 
-  -- matching, when the endpoints are equal and no variable is sent
-  fit-ends : ends ≡ true → fit q m ≡ match (q .tuple) (m .tuple)
-  unfolding fit
-  fit-ends e = rw (sym ends-same ∙ e)
+  -- a message that holds no variable: by the endpoints, the counts, and the slots
+  module _ (c : closedEnds m ≡ true) where
+    fit-tests : fit q m ≡ cond (eqb (word s (16 * a + 2)) (word s (16 * b + 2)) && eqb (word s (16 * a + 4)) (word s (16 * b + 4))) (match (q .tuple) (m .tuple)) differs
+    unfolding fit
+    fit-tests = rw (c, h .partner, h .operation, k .partner, k .operation)
 
-  fit-counts : ends ≡ true → counts ≡ true → fitOf (fit q m) ≡ cond (agreeAt s (16 * a) (16 * b)) (Binds (vars (q .tuple))) Differs
-  fit-counts e c =
-      let z : length (q .tuple) ≡ length (m .tuple) = eqb-true _ _ (sym counts-same ∙ c) in
-      ap fitOf (fit-ends e) ∙ (match-agrees (q .tuple) (m .tuple) z ∙ ap (λ x. cond x (Binds (vars (q .tuple))) Differs) (sym (agree-same z)))
+    pub other-endpoint : (not (eqb (word s (16 * a + 2)) (word s (16 * b + 2))) || not (eqb (word s (16 * a + 4)) (word s (16 * b + 4)))) ≡ true → Differs ≡ fitOf (fit q m)
+    other-endpoint e = rw fit-tests (go (eqb (word s (16 * a + 2)) (word s (16 * b + 2))) (eqb (word s (16 * a + 4)) (word s (16 * b + 4))) e)
+      where
+        go : (x y : Bool) → (not x || not y) ≡ true → Differs ≡ fitOf (cond (x && y) (match (q .tuple) (m .tuple)) differs)
+        go true true e = never e
+        go true false e = refl
+        go false y e = refl
 
-  pub fits-not : (ends && counts && agreeAt s (16 * a) (16 * b)) ≡ false → Differs ≡ fitOf (fit q m)
-  unfolding fit
-  fits-not x = sym (go ends counts (agreeAt s (16 * a) (16 * b)) refl refl refl x)
-    where
-      go : (e c g : Bool) → ends ≡ e → counts ≡ c → agreeAt s (16 * a) (16 * b) ≡ g → (e && c && g) ≡ false → fitOf (fit q m) ≡ Differs
-      go true true true i j l y = clash refl y
-      go true true false i j l y = fit-counts i j ∙ rw l
-      go true false g i j l y = ap fitOf (fit-ends i ∙ match-differs (q .tuple) (m .tuple) (λ z. clash (eq-eqb _ _ z) (sym counts-same ∙ j)))
-      go false c g i j l y = rw (sym ends-same ∙ i)
+    pub other-count : getD s (16 * a + 1) 0 ≢ getD s (16 * b + 1) 0 → Differs ≡ fitOf (fit q m)
+    other-count n =
+        let z = match-differs (q .tuple) (m .tuple) (λ e. clash (eq-eqb _ _ e) (sym counts-same ∙ ne-eqb _ _ n)) in
+        rw (fit-tests, z) (cond-case (λ x. Differs ≡ fitOf x) (eqb (word s (16 * a + 2)) (word s (16 * b + 2)) && eqb (word s (16 * a + 4)) (word s (16 * b + 4))) (λ y. refl) (λ y. refl))
 
-  pub fits-so : (ends && counts && agreeAt s (16 * a) (16 * b)) ≡ true → (n : ℕ) → n ≡ variables4 (word s (16 * a + 6)) (word s (16 * a + 8)) (word s (16 * a + 10)) (word s (16 * a + 12)) → Binds n ≡ fitOf (fit q m)
-  fits-so x n e =
-      let (y, l) = and-true (ends && counts) (agreeAt s (16 * a) (16 * b)) x in
-      let (i, j) = and-true ends counts y in
-      let z : n ≡ vars (q .tuple) = e ∙ (rw (h .slot0, h .slot1, h .slot2, h .slot3) (sym (vars-four (q .tuple) (h .few)))) in
-      ap Binds z ∙ sym (fit-counts i j ∙ rw l)
+    pub slots-so : (not (eqb (word s (16 * a + 2)) (word s (16 * b + 2))) || not (eqb (word s (16 * a + 4)) (word s (16 * b + 4)))) ≡ false → getD s (16 * a + 1) 0 ≡ getD s (16 * b + 1) 0
+        → slotsAt s (16 * a) (16 * b) ≡ fitOf (fit q m)
+    slots-so e n =
+        rw fit-tests (go (eqb (word s (16 * a + 2)) (word s (16 * b + 2))) (eqb (word s (16 * a + 4)) (word s (16 * b + 4))) e)
+      where
+        go : (x y : Bool) → (not x || not y) ≡ false → slotsAt s (16 * a) (16 * b) ≡ fitOf (cond (x && y) (match (q .tuple) (m .tuple)) differs)
+        go true true e = slots-same (eqb-true _ _ (sym counts-same ∙ eq-eqb _ _ n))
+        go true false e = clash refl e
+        go false y e = clash refl e
 
 -- What holds of every pair that is bound, by the slots: where the pattern has a variable, it holds of the variable and the value there.
 abbrev pub slotTest : (ℕ × ℕ → Bool) → ℕ → ℕ → Bool

@@ -1,11 +1,15 @@
 // Holding back (refusal 14): the first delimitation of a label that encloses a party of a meeting and holds a ready kill of the label.
+use records::Atom;
 use records::Found;
+use records::Label;
+use records::atom_at;
+use records::label_index;
 use records::wide16;
-use records::word_at;
 ghost use mathlib.Core.Path.{_≡_};
-ghost use mathlib.Core.Bool.{true};
-ghost use Prim.Native.Nat.{_/_, _<_};
-ghost use lib.ListN.{length};
+ghost use mathlib.Core.Bool.{true, not};
+ghost use Prim.Native.Nat.{_-_, _/_, _<_, _≤_};
+ghost use lib.Dec.{eqb};
+ghost use lib.ListN.{length, getD, set};
 ghost use Rattle.cows.specs.Terms.{Term};
 ghost use Rattle.cows.specs.Places.{spot, wayTo, first};
 ghost use Rattle.cows.specs.Active.{live};
@@ -21,6 +25,22 @@ pub fn ready_kind(kind: u8) -> bool
     (5 <= kind) & (kind <= 9)
 }
 
+// Marks the label k.
+fn mark(k: Label, marks: &mut [u8])
+    requires { ⌜ (49152 ≤ k .0) × (length (now marks) ≡ 16384) ⌝ }
+    ensures { λ _. ⌜ now (marks .exit) ≡ set (now (marks .entry)) (k .0 - 49152) 1 ⌝ }
+{
+    marks[label_index(k)] = 1;
+}
+
+// Whether the label k is marked.
+fn marked(k: Label, marks: &[u8]) -> bool
+    requires { ⌜ (49152 ≤ k .0) × (length (now marks) ≡ 16384) ⌝ }
+    ensures { λ r. ⌜ r ≡ not (eqb (getD (now (marks .entry)) (k .0 - 49152) 0) 0) ⌝ }
+{
+    marks[label_index(k)] != 0
+}
+
 // Marks the label of each ready kill, in one walk over the ready records.
 fn mark_kills(s: &[u8], ends: &[u16], marks: &mut [u8])
     requires { ⌜ Known (now s) (now ends) × (length (now marks) ≡ 16384) ⌝ }
@@ -31,8 +51,12 @@ fn mark_kills(s: &[u8], ends: &[u16], marks: &mut [u8])
     while i < n {
         let kind = s[16 * i];
         if kind == 1 {
-            marks[wide16(word_at(s, 16 * i + 2)) - 49152] = 1;
+            let atom = atom_at(s, 16 * i + 2);
             i += 1;
+            let Atom::Label(k) = atom else {
+                continue;
+            };
+            mark(k, marks);
             continue;
         }
         if ready_kind(kind) {
@@ -51,11 +75,11 @@ fn held(s: &[u8], ends: &[u16], a: usize, b: usize, marks: &[u8], n: usize) -> b
     if s[16 * n] != 8 {
         return false;
     }
-    let atom = wide16(word_at(s, 16 * n + 2));
-    if atom < 49152 {
+    let atom = atom_at(s, 16 * n + 2);
+    let Atom::Label(k) = atom else {
         return false;
-    }
-    if marks[atom - 49152] == 0 {
+    };
+    if !marked(k, marks) {
         return false;
     }
     let end = wide16(ends[n]);

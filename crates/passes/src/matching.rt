@@ -1,11 +1,19 @@
-// Matching: whether a receive fits an invoke, by the bytes of their records. The meeting and the conflict test both ask it.
+// Matching: whether a receive fits an invoke, by the atoms of their records. The meeting and the conflict test both ask it.
+use records::Atom;
+use records::atom_at;
+use records::closed;
+use records::equal;
+use records::is_variable;
 use records::word_at;
 ghost use mathlib.Core.Path.{_≡_};
-ghost use Prim.Native.Nat.{_+_, _*_, _<_};
+ghost use mathlib.Core.Bool.{true};
+ghost use Prim.Native.Nat.{_+_, _*_, _≤_, _<_};
 ghost use lib.ListN.{length};
-ghost use Rattle.cows.specs.Terms.{Ends, variable};
-ghost use Rattle.cows.specs.Moves.{fit};
-ghost use Rattle.passes.specs.Matching.{fitOf, agree, variables4, closedAt, agreeAt, EndsAt};
+ghost use Rattle.cows.specs.Terms.{Ends};
+ghost use Rattle.cows.specs.Format.{word};
+ghost use Rattle.cows.specs.Moves.{closedEnds, fit};
+ghost use Rattle.records.specs.Atoms.{classOf};
+ghost use Rattle.passes.specs.Matching.{fitOf, slotOf, agrees, boundIn, slotsAt, EndsAt};
 
 // The tuples match and bind so many variables, or something differs.
 pub enum Fit {
@@ -13,48 +21,84 @@ pub enum Fit {
     Differs,
 }
 
-pub fn is_variable(a: u16) -> bool
-    ensures { λ r. ⌜ r ≡ variable a ⌝ }
-{
-    (32768 <= a) & (a < 49152)
+// In one slot: a variable takes the value there, a value is the same, or they are not.
+enum SlotFit {
+    Takes,
+    Same,
+    Other,
 }
 
-// A variable takes the value at its place; a value equals it.
-fn agree(w: u16, v: u16) -> bool
-    ensures { λ r. ⌜ r ≡ agree w v ⌝ }
+// The atom w of a pattern, and the atom v of a message at its place.
+fn slot(w: Atom, v: Atom) -> SlotFit
+    ensures { λ r. ⌜ r ≡ slotOf w v ⌝ }
 {
-    is_variable(w) | (w == v)
+    if is_variable(w) {
+        return SlotFit::Takes;
+    }
+    if equal(w, v) {
+        return SlotFit::Same;
+    }
+    SlotFit::Other
 }
 
-// How many of four atoms are variables.
-fn variables(w: u16, x: u16, y: u16, z: u16) -> usize
-    ensures { λ r. ⌜ r ≡ variables4 w x y z ⌝ }
+fn agrees(w: SlotFit) -> bool
+    ensures { λ r. ⌜ r ≡ agrees w ⌝ }
 {
-    is_variable(w) as usize
-        + is_variable(x) as usize
-        + is_variable(y) as usize
-        + is_variable(z) as usize
+    match w {
+        SlotFit::Takes => true,
+        SlotFit::Same => true,
+        SlotFit::Other => false,
+    }
 }
 
-// Whether the record at byte k holds no variable.
-fn closed(s: &[u8], k: usize) -> bool
-    requires { ⌜ k + 15 < length (now s) ⌝ }
-    ensures { λ r. ⌜ r ≡ closedAt (now (s .entry)) k ⌝ }
+// How many variables are bound there.
+fn bound_in(w: SlotFit) -> usize
+    ensures { λ r. ⌜ (r ≡ boundIn w) × (r ≤ 1) ⌝ }
 {
-    let back = is_variable(word_at(s, k + 10)) | is_variable(word_at(s, k + 12));
-    let tuple = is_variable(word_at(s, k + 6)) | (is_variable(word_at(s, k + 8)) | back);
-    !(is_variable(word_at(s, k + 2)) | (is_variable(word_at(s, k + 4)) | tuple))
+    match w {
+        SlotFit::Takes => 1,
+        SlotFit::Same => 0,
+        SlotFit::Other => 0,
+    }
 }
 
-// Whether the tuples of the records at bytes k and m agree slot by slot.
-fn tuples_agree(s: &[u8], k: usize, m: usize) -> bool
+// The slots at byte k of a pattern and at byte m of a message.
+fn slot_at(s: &[u8], k: usize, m: usize) -> SlotFit
+    requires { ⌜ (k + 1 < length (now s)) × (m + 1 < length (now s)) ⌝ }
+    ensures { λ r. ⌜ r ≡ slotOf (classOf (word (now (s .entry)) k)) (classOf (word (now (s .entry)) m)) ⌝ }
+{
+    slot(atom_at(s, k), atom_at(s, m))
+}
+
+// The tuples of the records at bytes k and m, slot by slot.
+fn slots_fit(s: &[u8], k: usize, m: usize) -> Fit
     requires { ⌜ (k + 15 < length (now s)) × (m + 15 < length (now s)) ⌝ }
-    ensures { λ r. ⌜ r ≡ agreeAt (now (s .entry)) k m ⌝ }
+    ensures { λ r. ⌜ r ≡ slotsAt (now (s .entry)) k m ⌝ }
 {
-    let back = agree(word_at(s, k + 10), word_at(s, m + 10))
-        & agree(word_at(s, k + 12), word_at(s, m + 12));
-    agree(word_at(s, k + 6), word_at(s, m + 6))
-        & (agree(word_at(s, k + 8), word_at(s, m + 8)) & back)
+    let w = slot_at(s, k + 6, m + 6);
+    let x = slot_at(s, k + 8, m + 8);
+    let y = slot_at(s, k + 10, m + 10);
+    let z = slot_at(s, k + 12, m + 12);
+    if !(agrees(w) & (agrees(x) & (agrees(y) & agrees(z)))) {
+        return Fit::Differs;
+    }
+    Fit::Binds(bound_in(w) + bound_in(x) + bound_in(y) + bound_in(z))
+}
+
+// Whether the receive at place a fits the invoke at place b, which holds no variable.
+pub fn fits_closed(s: &[u8], a: usize, b: usize) -> Fit
+    requires { ⌜ (16 * a + 15 < length (now s)) × (16 * b + 15 < length (now s)) ⌝ }
+    ensures { λ r. ⌜ ((q m : Ends) → EndsAt (now (s .entry)) a q → EndsAt (now (s .entry)) b m → closedEnds m ≡ true → r ≡ fitOf (fit q m)) ⌝ }
+{
+    let k = 16 * a;
+    let m = 16 * b;
+    if (word_at(s, k + 2) != word_at(s, m + 2)) | (word_at(s, k + 4) != word_at(s, m + 4)) {
+        return Fit::Differs;
+    }
+    if s[k + 1] != s[m + 1] {
+        return Fit::Differs;
+    }
+    slots_fit(s, k, m)
 }
 
 // Whether the receive at place a fits the invoke at place b.
@@ -62,18 +106,8 @@ pub fn fits(s: &[u8], a: usize, b: usize) -> Fit
     requires { ⌜ (16 * a + 15 < length (now s)) × (16 * b + 15 < length (now s)) ⌝ }
     ensures { λ r. ⌜ ((q m : Ends) → EndsAt (now (s .entry)) a q → EndsAt (now (s .entry)) b m → r ≡ fitOf (fit q m)) ⌝ }
 {
-    let k = 16 * a;
-    let m = 16 * b;
-    let ends = closed(s, m)
-        & (word_at(s, k + 2) == word_at(s, m + 2))
-        & (word_at(s, k + 4) == word_at(s, m + 4));
-    if !(ends & (s[k + 1] == s[m + 1]) & tuples_agree(s, k, m)) {
+    if !closed(s, 16 * b) {
         return Fit::Differs;
     }
-    Fit::Binds(variables(
-        word_at(s, k + 6),
-        word_at(s, k + 8),
-        word_at(s, k + 10),
-        word_at(s, k + 12),
-    ))
+    fits_closed(s, a, b)
 }

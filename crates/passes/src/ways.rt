@@ -1,13 +1,16 @@
 // The way from the root to a place: which records it passes, and what they say of the place.
+use records::Atom;
 use records::Found;
+use records::atom_at;
+use records::equal;
 use records::wide16;
-use records::word_at;
 ghost use mathlib.Core.Path.{_≡_};
 ghost use Prim.Native.Nat.{ℕ, _+_, _*_, _≤_, _<_};
 ghost use lib.ListN.{length};
 ghost use Rattle.cows.specs.Terms.{Term, size, delimitsAt};
 ghost use Rattle.cows.specs.Places.{wayTo, sub};
 ghost use Rattle.cows.specs.Active.{live};
+ghost use Rattle.records.specs.Atoms.{numberOf};
 ghost use Rattle.records.specs.Holds.{Holds};
 ghost use Rattle.records.specs.Rows.{foundOf};
 ghost use Rattle.passes.specs.Known.{Table, Known, Ended};
@@ -74,17 +77,17 @@ pub fn choice_start(s: &[u8], way: &[u16], n: usize, a: usize) -> usize
 }
 
 // Whether the record at place p is a delimitation of the atom.
-pub fn delimits(s: &[u8], p: usize, atom: u16) -> bool
+pub fn delimits(s: &[u8], p: usize, atom: Atom) -> bool
     requires { ⌜ 16 * p + 15 < length (now s) ⌝ }
-    ensures { λ r. ⌜ ((t : Term) → Holds (now (s .entry)) t → p < size t → r ≡ delimitsAt atom (sub t p)) ⌝ }
+    ensures { λ r. ⌜ ((t : Term) → Holds (now (s .entry)) t → p < size t → r ≡ delimitsAt (numberOf atom) (sub t p)) ⌝ }
 {
-    (s[16 * p] == 8) & (word_at(s, 16 * p + 2) == atom)
+    (s[16 * p] == 8) & equal(atom_at(s, 16 * p + 2), atom)
 }
 
 // The delimitation of an atom that encloses the place, by the n records on the way to it.
-pub fn scope(s: &[u8], way: &[u16], n: usize, atom: u16) -> Found
+pub fn scope(s: &[u8], way: &[u16], n: usize, atom: Atom) -> Found
     requires { ⌜ Walk (now s) (now way) n ⌝ }
-    ensures { λ r. ⌜ ((t : Term) (a : ℕ) → Walks (now (s .entry)) (now (way .entry)) n t a → r ≡ foundOf (scopeOf atom (wayTo t a))) ⌝ }
+    ensures { λ r. ⌜ ((t : Term) (a : ℕ) → Walks (now (s .entry)) (now (way .entry)) n t a → r ≡ foundOf (scopeOf (numberOf atom) (wayTo t a))) ⌝ }
 {
     let mut k = 0;
     while k < n {

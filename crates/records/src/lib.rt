@@ -4,10 +4,11 @@ pub mod ends;
 pub mod rows;
 
 ghost use mathlib.Core.Path.{_≡_};
-ghost use Prim.Native.Nat.{_+_, _<_, _≤_};
+ghost use Prim.Native.Nat.{_+_, _-_, _<_, _≤_};
+ghost use lib.Dec.{eqb};
 ghost use lib.ListN.{length};
 ghost use Rattle.cows.specs.Format.{word};
-ghost use Rattle.records.specs.Atoms.{classOf, takesAtom, imageOf};
+ghost use Rattle.records.specs.Atoms.{classOf, numberOf, isVariable, closedAt, takesVariable, imageOf};
 ghost use Rattle.records.specs.Ends.{childrenOf};
 
 // The three disjoint sets of atoms, each with a type of its own. Atoms are made only by the classifying read.
@@ -66,13 +67,6 @@ pub fn classify(n: u16) -> Atom
     Atom::Label(Label(n))
 }
 
-// The number of a label.
-pub fn label_number(k: Label) -> u16
-    ensures { λ r. ⌜ r ≡ k .0 ⌝ }
-{
-    k.0
-}
-
 // The classifying read of two bytes.
 pub fn atom_at(s: &[u8], k: usize) -> Atom
     requires { ⌜ k + 1 < length (now s) ⌝ }
@@ -81,45 +75,80 @@ pub fn atom_at(s: &[u8], k: usize) -> Atom
     classify(word_at(s, k))
 }
 
-// A variable and the value that it takes in a communication, or nothing: no other atom takes one, and only a value is taken.
-pub struct Takes {
-    variable: u16,
-    value: u16,
-}
-
-pub fn taking(x: Variable, v: Value) -> Takes
-    ensures { λ r. ⌜ (r .variable ≡ x .0) × (r .value ≡ v .0) ⌝ }
+// The number of an atom, for where it is written out.
+pub fn number(a: Atom) -> u16
+    ensures { λ r. ⌜ r ≡ numberOf a ⌝ }
 {
-    Takes {
-        variable: x.0,
-        value: v.0,
+    match a {
+        Atom::None => 0,
+        Atom::Value(v) => v.0,
+        Atom::Variable(x) => x.0,
+        Atom::Label(k) => k.0,
     }
 }
 
-pub fn takes_nothing() -> Takes
-    ensures { λ r. ⌜ (r .variable ≡ 0) × (r .value ≡ 0) ⌝ }
+pub fn equal(a: Atom, b: Atom) -> bool
+    ensures { λ r. ⌜ r ≡ eqb (numberOf a) (numberOf b) ⌝ }
 {
-    Takes {
-        variable: 0,
-        value: 0,
+    number(a) == number(b)
+}
+
+pub fn is_variable(a: Atom) -> bool
+    ensures { λ r. ⌜ r ≡ isVariable a ⌝ }
+{
+    match a {
+        Atom::None => false,
+        Atom::Value(v) => false,
+        Atom::Variable(x) => true,
+        Atom::Label(k) => false,
     }
 }
 
-// Whether the atom a is the variable.
-pub fn takes_atom(t: Takes, a: u16) -> bool
-    ensures { λ r. ⌜ r ≡ takesAtom t a ⌝ }
+// Whether the record at byte k holds no variable.
+pub fn closed(s: &[u8], k: usize) -> bool
+    requires { ⌜ k + 15 < length (now s) ⌝ }
+    ensures { λ r. ⌜ r ≡ closedAt (now (s .entry)) k ⌝ }
 {
-    t.variable == a
+    let back = is_variable(atom_at(s, k + 10)) | is_variable(atom_at(s, k + 12));
+    let tuple = is_variable(atom_at(s, k + 6)) | (is_variable(atom_at(s, k + 8)) | back);
+    !(is_variable(atom_at(s, k + 2)) | (is_variable(atom_at(s, k + 4)) | tuple))
 }
 
-// What stands for the atom a: the value, if a is the variable.
-pub fn image(t: Takes, a: u16) -> u16
-    ensures { λ r. ⌜ r ≡ imageOf t a ⌝ }
+// Which of the labels it is, from 0 on.
+pub fn label_index(k: Label) -> usize
+    requires { ⌜ 49152 ≤ k .0 ⌝ }
+    ensures { λ r. ⌜ (r ≡ k .0 - 49152) × (r < 16384) ⌝ }
 {
-    if a == t.variable {
-        return t.value;
+    wide16(k.0) - 49152
+}
+
+// What is taken in a communication: by a variable a value, or nothing.
+pub enum Takes {
+    Pair(Variable, Value),
+    Nothing,
+}
+
+// Whether the variable x takes a value.
+pub fn takes_variable(t: Takes, x: Variable) -> bool
+    ensures { λ r. ⌜ r ≡ takesVariable t x ⌝ }
+{
+    let Takes::Pair(y, v) = t else {
+        return false;
+    };
+    x.0 == y.0
+}
+
+// What stands for the variable x: the value that it takes, or else the other atom.
+pub fn image(t: Takes, x: Variable, other: Atom) -> Atom
+    ensures { λ r. ⌜ r ≡ imageOf t x other ⌝ }
+{
+    let Takes::Pair(y, v) = t else {
+        return other;
+    };
+    if x.0 == y.0 {
+        return Atom::Value(v);
     }
-    a
+    other
 }
 
 // Kinds 3 and up have a child, 5 and 6 one more.

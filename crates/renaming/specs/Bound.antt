@@ -1,21 +1,36 @@
 -- The records of a table after a communication: up to four variables become the values that they take, their delimitations go, and the invoke becomes nil.
-use mathlib.Core.Bool.{Bool, cond, _&&_, _||_}
+use mathlib.Core.Bool.{Bool, false, cond, _&&_, _||_}
 use mathlib.Core.List.{List, []}
 use Prim.Native.Nat.{ℕ}
 use lib.Dec.{eqb}
 use Rattle.cows.specs.Terms.{nil}
 use Rattle.cows.specs.Format.{byte, word, basic, record16}
+use Rattle.records.specs.declared.Atom.{Atom}
+use Rattle.records.specs.declared.Atom.the-variants.{None, Value, Variable, Label}
 use Rattle.records.specs.declared.Takes.{Takes}
-use Rattle.records.specs.Atoms.{takesAtom, imageOf}
+use Rattle.records.specs.Atoms.{classOf, numberOf, takesVariable, imageOf}
 use Rattle.renaming.specs.Mapped.{mapRecord, along}
 
--- one of the four takes the atom; what stands for an atom when each of them in turn takes its value
+-- whether one of the four takes an atom; what stands for it: the value that it takes by the first that takes it
 module _ (t₀ t₁ t₂ t₃ : Takes) where
+  abbrev pub takesAtom : Atom → Bool
+  takesAtom None = false
+  takesAtom (Value v) = false
+  takesAtom (Variable x) = takesVariable t₀ x || takesVariable t₁ x || takesVariable t₂ x || takesVariable t₃ x
+  takesAtom (Label k) = false
+
+  abbrev pub imageAtom : Atom → Atom
+  imageAtom None = None
+  imageAtom (Value v) = Value v
+  imageAtom (Variable x) = imageOf t₀ x (imageOf t₁ x (imageOf t₂ x (imageOf t₃ x (Variable x))))
+  imageAtom (Label k) = Label k
+
+  -- the same of the numbers that are read and written
   abbrev pub takesOne : ℕ → Bool
-  takesOne a = takesAtom t₀ a || takesAtom t₁ a || takesAtom t₂ a || takesAtom t₃ a
+  takesOne n = takesAtom (classOf n)
 
   abbrev pub imageOfAll : ℕ → ℕ
-  imageOfAll a = imageOf t₃ (imageOf t₂ (imageOf t₁ (imageOf t₀ a)))
+  imageOfAll n = numberOf (imageAtom (classOf n))
 
   -- the record is a delimitation of an atom that one of them takes
   unfoldable pub goes : List ℕ → Bool

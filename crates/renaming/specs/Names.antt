@@ -26,14 +26,14 @@ entered names [] = names
 entered names (a ∷ l) = entered (set names a a) l
 
 -- the three sets of atoms counted (0 is no atom, and counts with the labels), and the first atom of each
-abbrev pub numberOf : Atom → ℕ
-numberOf (Value v) = 0
-numberOf (Variable x) = 1
-numberOf (Label k) = 2
-numberOf None = 2
+abbrev pub setNumber : Atom → ℕ
+setNumber (Value v) = 0
+setNumber (Variable x) = 1
+setNumber (Label k) = 2
+setNumber None = 2
 
 unfoldable pub setOf : ℕ → ℕ
-setOf a = numberOf (classOf a)
+setOf a = setNumber (classOf a)
 
 unfoldable pub leastOf : ℕ → ℕ
 leastOf zero = 1

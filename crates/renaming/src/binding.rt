@@ -1,34 +1,64 @@
 // Binding: the records of a part of a table after a communication. Up to four variables become values, their delimitations go, and the invoke becomes nil.
 use crate::fields::put_record;
+use records::Atom;
 use records::Takes;
+use records::atom_at;
+use records::closed;
 use records::copying::put_nil;
 use records::image;
-use records::takes_atom;
-use records::word_at;
+use records::takes_variable;
 ghost use mathlib.Core.Path.{_≡_};
 ghost use Prim.Native.Nat.{_+_, _-_, _*_, _<_, _≤_};
 ghost use lib.ListN.{length, take, drop};
 ghost use Rattle.cows.specs.Format.{word};
+ghost use Rattle.records.specs.Atoms.{classOf};
 ghost use Rattle.records.specs.Rewrites.{put};
 ghost use Rattle.renaming.specs.Mapped.{mapRecord};
-ghost use Rattle.renaming.specs.Bound.{imageOfAll, goes, boundRecord, bound};
+ghost use Rattle.renaming.specs.Bound.{takesAtom, imageAtom, imageOfAll, goes, boundRecord, bound};
+
+// Whether one of the four takes the atom a.
+fn takes(a: Atom, t0: Takes, t1: Takes, t2: Takes, t3: Takes) -> bool
+    ensures { λ r. ⌜ r ≡ takesAtom t0 t1 t2 t3 a ⌝ }
+{
+    match a {
+        Atom::None => false,
+        Atom::Value(v) => false,
+        Atom::Variable(x) => {
+            takes_variable(t0, x)
+                | takes_variable(t1, x)
+                | takes_variable(t2, x)
+                | takes_variable(t3, x)
+        }
+        Atom::Label(k) => false,
+    }
+}
+
+// What stands for the atom a.
+fn image_by(a: Atom, t0: Takes, t1: Takes, t2: Takes, t3: Takes) -> Atom
+    ensures { λ r. ⌜ r ≡ imageAtom t0 t1 t2 t3 a ⌝ }
+{
+    match a {
+        Atom::None => a,
+        Atom::Value(v) => a,
+        Atom::Variable(x) => image(t0, x, image(t1, x, image(t2, x, image(t3, x, a)))),
+        Atom::Label(k) => a,
+    }
+}
 
 // Whether the record at place i is a delimitation of an atom that one of the four takes.
 fn delimits_taken(s: &[u8], i: usize, t0: Takes, t1: Takes, t2: Takes, t3: Takes) -> bool
     requires { ⌜ 16 * i + 15 < length (now s) ⌝ }
     ensures { λ r. ⌜ r ≡ goes t0 t1 t2 t3 (take 16 (drop (16 * i) (now (s .entry)))) ⌝ }
 {
-    let d = word_at(s, 16 * i + 2);
-    let taken = takes_atom(t0, d) | takes_atom(t1, d) | takes_atom(t2, d) | takes_atom(t3, d);
-    (s[16 * i] == 8) & taken
+    (s[16 * i] == 8) & takes(atom_at(s, 16 * i + 2), t0, t1, t2, t3)
 }
 
 // What stands for the atom at byte k.
-fn image_at(s: &[u8], k: usize, t0: Takes, t1: Takes, t2: Takes, t3: Takes) -> u16
+fn image_at(s: &[u8], k: usize, t0: Takes, t1: Takes, t2: Takes, t3: Takes) -> Atom
     requires { ⌜ k + 1 < length (now s) ⌝ }
-    ensures { λ r. ⌜ r ≡ imageOfAll t0 t1 t2 t3 (word (now (s .entry)) k) ⌝ }
+    ensures { λ r. ⌜ r ≡ imageAtom t0 t1 t2 t3 (classOf (word (now (s .entry)) k)) ⌝ }
 {
-    image(t3, image(t2, image(t1, image(t0, word_at(s, k)))))
+    image_by(atom_at(s, k), t0, t1, t2, t3)
 }
 
 // Writes the record at place i with what stands for its atoms.
@@ -55,7 +85,22 @@ fn put_images(
     put_record(s, i, p, o, w, x, y, z, dst, at);
 }
 
-// Writes what becomes of the record at place i, nil at place b, from byte `at` on; the answer is where writing goes on.
+// Writes the record at place i with its own atoms.
+fn put_same(s: &[u8], i: usize, dst: &mut [u8], at: usize)
+    requires { ⌜ (16 * i + 15 < length (now s)) × (at + 15 < length (now dst)) ⌝ }
+    ensures { λ _. ⌜ now (dst .exit) ≡ put (now (dst .entry)) at (mapRecord (λ n. n) (take 16 (drop (16 * i) (now (s .entry))))) ⌝ }
+{
+    let k = 16 * i;
+    let p = atom_at(s, k + 2);
+    let o = atom_at(s, k + 4);
+    let w = atom_at(s, k + 6);
+    let x = atom_at(s, k + 8);
+    let y = atom_at(s, k + 10);
+    let z = atom_at(s, k + 12);
+    put_record(s, i, p, o, w, x, y, z, dst, at);
+}
+
+// Writes what becomes of the record at place i, nil at place b, from byte `at` on; the answer is where writing goes on. A record that holds no variable stays.
 fn put_bound(
     s: &[u8],
     i: usize,
@@ -72,6 +117,10 @@ fn put_bound(
 {
     if i == b {
         put_nil(dst, at);
+        return at + 16;
+    }
+    if closed(s, 16 * i) {
+        put_same(s, i, dst, at);
         return at + 16;
     }
     if delimits_taken(s, i, t0, t1, t2, t3) {

@@ -1,55 +1,67 @@
 // Records whose atoms change: kind, tuple count and interval are copied, the six fields for atoms are written anew.
+use records::Atom;
+use records::classify;
 use records::copying::copy;
 use records::copying::put_word;
+use records::number;
 use records::wide16;
 use records::word_at;
 ghost use mathlib.Core.Path.{_≡_};
 ghost use Prim.Native.Nat.{_+_, _-_, _*_, _<_, _≤_};
 ghost use lib.ListN.{length, take, drop};
-ghost use Rattle.cows.specs.Format.{word};
+ghost use Rattle.cows.specs.Format.{bytes2, word};
+ghost use Rattle.records.specs.Atoms.{classOf, numberOf};
 ghost use Rattle.records.specs.Rewrites.{put};
 ghost use Rattle.renaming.specs.Mapped.{tupleBytes, withAtoms, mapRecord, mapped, named};
 
-// Writes the four atoms of a tuple at byte `at`.
-fn put_tuple(w: u16, x: u16, y: u16, z: u16, dst: &mut [u8], at: usize)
-    requires { ⌜ at + 7 < length (now dst) ⌝ }
-    ensures { λ _. ⌜ now (dst .exit) ≡ put (now (dst .entry)) at (tupleBytes w x y z) ⌝ }
+// Writes an atom at byte `at`, as its number.
+fn put_atom(a: Atom, dst: &mut [u8], at: usize)
+    requires { ⌜ at + 1 < length (now dst) ⌝ }
+    ensures { λ _. ⌜ now (dst .exit) ≡ put (now (dst .entry)) at (bytes2 (numberOf a)) ⌝ }
 {
-    put_word(w, dst, at);
-    put_word(x, dst, at + 2);
-    put_word(y, dst, at + 4);
-    put_word(z, dst, at + 6);
+    put_word(number(a), dst, at);
+}
+
+// Writes the four atoms of a tuple at byte `at`.
+fn put_tuple(w: Atom, x: Atom, y: Atom, z: Atom, dst: &mut [u8], at: usize)
+    requires { ⌜ at + 7 < length (now dst) ⌝ }
+    ensures { λ _. ⌜ now (dst .exit) ≡ put (now (dst .entry)) at (tupleBytes (numberOf w) (numberOf x) (numberOf y) (numberOf z)) ⌝ }
+{
+    put_atom(w, dst, at);
+    put_atom(x, dst, at + 2);
+    put_atom(y, dst, at + 4);
+    put_atom(z, dst, at + 6);
 }
 
 // Writes the record at place i with the atoms p, o of an endpoint and w, x, y, z of a tuple.
 pub fn put_record(
     s: &[u8],
     i: usize,
-    p: u16,
-    o: u16,
-    w: u16,
-    x: u16,
-    y: u16,
-    z: u16,
+    p: Atom,
+    o: Atom,
+    w: Atom,
+    x: Atom,
+    y: Atom,
+    z: Atom,
     dst: &mut [u8],
     at: usize,
 )
     requires { ⌜ (16 * i + 15 < length (now s)) × (at + 15 < length (now dst)) ⌝ }
-    ensures { λ _. ⌜ now (dst .exit) ≡ put (now (dst .entry)) at (withAtoms (take 16 (drop (16 * i) (now (s .entry)))) p o w x y z) ⌝ }
+    ensures { λ _. ⌜ now (dst .exit) ≡ put (now (dst .entry)) at (withAtoms (take 16 (drop (16 * i) (now (s .entry)))) (numberOf p) (numberOf o) (numberOf w) (numberOf x) (numberOf y) (numberOf z)) ⌝ }
 {
     copy(s, 16 * i, 2, dst, at);
-    put_word(p, dst, at + 2);
-    put_word(o, dst, at + 4);
+    put_atom(p, dst, at + 2);
+    put_atom(o, dst, at + 4);
     put_tuple(w, x, y, z, dst, at + 6);
     copy(s, 16 * i + 14, 2, dst, at + 14);
 }
 
 // The atom that stands for the one at byte k.
-fn named_at(s: &[u8], k: usize, names: &[u16]) -> u16
+fn named_at(s: &[u8], k: usize, names: &[u16]) -> Atom
     requires { ⌜ (k + 1 < length (now s)) × (length (now names) ≡ 65536) ⌝ }
-    ensures { λ r. ⌜ r ≡ named (now (names .entry)) (word (now (s .entry)) k) ⌝ }
+    ensures { λ r. ⌜ r ≡ classOf (named (now (names .entry)) (word (now (s .entry)) k)) ⌝ }
 {
-    names[wide16(word_at(s, k))]
+    classify(names[wide16(word_at(s, k))])
 }
 
 // Writes the record at place i with the names of its atoms.

@@ -1,5 +1,4 @@
 use borrow.Author.Needs.{needs}
-use Rattle.moves.proofs.Exchanges.{takes-made}
 use Rattle.moves.proofs.communicate.atom_takes.Statement.{statement}
 use Rattle.moves.proofs.communicate.atom_takes.Tie as tie
 
@@ -8,14 +7,11 @@ atom-takes-spec =
     tie.close
     (tie.spec
     (λ c. search needs)
-    (λ c κs. search needs)
+    (λ c. search needs)
     (λ c. search needs)
     (λ c κs. search needs)
     (λ c. search needs)
-    (λ c κs. search needs)
     (λ c. search needs)
-    (λ c κs. search needs)
-    (λ c. rw (c .before .enum-told .given .1) (takes-made _ _ _ (c .takes-nothing .ensures)))
-    (λ c. rw (c .before .before .atom .given .1) (takes-made _ _ _ (c .takes-nothing2 .ensures)))
+    (λ c. search needs)
     (λ c. rw (c .before .before .atom2 .given .1) (c .variable-takes .ensures))
-    (λ c. rw (c .before .before .atom3 .given .1) (takes-made _ _ _ (c .takes-nothing3 .ensures))))
+    (λ c. search needs))

@@ -7,7 +7,7 @@ use Rattle.passes.proofs.Tables.{live-inside, walk-known}
 use Rattle.moves.specs.Plans.{resultOf}
 use Rattle.moves.specs.Meeting.{mismatchOf}
 use Rattle.moves.proofs.Planning.{planned-refused}
-use Rattle.moves.proofs.Communicates.{no-receive, no-invoke, ends-a, ends-b, differ, meets, apart, held, looser, receive-span, met-left, met-planned}
+use Rattle.moves.proofs.Communicates.{no-receive, no-invoke, ends-a, ends-b, differ, closed, meets, apart, held, looser, receive-span, met-left, met-planned}
 use Rattle.moves.proofs.communicate.judge.Statement.{statement}
 use Rattle.moves.proofs.communicate.judge.Tie as tie
 
@@ -90,7 +90,7 @@ judge-spec =
     let v = sym (c .before .before .before .before .before .before .before .before .before .all-in-scope .ensures t _ (meets _ _ _ t _ _ _ h x _ _ y _ e)) ∙ not-false _ (c .before .before .before .before .before .before .before .before .if1 .left) in
     let w = found-nothing _ (sym (c .before .before .before .before .before .enum-told4 .given .1) ∙ c .before .before .before .before .before .before .before .first-held .ensures t h (x .live) (y .live)) in
     planned-refused _ 15 _ (ap resultOf (c .refused6 .ensures .0))
-    (looser _ _ _ t _ _ _ h x _ _ y _ e v w _ (found-at _ _ (sym (c .before .before .looser .given .1) ∙ c .before .before .before .before .first-tighter .ensures t _ h (ends-b _ _ _ t _ _ _ h x _ _ y)))))
+    (looser _ _ _ t _ _ _ h x _ _ y _ e v w _ (found-at _ _ (sym (c .before .before .looser .given .1) ∙ c .before .before .before .before .first-tighter .ensures t _ h (ends-b _ _ _ t _ _ _ h x _ _ y) (closed _ _ _ t _ _ _ h x _ _ y _ e)))))
     (λ c. search needs)
     (λ c. search (needs, c .receiver4 .given, c .before .before .before .before .before .before .before .before .before .before .receiver3 .given, c .before .before .before .before .before .before .before .before .before .before .before .before .before .before .before .before .before .before .before .before .before .before .before .before .receiver2 .given, c .before .before .before .before .before .before .before .before .before .before .before .before .before .before .before .before .before .before .before .before .before .before .before .before .before .before .receiver .given, c .before .before .before .before .before .before .before .before .before .before .before .before .before .before .before .before .before .before .before .before .before .before .before .before .before .live-at .kept))
     (λ c κs.
@@ -115,5 +115,5 @@ judge-spec =
     let e = sym (c .before .before .before .before .before .before .before .before .before .before .before .before .before .before .matching .given .1) ∙ c .before .before .before .before .before .before .before .before .before .before .before .before .before .before .before .before .fits2 .ensures _ _ (ends-a _ _ _ t _ _ _ h x) (ends-b _ _ _ t _ _ _ h x _ _ y) in
     let v = sym (c .before .before .before .before .before .before .before .before .before .before .all-in-scope .ensures t _ (meets _ _ _ t _ _ _ h x _ _ y _ e)) ∙ not-false _ (c .before .before .before .before .before .before .before .before .before .if1 .left) in
     let w = found-nothing _ (sym (c .before .before .before .before .before .before .enum-told4 .given .1) ∙ c .before .before .before .before .before .before .before .before .first-held .ensures t h (x .live) (y .live)) in
-    let u = found-nothing _ (sym (c .before .before .before .enum-told5 .given .1) ∙ c .before .before .before .before .before .first-tighter .ensures t _ h (ends-b _ _ _ t _ _ _ h x _ _ y)) in
+    let u = found-nothing _ (sym (c .before .before .before .enum-told5 .given .1) ∙ c .before .before .before .before .before .first-tighter .ensures t _ h (ends-b _ _ _ t _ _ _ h x _ _ y) (closed _ _ _ t _ _ _ h x _ _ y _ e)) in
     met-planned _ _ _ t _ _ _ h x _ _ y _ e v _ (c .before .choice-start .ensures t (x .walks)) _ _ _ w u refl refl (c .left .ensures) refl))

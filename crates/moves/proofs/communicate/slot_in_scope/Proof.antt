@@ -1,6 +1,6 @@
 use borrow.Author.Needs.{needs}
-use borrow.Author.Tests.{not-true, not-false}
 use mathlib.Core.Path.{_≡_, sym, _∙_}
+use Rattle.moves.proofs.Taking.{takes-pair, takes-nothing}
 use Rattle.moves.proofs.Scoping.{slot-sends}
 use Rattle.moves.proofs.communicate.slot_in_scope.Statement.{statement}
 use Rattle.moves.proofs.communicate.slot_in_scope.Tie as tie
@@ -10,8 +10,10 @@ slot-in-scope-spec =
     tie.close
     (tie.spec
     (λ c κs. search needs)
-    (λ c t a b h. rw (sym (c .before .is-variable .ensures) ∙ not-true _ (c .if1 .taken)))
+    (λ c. search needs)
+    (λ c. search needs)
+    (λ c t a b h. rw (takes-nothing _ _ (sym (c .enum-told .given .1) ∙ c .before .before .takes-at .ensures) (λ z. h .sent z .0)))
     (λ c κs. search needs)
     (λ c t a b h.
-    let e = sym (c .before .before .is-variable .ensures) ∙ not-false _ (c .before .if1 .left) in
-    rw e (c .in-scope .ensures t a b (slot-sends _ _ _ _ _ _ _ t a b h e))))
+    let p = takes-pair _ _ _ _ (sym (c .before .before .x .given .1) ∙ c .before .before .before .before .takes-at .ensures) in
+    rw (p .2, ← p .0, ← p .1) (c .in-scope .ensures t a b (rw (← p .1) at (slot-sends _ _ _ _ _ _ _ t a b h (p .2))))))

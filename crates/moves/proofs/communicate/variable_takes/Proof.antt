@@ -1,5 +1,4 @@
 use borrow.Author.Needs.{needs}
-use Rattle.moves.proofs.Exchanges.{takes-made}
 use Rattle.moves.proofs.communicate.variable_takes.Statement.{statement}
 use Rattle.moves.proofs.communicate.variable_takes.Tie as tie
 
@@ -8,14 +7,10 @@ variable-takes-spec =
     tie.close
     (tie.spec
     (λ c. search needs)
-    (λ c κs. search needs)
     (λ c. search needs)
-    (λ c κs. search needs)
     (λ c. search needs)
-    (λ c κs. search needs)
     (λ c. search needs)
-    (λ c κs. search needs)
-    (λ c. rw (c .before .enum-told .given .1) (takes-made _ _ _ (c .takes-nothing .ensures)))
-    (λ c. rw (c .before .before .sent .given .1) (takes-made _ _ _ (c .taking .ensures)))
-    (λ c. rw (c .before .before .sent2 .given .1) (takes-made _ _ _ (c .takes-nothing2 .ensures)))
-    (λ c. rw (c .before .before .sent3 .given .1) (takes-made _ _ _ (c .takes-nothing3 .ensures))))
+    (λ c. search needs)
+    (λ c. rw (c .before .sent .given .1))
+    (λ c. search needs)
+    (λ c. search needs))

@@ -1,6 +1,9 @@
 use borrow.Author.Needs.{needs}
-use mathlib.Core.Path.{sym, _∙_}
-use Rattle.passes.proofs.Marking.{held-other, held-no-label, held-unmarked, held-marked}
+use borrow.Author.Tests.{not-true, not-false}
+use mathlib.Core.Path.{refl, sym, _∙_}
+use native.Mathlib.Omega.{arith}
+use Rattle.records.proofs.Atoms.{is-label}
+use Rattle.passes.proofs.Marking.{held-other, no-label, held-no-label, held-unmarked, held-marked}
 use Rattle.passes.proofs.holding.held.Statement.{statement}
 use Rattle.passes.proofs.holding.held.Tie as tie
 
@@ -14,20 +17,23 @@ held-spec =
     (λ c. search needs)
     (λ c. search needs)
     (λ c κs. search needs)
+    (λ c. search needs)
+    (λ c t h.
+    let p = c .before .before .before .before .before .before .before .pre in
+    sym (held-no-label _ _ _ _ _ (p .0) _ (p .1) t h (c .before .before .if1 .left) _ refl (no-label _ (rw (c .before .atom-at .ensures) at (c .match .keys2)))))
+    (λ c κs.
+    let k = is-label _ _ (sym (c .before .before .before .atom-at .ensures) ∙ c .before .atom .given .1) in
+    (omega arith, c .before .before .before .before .before .before .before .before .before .pre .0 .room))
+    (λ c t h.
+    let i = c .before .before .before .before .before in
+    let p = i .before .before .before .before .before .before .pre in
+    let k = is-label _ _ (sym (i .atom-at .ensures) ∙ c .before .before .before .atom .given .1) in
+    sym (held-unmarked _ _ _ _ _ (p .0) _ (p .1) t h (i .before .if1 .left) _ (k .0) (omega arith) (omega arith) (sym (c .before .marked .ensures) ∙ not-true _ (c .if2 .taken))))
+    (λ c. search needs)
+    (λ c. search needs)
     (λ c κs. search needs)
     (λ c t h.
-    let w = c .before in
-    let p = c .before .before .before .before .before .before .before .before .pre in
-    sym (held-no-label _ _ _ _ _ (p .0) _ (p .1) t h (w .before .before .if1 .left) _ (w .wide16 .ensures .0 ∙ w .before .word-at .ensures) (c .if2 .taken)))
-    (λ c. search needs)
-    (λ c t h.
-    let w = c .before .before .before in
-    let p = c .before .before .before .before .before .before .before .before .before .before .pre in
-    sym (held-unmarked _ _ _ _ _ (p .0) _ (p .1) t h (w .before .before .if1 .left) _ (w .wide16 .ensures .0 ∙ w .before .word-at .ensures) (c .before .before .if2 .left) (w .wide16 .ensures .1) (c .if3 .taken)))
-    (λ c. search needs)
-    (λ c. search needs)
-    (λ c κs. search needs)
-    (λ c t h.
-    let w = c .before .before .before .before .before in
-    let p = c .before .before .before .before .before .before .before .before .before .before .before .before .pre in
-    held-marked _ _ _ _ _ (p .0) _ (p .1) t h (w .before .before .if1 .left) _ (w .wide16 .ensures .0 ∙ w .before .word-at .ensures) (c .before .before .before .before .if2 .left) (w .wide16 .ensures .1) (c .before .before .if3 .left) _ (c .wide162 .ensures .0)))
+    let i = c .before .before .before .before .before .before .before in
+    let p = i .before .before .before .before .before .before .pre in
+    let k = is-label _ _ (sym (i .atom-at .ensures) ∙ c .before .before .before .before .before .atom .given .1) in
+    held-marked _ _ _ _ _ (p .0) _ (p .1) t h (i .before .if1 .left) _ (k .0) (omega arith) (omega arith) (sym (c .before .before .before .marked .ensures) ∙ not-false _ (c .before .before .if2 .left)) _ (c .wide16 .ensures .0)))

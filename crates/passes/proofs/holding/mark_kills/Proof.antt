@@ -1,15 +1,16 @@
 use borrow.Author.Needs.{needs}
-use mathlib.Core.Path.{_≡_, sym, _∙_}
+use mathlib.Core.Path.{_≡_, refl, sym, _∙_}
 use Prim.Native.Nat.{_-_, _≤_}
 use native.Mathlib.Omega.{arith}
 use lib.ListN.{length}
 use Rattle.cows.specs.Terms.{Term}
+use Rattle.records.proofs.Atoms.{is-label}
 use Rattle.passes.specs.Known.{Table}
 use Rattle.passes.specs.Holding.{readyKind, Blank}
 use Rattle.passes.proofs.Tables.{table-size}
 use Rattle.passes.proofs.Seeking.{table-through, table-next, table-over}
 use Rattle.passes.proofs.Held.{passesReady}
-use Rattle.passes.proofs.Marking.{kind-ready, Marking, marking-start, marking-end, marking-step, kill-range, marking-kill}
+use Rattle.passes.proofs.Marking.{kind-ready, Marking, marking-start, marking-end, marking-step, no-label, kill-range, marking-kill}
 use Rattle.passes.proofs.holding.mark_kills.Statement.{statement}
 use Rattle.passes.proofs.holding.mark_kills.Tie as tie
 
@@ -31,24 +32,27 @@ mark-kills-spec =
     (λ c. search needs)
     (λ c. search needs)
     (λ c κs. search needs)
-    (λ c κs. search needs)
-    (λ c.
-    let o = c .before .before .before .before .before in
-    let q = c .before .before .before .before .before .before .before .before .before .pre .0 in
-    let r = kill-range _ _ (q .term) (q .table) (o .loop .i) (omega arith) (c .before .before .if1 .taken) _ (c .wide16 .ensures .0 ∙ c .before .word-at .ensures) in
-    omega arith)
-    (λ c.
-    let o = c .before .before .before .before .before in
-    let q = c .before .before .before .before .before .before .before .before .before .pre .0 in
-    let r = kill-range _ _ (q .term) (q .table) (o .loop .i) (omega arith) (c .before .before .if1 .taken) _ (c .wide16 .ensures .0 ∙ c .before .word-at .ensures) in
-    omega arith)
+    (λ c. search needs)
     (λ c. search needs)
     (λ c. omega arith)
     (λ c.
-    let o = c .before .before .before .before .before in (
+    let o = c .before .before .before .before .before in
+    let q = o .before .before .before .before .pre .0 in
+    let r = kill-range _ _ (q .term) (q .table) (o .loop .i) (omega arith) (c .before .before .if1 .taken) _ refl in
+    let l = no-label _ (rw (c .before .atom-at .ensures) at (c .match .keys2)) in
+    absurd (omega arith))
+    (λ c κs.
+    let k = is-label _ _ (sym (c .before .before .before .before .atom-at .ensures) ∙ c .before .before .atom .given .1) in
+    (omega arith, c .before .before .before .before .before .before .before .before .loop .inv .1))
+    (λ c. omega arith)
+    (λ c.
+    let i = c .before .before .before .before .before in
+    let a = i .before .before in
+    let o = a .before .before .before .before in
+    let k = is-label _ _ (sym (a .atom-at .ensures) ∙ i .atom .given .1) in (
       omega arith,
       search needs,
-      λ t h b. marking-kill _ _ t h (o .loop .i) (omega arith) (c .before .before .if1 .taken) _ (c .wide16 .ensures .0 ∙ c .before .word-at .ensures) _ (o .loop .inv .1) (o .loop .inv .2 t h b),
+      λ t h b. rw (c .before .before .mark .ensures) (marking-kill _ _ t h (o .loop .i) (omega arith) (a .before .if1 .taken) _ (k .0) _ (o .loop .inv .1) (o .loop .inv .2 t h b)),
     ))
     (λ c κs. search needs)
     (λ c. search needs)
@@ -67,17 +71,17 @@ mark-kills-spec =
     (λ c.
     let o = c .before .before .before .before .before .before .before in
     let q = c .before .before .before .before .before .before .before .before .before .before .before .pre .0 in
-    let n = table-next _ _ (q .term) (q .table) (o .loop .i) (omega arith) _ (c .wide162 .ensures .0) in
+    let n = table-next _ _ (q .term) (q .table) (o .loop .i) (omega arith) _ (c .wide16 .ensures .0) in
     omega arith)
     (λ c.
     let f = c .before .before in
     let o = c .before .before .before .before .before .before .before in
     let q = c .before .before .before .before .before .before .before .before .before .before .before .pre .0 in (
-      table-next _ _ (q .term) (q .table) (o .loop .i) (omega arith) _ (c .wide162 .ensures .0) .1,
+      table-next _ _ (q .term) (q .table) (o .loop .i) (omega arith) _ (c .wide16 .ensures .0) .1,
       o .loop .inv .1,
       λ t h b.
           marking-step _ _ t h (o .loop .i) (omega arith) _ _ (f .before .before .if1 .left)
-          (λ test k no. table-over _ _ t h _ (omega arith) passesReady readyKind kind-ready test k no (sym (f .before .ready-kind .ensures) ∙ f .if2 .left) _ (c .wide162 .ensures .0)) (o .loop .inv .2 t h b),
+          (λ test k no. table-over _ _ t h _ (omega arith) passesReady readyKind kind-ready test k no (sym (f .before .ready-kind .ensures) ∙ f .if2 .left) _ (c .wide16 .ensures .0)) (o .loop .inv .2 t h b),
     ))
     (λ c. search needs)
     (λ c t h b. marking-end _ t _ (c .before .loop .inv .2 t h b) (omega (arith, table-size _ _ t h))))

@@ -1,5 +1,6 @@
 use borrow.Author.Needs.{needs}
 use mathlib.Core.Path.{_≡_}
+use Rattle.records.proofs.Atoms.{number-class}
 use Rattle.passes.proofs.Frames.{delimits-bytes}
 use Rattle.passes.proofs.ways.delimits.Statement.{statement}
 use Rattle.passes.proofs.ways.delimits.Tie as tie
@@ -13,4 +14,5 @@ delimits-spec =
     (λ c. search needs)
     (λ c. search needs)
     (λ c κs. search needs)
-    (λ c t h l. rw (c .word-at .ensures) (delimits-bytes _ t _ _ h l)))
+    (λ c κs. search needs)
+    (λ c t h l. rw (c .equal .ensures, c .before .atom-at .ensures, number-class) (delimits-bytes _ t _ _ h l)))

@@ -4,6 +4,7 @@ use native.Mathlib.Omega.{arith}
 use lib.ListN.{drop}
 use Rattle.cows.specs.Terms.{Term}
 use Rattle.cows.specs.Places.{wayTo}
+use Rattle.records.specs.Atoms.{numberOf}
 use Rattle.records.specs.Rows.{foundOf}
 use Rattle.passes.specs.Ways.{Walks, scopeOf}
 use Rattle.passes.proofs.Frames.{way-end, way-inside, scope-turn, scope-stop}
@@ -11,7 +12,7 @@ use Rattle.passes.proofs.ways.scope.Statement.{statement}
 use Rattle.passes.proofs.ways.scope.Tie as tie
 
 abbrev Inv-loop : tie.InvT-loop
-Inv-loop s way n atom k₀ k = (k ≤ n) × ((t : Term) (a : ℕ) → Walks s way n t a → scopeOf atom (wayTo t a) ≡ scopeOf atom (drop k (wayTo t a)))
+Inv-loop s way n atom k₀ k = (k ≤ n) × ((t : Term) (a : ℕ) → Walks s way n t a → scopeOf (numberOf atom) (wayTo t a) ≡ scopeOf (numberOf atom) (drop k (wayTo t a)))
 
 abbrev μ-loop : tie.MeasureT-loop
 μ-loop s way n atom k₀ k = n - k

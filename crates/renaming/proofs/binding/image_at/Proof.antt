@@ -8,7 +8,4 @@ image-at-spec =
     (tie.spec
     (λ c κs. search needs)
     (λ c κs. search needs)
-    (λ c κs. search needs)
-    (λ c κs. search needs)
-    (λ c κs. search needs)
-    (λ c. rw (← c .before .before .before .before .word-at .ensures, ← c .before .before .before .image .ensures, ← c .before .before .image2 .ensures, ← c .before .image3 .ensures) (c .image4 .ensures)))
+    (λ c. rw (c .image-by .ensures, c .before .atom-at .ensures)))

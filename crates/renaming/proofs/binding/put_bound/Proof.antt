@@ -5,7 +5,7 @@ use Rattle.cows.specs.Terms.{nil}
 use Rattle.cows.specs.Format.{basic}
 use Rattle.cows.proofs.Records.{length-record16}
 use Rattle.records.specs.Rewrites.{put}
-use Rattle.renaming.proofs.Bound.{bound-nil, bound-gone, bound-kept, room-nil, room-kept}
+use Rattle.renaming.proofs.Bound.{closed-goes, closed-stays, bound-nil, bound-gone, bound-kept, room-nil, room-kept}
 use Rattle.renaming.proofs.Mapped.{length-mapRecord}
 use Rattle.renaming.proofs.binding.put_bound.Statement.{statement}
 use Rattle.renaming.proofs.binding.put_bound.Tie as tie
@@ -19,9 +19,29 @@ put-bound-spec =
     (λ c. let l = room-nil _ _ _ _ _ _ _ _ _ (c .before .before .before .before .if1 .taken) (c .before .before .before .before .before .before .before .pre .1) in omega arith)
     (λ c. search needs)
     (λ c. rw (bound-nil _ _ _ _ _ _ _ (c .before .before .before .before .if1 .taken)) (c .before .before .put-nil .ensures, rw (length-record16 (basic nil))))
-    (λ c κs. search needs)
-    (λ c. rw (bound-gone _ _ _ _ _ _ _ (c .before .before .if1 .left) (sym (c .before .delimits-taken .ensures) ∙ c .if2 .taken)) (refl, omega arith))
-    (λ c κs. let p = c .before .before .before .before .before .before .pre in (p .0, room-kept _ _ _ _ _ _ _ _ _ (p .0) (c .before .before .before .if1 .left) (sym (c .before .before .delimits-taken .ensures) ∙ c .before .if2 .left) (p .1)))
-    (λ c. let p = c .before .before .before .before .before .before .before .before .before .pre in let l = room-kept _ _ _ _ _ _ _ _ _ (p .0) (c .before .before .before .before .before .before .if1 .left) (sym (c .before .before .before .before .before .delimits-taken .ensures) ∙ c .before .before .before .before .if2 .left) (p .1) in omega arith)
     (λ c. search needs)
-    (λ c. rw (bound-kept _ _ _ _ _ _ _ (c .before .before .before .before .before .before .if1 .left) (sym (c .before .before .before .before .before .delimits-taken .ensures) ∙ c .before .before .before .before .if2 .left)) (c .before .before .put-images .ensures, rw (length-mapRecord _ _ _ (c .before .before .before .before .before .before .before .before .before .pre .0)))))
+    (λ c κs. search needs)
+    (λ c κs.
+    let p = c .before .before .before .before .before .before .pre in
+    (p .0, room-kept _ _ _ _ _ _ _ _ _ (p .0) (c .before .before .before .if1 .left) (closed-goes _ _ _ _ _ _ (sym (c .before .before .closed .ensures) ∙ c .before .if2 .taken)) (p .1)))
+    (λ c.
+    let p = c .before .before .before .before .before .before .before .before .before .pre in
+    let l = room-kept _ _ _ _ _ _ _ _ _ (p .0) (c .before .before .before .before .before .before .if1 .left) (closed-goes _ _ _ _ _ _ (sym (c .before .before .before .before .before .closed .ensures) ∙ c .before .before .before .before .if2 .taken)) (p .1) in
+    omega arith)
+    (λ c. search needs)
+    (λ c.
+    let z = (sym (c .before .before .before .before .before .closed .ensures) ∙ c .before .before .before .before .if2 .taken) in
+    rw (bound-kept _ _ _ _ _ _ _ (c .before .before .before .before .before .before .if1 .left) (closed-goes _ _ _ _ _ _ z), ← closed-stays _ _ _ _ _ _ z) (c .before .before .put-same .ensures, rw (length-mapRecord _ _ _ (c .before .before .before .before .before .before .before .before .before .pre .0))))
+    (λ c κs. search needs)
+    (λ c. rw (bound-gone _ _ _ _ _ _ _ (c .before .before .before .before .if1 .left) (sym (c .before .delimits-taken .ensures) ∙ c .if3 .taken)) (refl, omega arith))
+    (λ c κs.
+    let p = c .before .before .before .before .before .before .before .before .pre in
+    (p .0, room-kept _ _ _ _ _ _ _ _ _ (p .0) (c .before .before .before .before .before .if1 .left) (sym (c .before .before .delimits-taken .ensures) ∙ c .before .if3 .left) (p .1)))
+    (λ c.
+    let p = c .before .before .before .before .before .before .before .before .before .before .before .pre in
+    let l = room-kept _ _ _ _ _ _ _ _ _ (p .0) (c .before .before .before .before .before .before .before .before .if1 .left) (sym (c .before .before .before .before .before .delimits-taken .ensures) ∙ c .before .before .before .before .if3 .left) (p .1) in
+    omega arith)
+    (λ c. search needs)
+    (λ c.
+    rw (bound-kept _ _ _ _ _ _ _ (c .before .before .before .before .before .before .before .before .if1 .left) (sym (c .before .before .before .before .before .delimits-taken .ensures) ∙ c .before .before .before .before .if3 .left))
+    (c .before .before .put-images .ensures, rw (length-mapRecord _ _ _ (c .before .before .before .before .before .before .before .before .before .before .before .pre .0)))))

@@ -1,4 +1,6 @@
 use borrow.Author.Needs.{needs}
+use mathlib.Core.Path.{ap}
+use Rattle.records.specs.Atoms.{numberOf}
 use Rattle.renaming.proofs.Mapped.{record-read}
 use Rattle.renaming.proofs.binding.put_images.Statement.{statement}
 use Rattle.renaming.proofs.binding.put_images.Tie as tie
@@ -23,5 +25,5 @@ put-images-spec =
     (λ c κs. search needs)
     (λ c. search needs)
     (λ c.
-    rw (← record-read _ _ _ (c .before .before .before .before .before .before .before .before .before .image-at .ensures) (c .before .before .before .before .before .before .before .before .image-at2 .ensures) (c .before .before .before .before .before .before .before .image-at3 .ensures) (c .before .before .before .before .before .before .image-at4 .ensures) (c .before .before .before .before .before .image-at5 .ensures) (c .before .before .before .before .image-at6 .ensures))
+    rw (← record-read _ _ _ (ap numberOf (c .before .before .before .before .before .before .before .before .before .image-at .ensures)) (ap numberOf (c .before .before .before .before .before .before .before .before .image-at2 .ensures)) (ap numberOf (c .before .before .before .before .before .before .before .image-at3 .ensures)) (ap numberOf (c .before .before .before .before .before .before .image-at4 .ensures)) (ap numberOf (c .before .before .before .before .before .image-at5 .ensures)) (ap numberOf (c .before .before .before .before .image-at6 .ensures)))
     (c .before .before .put-record .ensures)))

@@ -10,4 +10,5 @@ named-at-spec =
     (λ c κs. search needs)
     (λ c. search needs)
     (λ c. search needs)
-    (λ c. rw (c .before .wide16 .ensures .0, c .before .before .word-at .ensures)))
+    (λ c κs. search needs)
+    (λ c. rw (c .classify .ensures, c .before .before .wide16 .ensures .0, c .before .before .before .word-at .ensures)))

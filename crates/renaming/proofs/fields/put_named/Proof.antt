@@ -1,4 +1,7 @@
 use borrow.Author.Needs.{needs}
+use mathlib.Core.Path.{ap, _∙_}
+use Rattle.records.specs.Atoms.{numberOf}
+use Rattle.records.proofs.Atoms.{number-class}
 use Rattle.renaming.proofs.Mapped.{record-read}
 use Rattle.renaming.proofs.fields.put_named.Statement.{statement}
 use Rattle.renaming.proofs.fields.put_named.Tie as tie
@@ -23,5 +26,5 @@ put-named-spec =
     (λ c κs. search needs)
     (λ c. search needs)
     (λ c.
-    rw (← record-read _ _ _ (c .before .before .before .before .before .before .before .before .before .named-at .ensures) (c .before .before .before .before .before .before .before .before .named-at2 .ensures) (c .before .before .before .before .before .before .before .named-at3 .ensures) (c .before .before .before .before .before .before .named-at4 .ensures) (c .before .before .before .before .before .named-at5 .ensures) (c .before .before .before .before .named-at6 .ensures))
+    rw (← record-read _ _ _ (ap numberOf (c .before .before .before .before .before .before .before .before .before .named-at .ensures) ∙ number-class _) (ap numberOf (c .before .before .before .before .before .before .before .before .named-at2 .ensures) ∙ number-class _) (ap numberOf (c .before .before .before .before .before .before .before .named-at3 .ensures) ∙ number-class _) (ap numberOf (c .before .before .before .before .before .before .named-at4 .ensures) ∙ number-class _) (ap numberOf (c .before .before .before .before .before .named-at5 .ensures) ∙ number-class _) (ap numberOf (c .before .before .before .before .named-at6 .ensures) ∙ number-class _))
     (c .before .before .put-record .ensures)))

@@ -15,4 +15,4 @@ put-tuple-spec =
     (λ c. search needs)
     (λ c κs. search needs)
     (λ c. search needs)
-    (λ c. tuple-written _ _ _ _ _ _ (c .before .before .before .before .before .before .before .before .before .before .before .before .before .before .put-word .ensures) (c .before .before .before .before .before .before .before .before .before .before .put-word2 .ensures) (c .before .before .before .before .before .before .put-word3 .ensures) (c .before .before .put-word4 .ensures)))
+    (λ c. tuple-written _ _ _ _ _ _ (c .before .before .before .before .before .before .before .before .before .before .before .before .before .before .put-atom .ensures) (c .before .before .before .before .before .before .before .before .before .before .put-atom2 .ensures) (c .before .before .before .before .before .before .put-atom3 .ensures) (c .before .before .put-atom4 .ensures)))

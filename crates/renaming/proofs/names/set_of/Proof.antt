@@ -1,7 +1,7 @@
 use borrow.Author.Needs.{needs}
 use mathlib.Core.Path.{sym, ap, _∙_}
 use native.Mathlib.Omega.{arith}
-use Rattle.renaming.specs.Names.{numberOf, setOf}
+use Rattle.renaming.specs.Names.{setNumber, setOf}
 use Rattle.renaming.proofs.names.set_of.Statement.{statement}
 use Rattle.renaming.proofs.names.set_of.Tie as tie
 
@@ -15,7 +15,7 @@ set-of-spec =
     (λ c. search needs)
     (λ c. search needs)
     (λ c. search needs)
-    (λ c. (ap numberOf (sym (c .enum-told .given .1) ∙ c .before .before .classify .ensures), omega arith))
-    (λ c. (ap numberOf (sym (c .enum-told2 .given .1) ∙ c .before .before .classify .ensures), omega arith))
-    (λ c. (ap numberOf (sym (c .enum-told3 .given .1) ∙ c .before .before .classify .ensures), omega arith))
-    (λ c. (ap numberOf (sym (c .enum-told4 .given .1) ∙ c .before .before .classify .ensures), omega arith)))
+    (λ c. (ap setNumber (sym (c .enum-told .given .1) ∙ c .before .before .classify .ensures), omega arith))
+    (λ c. (ap setNumber (sym (c .enum-told2 .given .1) ∙ c .before .before .classify .ensures), omega arith))
+    (λ c. (ap setNumber (sym (c .enum-told3 .given .1) ∙ c .before .before .classify .ensures), omega arith))
+    (λ c. (ap setNumber (sym (c .enum-told4 .given .1) ∙ c .before .before .classify .ensures), omega arith)))
