@@ -1,1 +1,3 @@
 pub mod Readings
+pub mod Seeking
+pub mod Filling
