@@ -6,6 +6,7 @@ ghost use mathlib.Core.Bool.{true, false, cond};
 ghost use Prim.Native.Nat.{_+_, _/_, _<_, _≤_};
 ghost use lib.ListN.{length};
 ghost use Rattle.readers.specs.Reads.{byGuard, guardKind, earlierOf, Read};
+ghost use Rattle.readers.specs.Chains.{Chain, Put};
 
 // The greatest depth that a record may have.
 const DEEPEST: usize = 256;
@@ -35,7 +36,40 @@ fn beyond(n: usize, at: usize) -> usize
     if at == n { n + 1 } else { at }
 }
 
-// The service at a place. `ends` takes the ends of its terms, and `fault` the first child of a choice that is no guard, if none was found before; the place
+// The end of a chain of protections, delimitations and replications: the first place from `at` on, at the given depth, where there is none of them, or one that
+// is too deep.
+fn chain_end(s: &[u8], at: usize, depth: usize) -> usize
+    ensures { λ r. ⌜ Chain (now (s .entry)) at depth r ⌝ }
+{
+    let n = s.len() / 16;
+    let mut i = at;
+    let mut d = depth;
+    while i < n {
+        if DEEPEST < d {
+            return i;
+        }
+        if s[16 * i] < 7 {
+            return i;
+        }
+        i += 1;
+        d += 1;
+    }
+    i
+}
+
+// The same end for every place from `at` up to `to`.
+fn fill(ends: &mut [u16], at: usize, to: usize, end: u16)
+    requires { ⌜ (at ≤ to) × (to ≤ length (now ends)) ⌝ }
+    ensures { λ _. ⌜ Put (now (ends .entry)) (now (ends .exit)) at to end ⌝ }
+{
+    let mut i = at;
+    while i < to {
+        ends[i] = end;
+        i += 1;
+    }
+}
+
+// The service at a place. A chain of records with one child is passed over in a loop. `ends` takes the ends of its terms, and `fault` the first child of a choice that is no guard, if none was found before; the place
 // behind it, or one past the number of records where they run out, or, two past it and further, the place of the first record that is too deep.
 pub fn service(s: &[u8], ends: &mut [u16], fault: &mut usize, at: usize, depth: usize) -> usize
     requires { ⌜ (length (now s) / 16 ≤ 2048) × (length (now s) / 16 < length (now ends)) × (now fault ≤ length (now s) / 16) ⌝ }
@@ -58,8 +92,9 @@ pub fn service(s: &[u8], ends: &mut [u16], fault: &mut usize, at: usize, depth: 
         return at + 1;
     }
     if c == 1 {
-        let e = service(s, ends, fault, at + 1, depth + 1);
-        ends[at] = (e % 65536) as u16;
+        let i = chain_end(s, at + 1, depth + 1);
+        let e = service(s, ends, fault, i, depth + (i - at));
+        fill(ends, at, i, (e % 65536) as u16);
         return e;
     }
     let a = service(s, ends, fault, at + 1, depth + 1);

@@ -9,6 +9,7 @@ use Rattle.records.specs.Ends.{oneIf}
 use Rattle.records.proofs.Laws.{test-small}
 use Rattle.readers.specs.Reads.{byGuard, guardKind}
 use Rattle.readers.proofs.Readings.{kindAt}
+use Rattle.readers.proofs.Chains.{chain-before, read-chain}
 use Rattle.readers.proofs.Filling.{noted-fits, read-out, read-deep, read-leaf, read-one, read-choice, read-parallel, as-guard, as-service, read-noted, held-one, left-two, is-held, is-left, falls-guard, falls-service}
 use borrow.Fn.Kinds.{In}
 use borrow.Fn.PlainCycle.{Measures, is, falls, and}
@@ -20,6 +21,8 @@ use Rattle.readers.proofs.services.service.Kinds as service-kinds
 use Rattle.readers.proofs.services.+guard+service.Lts-service as service-lts
 use Rattle.readers.proofs.services.beyond.Reads as beyond-reads
 use Rattle.readers.proofs.services.by_guard.Reads as by-guard-reads
+use Rattle.readers.proofs.services.chain_end.Reads as chain-end-reads
+use Rattle.readers.proofs.services.fill.Reads as fill-reads
 use Rattle.readers.proofs.services.noted.Reads as noted-reads
 use Rattle.records.proofs.children.Reads as children-reads
 use Rattle.readers.proofs.services.+guard+service.{statement}
@@ -69,8 +72,12 @@ service-claims t = (
   guard.Post,
   children-reads.Asked,
   children-reads.Learnt,
+  chain-end-reads.Asked,
+  chain-end-reads.Learnt,
   service-below t,
   service.Post,
+  fill-reads.Asked,
+  fill-reads.Learnt,
 )
 
 pub +guard+service-spec : {M : Type 1} → statement M
@@ -120,10 +127,21 @@ pub +guard+service-spec : {M : Type 1} → statement M
     (λ c. read-deep false _ _ _ (omega arith) _ (omega arith) _ (omega arith) (omega arith))
     (λ c κs. tt) (λ c. omega arith) (λ c. omega arith) (λ c. omega arith) (λ c. omega arith) (λ c. omega arith) (λ c. search needs)
     (λ c. read-leaf _ _ _ (omega arith) _ (omega arith) (omega arith) (omega arith) _ (omega arith) (omega arith))
-    (λ c. omega arith) (λ c. omega arith)
-    (λ c κs. let x = c .before .before .before .before .before .before .before .before .before .before .before .before .args in (omega (arith, test-small (byGuard (kindAt (x .s .now) (x .at + 1)))), (omega arith, omega arith, omega arith)))
-    (λ c. omega arith) (λ c. omega arith) (λ c. omega arith) (λ c. simp length-set (omega arith))
-    (λ c. read-one _ _ _ (omega arith) _ (omega arith) (omega arith) _ _ _ _ (omega arith) (omega arith) (c .before .before .service .ensures))
+    (λ c. omega arith) (λ c. omega arith) (λ c κs. tt)
+    (λ c. omega (arith, c .before .before .chain-end .ensures .onward)) (λ c. omega (arith, c .before .before .chain-end .ensures .inside (omega arith)))
+    (λ c κs. let i = c .before .before .chain-end in
+    let x = c .before .before .before .before .before .before .before .before .before .before .before .before .before .args in
+    (omega (arith, test-small (byGuard (kindAt (x .s .now) (i .result))), i .ensures .onward), (omega arith, omega arith, omega arith)))
+    (λ c. omega arith)
+    (λ c κs. let i = c .before .before .before .before .before .before .chain-end .ensures in (omega (arith, i .onward), omega (arith, i .inside (omega arith))))
+    (λ c. search needs)
+    (λ c. let v = c .before .before .before .before .before .before in
+    let i = v .before .before .before in
+    let k = i .before .before .before in
+    let l = k .before .before .before .before .before in
+    let one = sym (k .children .ensures .0) ∙ i .before .if5 .taken in
+    read-chain _ _ _ _ _ _ _ _ _ _ (l .before .before .before .pre .1 .0) (l .if1 .left) (chain-before _ _ _ _ (i .chain-end .ensures) (l .if1 .left) (k .before .if3 .left) one) (v .service .ensures)
+    (c .before .before .fill .ensures))
     (λ c. omega arith) (λ c. omega arith)
     (λ c κs. let x = c .before .before .before .before .before .before .before .before .before .before .before .before .args in (omega (arith, test-small (byGuard (kindAt (x .s .now) (x .at + 1)))), (omega arith, omega arith, omega arith)))
     (λ c. omega arith)
