@@ -1,6 +1,6 @@
 -- What a reader that stands at a place finds of the term there.
 use mathlib.Core.Path.{_≡_}
-use mathlib.Core.Bool.{false, cond}
+use mathlib.Core.Bool.{false, cond, _||_}
 use mathlib.Core.List.{List}
 use Prim.Native.Nat.{ℕ, _+_, _*_, _/_}
 use lib.Dec.{ltb, eqb}
@@ -9,7 +9,7 @@ use Rattle.readers.specs.Reads.{Read}
 
 -- where it stands then, in n records: behind the term; or past them, by what the service reader found; or past that too, by the first child of a choice that is no guard
 abbrev pub placed : ℕ → ℕ → ℕ → ℕ
-placed n end fault = cond (ltb n end) end (cond (eqb fault n) end (2 * n + 2 + fault))
+placed n end fault = cond (ltb n end || eqb fault n) end (2 * n + 2 + fault)
 
 pub record Passed (s : List ℕ) (at : ℕ) (d d′ : List ℕ) (r : ℕ) : Type 0 where
   pub end : ℕ

@@ -1,6 +1,6 @@
 // The table reader: the lent records of a table together with the place it has reached. It reads one whole term from there, through the service reader, and
 // stands behind it. A function over the struct takes it apart and leaves the work to one on the slice and the place; `read_on` has plain parameters.
-pub mod services;
+mod services;
 
 ghost use mathlib.Core.Path.{_≡_};
 ghost use Prim.Native.Nat.{_+_, _/_, _<_, _≤_};
@@ -13,17 +13,14 @@ pub struct Reader<'a> {
 }
 
 // The term at a place: the place behind it, or, past the records, what is wrong with it.
-pub fn term_at(table: &[u8], ends: &mut [u16], at: usize) -> usize
+fn term_at(table: &[u8], ends: &mut [u16], at: usize) -> usize
     requires { ⌜ (length (now table) / 16 ≤ 2048) × (length (now table) / 16 < length (now ends)) ⌝ }
     ensures { λ r. ⌜ Passed (now (table .entry)) at (now (ends .entry)) (now (ends .exit)) r ⌝ }
 {
     let n = table.len() / 16;
     let mut fault = n;
     let end = services::service(table, ends, &mut fault, at, 1);
-    if n < end {
-        return end;
-    }
-    if fault == n {
+    if (n < end) | (fault == n) {
         return end;
     }
     2 * n + 2 + fault
