@@ -79,8 +79,8 @@ chain-end s (suc k) at l one =
     end-pick s at 1 (omega arith) (sym (one at (omega arith) (omega arith))) (omega arith)
     ∙ (chain-end s k (suc at) (omega arith) (λ m a b. one m (omega arith) (omega arith)) ∙ ap (endAt s) (omega arith))
 
-pub read-chain : (s : List ℕ) (at d i : ℕ) (e e₁ e₂ : List ℕ) (f f₁ r : ℕ) → length s / 16 ≤ 2048 → at < length s / 16 → Chain s at d i → Read false s i (d + (i - at)) e e₁ f f₁ r → Put e₁ e₂ at i (r % 65536)
-    → Read false s at d e e₂ f f₁ r
+pub read-chain : (s : List ℕ) (at d i : ℕ) (e e₁ e₂ : List ℕ) (f f₁ r : ℕ) → length s / 16 ≤ 2048 → at < length s / 16 → Chain s at d i
+    → Read false s i (d + (i - at)) e e₁ f f₁ r → Put e₁ e₂ at i (r % 65536) → Read false s at d e e₂ f f₁ r
 read-chain s at d i e e₁ e₂ f f₁ r few here c x p =
     let n = length s / 16 in
     let k = i - at in

@@ -55,7 +55,8 @@ module _ (s : List ℕ) (at : ℕ) (few : length s / 16 ≤ 2048) where
 
   module _ (here : at < n) (d d′ : List ℕ) (room : n < length d′) (e : ℕ) where
     -- the record's own end is written last
-    fill-own : (v : ℕ) → (e ≤ n + 1 → v ≡ e) → (e ≤ n + 1 → e ≡ endAt s at) → (e ≤ n + 1 → (m : ℕ) → at + 1 ≤ m → m < n → m < e → getD d′ m 0 ≡ endAt s m) → ((m : ℕ) → m < at → getD d′ m 0 ≡ getD d m 0) → Filled s at d (set d′ at v) e
+    fill-own : (v : ℕ) → (e ≤ n + 1 → v ≡ e) → (e ≤ n + 1 → e ≡ endAt s at) → (e ≤ n + 1 → (m : ℕ) → at + 1 ≤ m → m < n → m < e → getD d′ m 0 ≡ endAt s m)
+        → ((m : ℕ) → m < at → getD d′ m 0 ≡ getD d m 0) → Filled s at d (set d′ at v) e
     fill-own v same end rest kept = record {
       end = end;
       filled = λ l m a b c. lt-case (getD (set d′ at v) m 0 ≡ endAt s m) at m
@@ -72,9 +73,11 @@ module _ (s : List ℕ) (at : ℕ) (few : length s / 16 ≤ 2048) where
   fill-one : at < n → (d d′ : List ℕ) → n < length d′ → (e : ℕ) → childrenOf (kindAt s at) ≡ 1 → Filled s (at + 1) d d′ e → Filled s at d (set d′ at (e % 65536)) e
   unfolding pickEnd
   fill-one here d d′ room e c x =
-      fill-own here d d′ room e (e % 65536) (λ l. omega arith) (λ l. x .end l ∙ (ap (endAt s) (add-one at) ∙ sym (end-pick s at 1 here (sym c) (omega arith)))) (λ l. x .filled l) (λ m l. x .kept m (omega arith))
+      fill-own here d d′ room e (e % 65536) (λ l. omega arith) (λ l. x .end l ∙ (ap (endAt s) (add-one at) ∙ sym (end-pick s at 1 here (sym c) (omega arith)))) (λ l. x .filled l)
+      (λ m l. x .kept m (omega arith))
 
-  fill-two : at < n → (d d₁ d₂ : List ℕ) → n < length d₂ → (a e : ℕ) → childrenOf (kindAt s at) ≡ 2 → at + 1 ≤ a → a ≤ e → Filled s (at + 1) d d₁ a → Filled s a d₁ d₂ e → Filled s at d (set d₂ at (e % 65536)) e
+  fill-two : at < n → (d d₁ d₂ : List ℕ) → n < length d₂ → (a e : ℕ) → childrenOf (kindAt s at) ≡ 2 → at + 1 ≤ a → a ≤ e → Filled s (at + 1) d d₁ a → Filled s a d₁ d₂ e
+      → Filled s at d (set d₂ at (e % 65536)) e
   unfolding pickEnd
   fill-two here d d₁ d₂ room a e c on on′ x y =
       fill-own here d d₂ room e (e % 65536) (λ l. omega arith)

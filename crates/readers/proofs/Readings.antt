@@ -113,7 +113,8 @@ module _ (s : List ℕ) (at d : ℕ) (in-table : at < length s / 16) (low : d �
       rw e (one-right u (below t) x (r .right (below t) (subst (λ i. Stands s i (below t)) (omega arith) (stands-under u (below t) (rw e at h))))))
 
   -- two children: the second is read only if nothing in the first is too deep
-  module _ (g : Bool) (x y : Reading) (rx : Reads g s (at + 1) (d + 1) x) (ry : Reads g s (x .next) (d + 1) y) (l r : Term) (hl : Stands s (16 * (at + 1)) l) (hr : Stands s (16 * (at + 1 + size l)) r) where
+  module _ (g : Bool) (x y : Reading) (rx : Reads g s (at + 1) (d + 1) x) (ry : Reads g s (x .next) (d + 1) y) (l r : Term) (hl : Stands s (16 * (at + 1)) l)
+      (hr : Stands s (16 * (at + 1 + size l)) r) where
     abbrev dl : Option ℕ
     dl = deepIn (d + 1) (at + 1) l
 
@@ -138,8 +139,8 @@ module _ (s : List ℕ) (at d : ℕ) (in-table : at < length s / 16) (low : d �
     unfolding faultIn placeIf orElse size
     two-right j e = record { next = rw (low-both j l r) (two-next dl refl ∙ ap (λ i. nextOf n i (orElse dl dr)) (omega arith)); fault = λ z. rw e (two-fault (sym (low-both j l r) ∙ z)) }
 
-  reads-two : (j : Join) (x y : Reading) → ((t : Term) → Stands s (16 * at) t → (l : Term) × (r : Term) × (t ≡ both j l r)) → Reads (chooses j) s (at + 1) (d + 1) x → Reads (chooses j) s (x .next) (d + 1) y
-      → Reads false s at d (joined n x y)
+  reads-two : (j : Join) (x y : Reading) → ((t : Term) → Stands s (16 * at) t → (l : Term) × (r : Term) × (t ≡ both j l r)) → Reads (chooses j) s (at + 1) (d + 1) x
+      → Reads (chooses j) s (x .next) (d + 1) y → Reads false s at d (joined n x y)
   reads-two j x y view rx ry =
       within (joined n x y) (omega (arith, rx .onward, ry .onward))
       (λ t h.

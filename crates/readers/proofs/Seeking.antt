@@ -45,7 +45,13 @@ module _ (f : ℕ → Spot → Bool) (w : Way) (o : ℕ) where
   unfolding size firstFrom
   seek-both j l r =
       let z : o - o ≡ 0 = omega arith in
-      rw (z, firstFrom-append, add-one o, from-same _ (λ n. f n (descend (leftOf j r ∷ w) l (n - suc o))) (suc o) (size l) left, from-same _ (λ n. f n (descend (rightOf j l ∷ w) r (n - (suc o + size l)))) (suc o + size l) (size r) right)
+      rw (
+        z,
+        firstFrom-append,
+        add-one o,
+        from-same _ (λ n. f n (descend (leftOf j r ∷ w) l (n - suc o))) (suc o) (size l) left,
+        from-same _ (λ n. f n (descend (rightOf j l ∷ w) r (n - (suc o + size l)))) (suc o + size l) (size r) right,
+      )
       (unfold descend in refl)
     where
       left : (i : ℕ) → i < size l → f (suc o + i) (descend w (both j l r) (suc o + i - o)) ≡ f (suc o + i) (descend (leftOf j r ∷ w) l (suc o + i - suc o))
@@ -54,7 +60,8 @@ module _ (f : ℕ → Spot → Bool) (w : Way) (o : ℕ) where
           let b : suc o + i - suc o ≡ i = omega arith in
           rw (a, b, descend-left w j l r i h)
 
-      right : (i : ℕ) → i < size r → f (suc o + size l + i) (descend w (both j l r) (suc o + size l + i - o)) ≡ f (suc o + size l + i) (descend (rightOf j l ∷ w) r (suc o + size l + i - (suc o + size l)))
+      right : (i : ℕ) → i < size r
+          → f (suc o + size l + i) (descend w (both j l r) (suc o + size l + i - o)) ≡ f (suc o + size l + i) (descend (rightOf j l ∷ w) r (suc o + size l + i - (suc o + size l)))
       right i h =
           let a : suc o + size l + i - o ≡ suc (size l + i) = omega arith in
           let b : suc o + size l + i - (suc o + size l) ≡ i = omega arith in

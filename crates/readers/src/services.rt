@@ -69,8 +69,9 @@ fn fill(ends: &mut [u16], at: usize, to: usize, end: u16)
     }
 }
 
-// The service at a place. A chain of records with one child is passed over in a loop. `ends` takes the ends of its terms, and `fault` the first child of a choice that is no guard, if none was found before; the place
-// behind it, or one past the number of records where they run out, or, two past it and further, the place of the first record that is too deep.
+// The service at a place; a chain is passed over in a loop. `ends` takes the ends of its terms, and `fault` the first child of a choice that is no guard, if
+// none was found before. The place behind it, or one past the number of records where they run out, or, two past it and further, the place of the first record
+// that is too deep.
 pub fn service(s: &[u8], ends: &mut [u16], fault: &mut usize, at: usize, depth: usize) -> usize
     requires { ⌜ (length (now s) / 16 ≤ 2048) × (length (now s) / 16 < length (now ends)) × (now fault ≤ length (now s) / 16) ⌝ }
     ensures { λ r. ⌜ Read false (now (s .entry)) at depth (now (ends .entry)) (now (ends .exit)) (now (fault .entry)) (now (fault .exit)) r ⌝ }

@@ -10,7 +10,8 @@ use Rattle.records.proofs.Laws.{test-small}
 use Rattle.readers.specs.Reads.{byGuard, guardKind}
 use Rattle.readers.proofs.Readings.{kindAt}
 use Rattle.readers.proofs.Chains.{chain-before, read-chain}
-use Rattle.readers.proofs.Filling.{noted-fits, read-out, read-deep, read-leaf, read-one, read-choice, read-parallel, as-guard, as-service, read-noted, held-one, left-two, is-held, is-left, falls-guard, falls-service}
+use Rattle.readers.proofs.Filling.{noted-fits, read-out, read-deep, read-leaf, read-one, read-choice, read-parallel, as-guard, as-service, read-noted, held-one, left-two}
+use Rattle.readers.proofs.Filling.{is-held, is-left, falls-guard, falls-service}
 use borrow.Fn.Kinds.{In}
 use borrow.Fn.PlainCycle.{Measures, is, falls, and}
 use Rattle.readers.proofs.services.guard.Reads as guard
@@ -102,14 +103,21 @@ pub +guard+service-spec : {M : Type 1} → statement M
     (λ c. omega arith) (λ c. omega arith)
     (λ c. read-deep true _ _ _ (omega arith) _ (omega arith) _ (omega arith) (omega arith))
     (λ c. omega arith) (λ c. omega arith)
-    (λ c κs. let x = c .before .before .before .before .before .before .before .before .before .before .args in (omega (arith, test-small (not (byGuard (kindAt (x .s .now) (x .at + 1))))), (omega arith, omega arith, omega arith)))
+    (λ c κs. let x = c .before .before .before .before .before .before .before .before .before .before .args in
+    (omega (arith, test-small (not (byGuard (kindAt (x .s .now) (x .at + 1))))), (omega arith, omega arith, omega arith)))
     (λ c. omega arith)
-    (λ c κs. let x = c .before .before .before .before .before .before .before .before .before .before .before .before .before .before .before .args in (omega (arith, test-small (not (byGuard (kindAt (x .s .now) (c .before .before .before .before .guard .result)))), c .before .before .before .before .guard .ensures .reads .onward), (omega arith, omega arith, omega (arith, c .before .before .before .before .guard .ensures .small))))
+    (λ c κs. let v = c .before .before .before .before in
+    let x = v .before .before .before .before .before .before .before .before .before .before .before .args in
+    let r = v .guard .ensures in
+    (omega (arith, test-small (not (byGuard (kindAt (x .s .now) (v .guard .result)))), r .reads .onward), (omega arith, omega arith, omega (arith, r .small))))
     (λ c. omega arith) (λ c. omega arith) (λ c. omega arith) (λ c. simp length-set (omega arith))
-    (λ c. let k = c .before .before .before .before .before .before .before .before .before .before .if4 .taken in
-    as-guard _ _ _ _ _ _ _ _ (rw k) (read-choice _ _ _ (omega arith) _ (omega arith) (omega arith) _ _ _ _ _ _ _ (omega arith) k (c .before .before .before .before .before .before .before .guard .ensures) (c .before .before .guard2 .ensures)))
+    (λ c. let v = c .before .before .before .before .before .before .before in
+    let k = v .before .before .before .if4 .taken in
+    as-guard _ _ _ _ _ _ _ _ (rw k)
+    (read-choice _ _ _ (omega arith) _ (omega arith) (omega arith) _ _ _ _ _ _ _ (omega arith) k (v .guard .ensures) (c .before .before .guard2 .ensures)))
     (λ c. omega arith) (λ c. omega arith)
-    (λ c κs. let x = c .before .before .before .before .before .before .before .before .before .before .args in (omega (arith, test-small (byGuard (kindAt (x .s .now) (x .at + 1)))), (omega arith, omega arith, omega arith)))
+    (λ c κs. let x = c .before .before .before .before .before .before .before .before .before .before .args in
+    (omega (arith, test-small (byGuard (kindAt (x .s .now) (x .at + 1)))), (omega arith, omega arith, omega arith)))
     (λ c. omega arith) (λ c. omega arith) (λ c. omega arith) (λ c. simp length-set (omega arith))
     (λ c. let a = c .before .before .before .before .before in
     let h = is-held _ _ (a .before .before .before .by-guard .ensures) (a .before .before .if2 .left) in
@@ -120,9 +128,10 @@ pub +guard+service-spec : {M : Type 1} → statement M
     (λ c. omega arith) (λ c. omega arith) (λ c κs. tt)
     (λ c κs. let x = c .before .before .before .before .before .before .before .before .args in
     let h = c .before .before .before .by-guard .ensures in
-    (omega (arith, falls-guard (length (x .s .now) / 16 - x .at) (byGuard (getD (x .s .now) (16 * x .at) 0)) (sym h ∙ c .before .before .if2 .taken)), (omega arith, omega arith, omega arith)))
+    let f = falls-guard (length (x .s .now) / 16 - x .at) (byGuard (getD (x .s .now) (16 * x .at) 0)) (sym h ∙ c .before .before .if2 .taken) in
+    (omega (arith, f), (omega arith, omega arith, omega arith)))
     (λ c. search needs)
-    (λ c. as-service _ _ _ _ _ _ _ _ (sym (c .before .before .before .before .before .before .by-guard .ensures) ∙ c .before .before .before .before .before .if2 .taken) (c .before .before .guard .ensures))
+    (λ c. let g = c .before .before .before .before .before in as-service _ _ _ _ _ _ _ _ (sym (g .before .by-guard .ensures) ∙ g .if2 .taken) (c .before .before .guard .ensures))
     (λ c. omega arith) (λ c. omega arith)
     (λ c. read-deep false _ _ _ (omega arith) _ (omega arith) _ (omega arith) (omega arith))
     (λ c κs. tt) (λ c. omega arith) (λ c. omega arith) (λ c. omega arith) (λ c. omega arith) (λ c. omega arith) (λ c. search needs)
@@ -140,12 +149,18 @@ pub +guard+service-spec : {M : Type 1} → statement M
     let k = i .before .before .before in
     let l = k .before .before .before .before .before in
     let one = sym (k .children .ensures .0) ∙ i .before .if5 .taken in
-    read-chain _ _ _ _ _ _ _ _ _ _ (l .before .before .before .pre .1 .0) (l .if1 .left) (chain-before _ _ _ _ (i .chain-end .ensures) (l .if1 .left) (k .before .if3 .left) one) (v .service .ensures)
-    (c .before .before .fill .ensures))
+    let h = chain-before _ _ _ _ (i .chain-end .ensures) (l .if1 .left) (k .before .if3 .left) one in
+    read-chain _ _ _ _ _ _ _ _ _ _ (l .before .before .before .pre .1 .0) (l .if1 .left) h (v .service .ensures) (c .before .before .fill .ensures))
     (λ c. omega arith) (λ c. omega arith)
-    (λ c κs. let x = c .before .before .before .before .before .before .before .before .before .before .before .before .args in (omega (arith, test-small (byGuard (kindAt (x .s .now) (x .at + 1)))), (omega arith, omega arith, omega arith)))
+    (λ c κs. let x = c .before .before .before .before .before .before .before .before .before .before .before .before .args in
+    (omega (arith, test-small (byGuard (kindAt (x .s .now) (x .at + 1)))), (omega arith, omega arith, omega arith)))
     (λ c. omega arith)
-    (λ c κs. let x = c .before .before .before .before .before .before .before .before .before .before .before .before .before .before .before .before .before .args in (omega (arith, test-small (byGuard (kindAt (x .s .now) (c .before .before .before .before .service2 .result))), c .before .before .before .before .service2 .ensures .reads .onward), (omega arith, omega arith, omega (arith, c .before .before .before .before .service2 .ensures .small))))
+    (λ c κs. let v = c .before .before .before .before in
+    let x = v .before .before .before .before .before .before .before .before .before .before .before .before .before .args in
+    let r = v .service2 .ensures in
+    (omega (arith, test-small (byGuard (kindAt (x .s .now) (v .service2 .result))), r .reads .onward), (omega arith, omega arith, omega (arith, r .small))))
     (λ c. omega arith) (λ c. omega arith) (λ c. omega arith) (λ c. simp length-set (omega arith))
-    (λ c. let g = c .before .before .before .before .before .before .before .before .before .before .before .before .before .before in
-    read-parallel _ _ _ (omega arith) _ (omega arith) (omega arith) _ _ _ _ _ _ _ (omega arith) (left-two _ (sym (g .before .by-guard .ensures) ∙ g .if2 .left) (omega arith)) (c .before .before .before .before .before .before .before .service2 .ensures) (c .before .before .service3 .ensures)))
+    (λ c. let v = c .before .before .before .before .before .before .before in
+    let g = v .before .before .before .before .before .before .before in
+    let k = left-two _ (sym (g .before .by-guard .ensures) ∙ g .if2 .left) (omega arith) in
+    read-parallel _ _ _ (omega arith) _ (omega arith) (omega arith) _ _ _ _ _ _ _ (omega arith) k (v .service2 .ensures) (c .before .before .service3 .ensures)))
