@@ -2,16 +2,15 @@
 use mathlib.Core.Path.{_≡_, refl, sym, ap, subst, _∙_}
 use mathlib.Core.Bool.{false}
 use mathlib.Core.List.{List}
-use Prim.Native.Nat.{ℕ, zero, suc, _+_, _-_, _*_, _/_, _%_, _≤_, _<_}
+use Prim.Native.Nat.{ℕ, zero, suc, _+_, _-_, _/_, _%_, _≤_, _<_}
 use native.Mathlib.Omega.{arith}
-use native.Mathlib.Numerals.{add-one}
 use lib.ListN.{length, getD, set}
 use lib.Seq.{getD-set-same, getD-set-other}
 use borrow.Author.Tests.{le-leb, ne-eqb}
 use Rattle.cows.proofs.Basics.{lt-case}
 use Rattle.records.specs.Ends.{childrenOf, endAt, pickEnd}
 use Rattle.records.proofs.Shapes.{end-pick}
-use Rattle.readers.specs.Reads.{Reading, Reads, Filled, Read}
+use Rattle.readers.specs.Reads.{Reading, Reads, Read}
 use Rattle.readers.specs.Chains.{Chain, Put}
 use Rattle.readers.proofs.Readings.{kindAt, reads-one}
 

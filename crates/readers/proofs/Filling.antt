@@ -1,12 +1,12 @@
 -- Laws of the readers that fill the ends: the ends that each branch of the code leaves, the first of the faults, and both together with what Readings has.
 use mathlib.Core.Path.{_≡_, refl, sym, ap, _∙_}
 use mathlib.Core.Logic.{_≢_}
-use mathlib.Core.Bool.{Bool, true, false, cond, not, _||_}
+use mathlib.Core.Bool.{Bool, true, false, cond, not}
 use mathlib.Core.List.{List}
-use Prim.Native.Nat.{ℕ, suc, _+_, _*_, _/_, _%_, _≤_, _<_}
+use Prim.Native.Nat.{ℕ, _+_, _*_, _/_, _%_, _≤_, _<_}
 use native.Mathlib.Omega.{arith}
 use native.Mathlib.Numerals.{add-one}
-use lib.Dec.{ltb, eqb}
+use lib.Dec.{eqb}
 use lib.ListN.{length, getD, set}
 use lib.Seq.{getD-set-same, getD-set-other}
 use borrow.Author.Tests.{lt-ltb, le-ltb, eqb-true}
@@ -14,7 +14,7 @@ use Rattle.cows.proofs.Basics.{never, clash, bool-case, lt-case}
 use Rattle.records.specs.Ends.{oneIf, childrenOf, endAt, pickEnd}
 use Rattle.records.proofs.Shapes.{end-over, end-pick}
 use Rattle.records.proofs.Laws.{children-two, test-small}
-use Rattle.readers.specs.Reads.{Reading, byGuard, guardKind, earlierOf, Reads, Filled, Read}
+use Rattle.readers.specs.Reads.{byGuard, guardKind, earlierOf, Reads, Filled, Read}
 use Rattle.readers.proofs.Readings.{kindAt, joined, reads-out, reads-deep, reads-leaf, reads-one, reads-choice, reads-parallel, reads-noted, reads-guard}
 
 -- The first of faults: of one after the other, and with the record's own place before the rest's.
@@ -27,7 +27,7 @@ earlier-none n f h = lt-case (f ≡ earlierOf n f n) f n (λ l. rw (lt-ltb f n l
 earlier-small : (n f x : ℕ) → f ≤ n → x ≤ n → earlierOf n f x ≤ n
 earlier-small n f x h k = lt-case (earlierOf n f x ≤ n) f n (λ l. rw (lt-ltb f n l) h) (λ l. rw (le-ltb f n l) k)
 
-pub noted-small : (g : Bool) (n f at : ℕ) → f ≤ n → at < n → cond g f (earlierOf n f at) ≤ n
+noted-small : (g : Bool) (n f at : ℕ) → f ≤ n → at < n → cond g f (earlierOf n f at) ≤ n
 noted-small true n f at h l = h
 noted-small false n f at h l = earlier-small n f at h (omega arith)
 
@@ -187,9 +187,6 @@ is-left true b e n = never n
 is-left false b e n = sym e
 
 -- The measure: twice the records left, and one more where the reader will hand the record to the other.
-pub falls-on : (m m′ : ℕ) (b b′ : Bool) → m′ < m → 2 * m′ + oneIf b′ < 2 * m + oneIf b
-falls-on m m′ b b′ l = omega (arith, test-small b′)
-
 pub falls-guard : (m : ℕ) (b : Bool) → b ≡ true → 2 * m + oneIf (not b) < 2 * m + oneIf b
 falls-guard m b e = rw e (omega arith)
 

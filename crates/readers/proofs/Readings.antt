@@ -1,22 +1,20 @@
 -- Laws of the readers: one for each branch of the code; what is handed from one reader to the other; and what the reading of a whole table tells.
 use mathlib.Core.Path.{_≡_, refl, sym, ap, subst, _∙_}
 use mathlib.Core.Logic.{_≢_, _↔_}
-use mathlib.Core.Bool.{Bool, true, false, cond, not, _&&_, _||_}
+use mathlib.Core.Bool.{Bool, true, false, cond, not}
 use mathlib.Core.List.{List, [], append-nil}
 use mathlib.Core.Option.{Option, none, some}
-use Prim.Native.Nat.{ℕ, zero, suc, _+_, _-_, _*_, _/_, _≤_, _<_}
+use Prim.Native.Nat.{ℕ, _+_, _-_, _*_, _/_, _≤_, _<_}
 use native.Mathlib.Omega.{arith}
 use native.Mathlib.Nat.{zero-add}
-use native.Mathlib.Numerals.{add-one}
-use lib.Dec.{ltb}
 use lib.ListN.{length, getD}
 use borrow.Author.Tests.{lt-ltb, le-ltb}
-use Rattle.cows.specs.Basics.{placeIf, orElse, firstFrom}
+use Rattle.cows.specs.Basics.{placeIf, orElse}
 use Rattle.cows.specs.Terms.{Basic, Prefix, Join, choice, parallel, Term, leaf, under, both, size, below, guard}
 use Rattle.cows.specs.Format.{kindOf, encode}
 use Rattle.cows.specs.Places.{first}
 use Rattle.cows.specs.Tables.{tooDeep, noGuard}
-use Rattle.cows.proofs.Basics.{same-some, orElse-none, clash}
+use Rattle.cows.proofs.Basics.{same-some, orElse-none}
 use Rattle.cows.proofs.Places.{size-pos}
 use Rattle.cows.proofs.Format.{length-encode}
 use Rattle.cows.proofs.Fields.{kind-leaf, kind-prefix, kind-choice, kind-parallel, guard-kind}
@@ -26,8 +24,8 @@ use Rattle.records.specs.Rewrites.{Stands}
 use Rattle.records.specs.Holds.{Holds}
 use Rattle.records.proofs.Laws.{children-none, children-one, place-tells}
 use Rattle.records.proofs.Stands.{holds-size, stands-kind, stands-fits, stands-under, stands-left, stands-right}
-use Rattle.readers.proofs.Seeking.{deep-first, fault-first, fault-below, deep-below}
-use Rattle.readers.specs.Reads.{Reading, byGuard, guardKind, earlierOf, deepIn, chooses, faultIn, nextOf, About, Reads}
+use Rattle.readers.proofs.Seeking.{deep-first, fault-first, fault-below}
+use Rattle.readers.specs.Reads.{Reading, guardKind, earlierOf, deepIn, chooses, faultIn, nextOf, About, Reads}
 
 -- the kind of the record at a place: its first byte
 abbrev pub kindAt : List ℕ → ℕ → ℕ

@@ -9,7 +9,7 @@ use native.Mathlib.Numerals.{add-one}
 use lib.ListN.{length}
 use Rattle.cows.specs.Basics.{placeIf, orElse, firstFrom}
 use Rattle.cows.specs.Terms.{nil, Prefix, Join, choice, parallel, Term, leaf, under, both, size}
-use Rattle.cows.specs.Places.{Frame, inside, leftOf, rightOf, Way, Spot, descend, spot, first, frameChooses}
+use Rattle.cows.specs.Places.{inside, leftOf, rightOf, Way, Spot, descend, spot, first, frameChooses}
 use Rattle.cows.specs.Tables.{tooDeep, inChoice, noGuard}
 use Rattle.cows.proofs.Basics.{firstFrom-append, firstFrom-below}
 use Rattle.cows.proofs.Places.{descend-left, descend-right}

@@ -1,22 +1,21 @@
 -- What the place tells at which the table reader stands that was at the first record.
 use mathlib.Core.Path.{_≡_, sym, _∙_}
 use mathlib.Core.Logic.{_≢_}
-use mathlib.Core.Bool.{false}
 use mathlib.Core.List.{List}
 use Prim.Native.Nat.{ℕ, _+_, _-_, _*_, _/_, _≤_, _<_}
 use native.Mathlib.Omega.{arith}
-use lib.Dec.{ltb, eqb}
+use lib.Dec.{eqb}
 use lib.ListN.{length, getD, set}
 use lib.Seq.{getD-set-other}
 use borrow.Author.Tests.{lt-ltb, le-ltb, eqb-true, eqb-false}
-use Rattle.cows.specs.Terms.{Term, size}
+use Rattle.cows.specs.Terms.{Term}
 use Rattle.cows.specs.Tables.{judgeTerm}
 use Rattle.cows.proofs.Basics.{bool-case, lt-case}
 use Rattle.records.specs.Holds.{Holds}
 use Rattle.records.specs.Ends.{endAt, EndsFrom}
 use Rattle.records.proofs.Shapes.{ends-start}
 use Rattle.records.proofs.Stands.{holds-size}
-use Rattle.readers.specs.Reads.{Reading, earlierOf, Read}
+use Rattle.readers.specs.Reads.{Reading}
 use Rattle.readers.specs.Terms.{placed, Passed}
 use Rattle.readers.proofs.Seeking.{deep-below}
 use Rattle.readers.proofs.Readings.{Tells, reads-tells}
