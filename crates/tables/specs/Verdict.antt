@@ -2,7 +2,7 @@
 use mathlib.Core.Path.{_≡_}
 use mathlib.Core.List.{List, map}
 use mathlib.Core.Option.{none}
-use Prim.Native.Nat.{ℕ, _%_, _≤_}
+use Prim.Native.Nat.{ℕ, _/_, _%_, _≤_}
 use lib.ListN.{length}
 use Rattle.cows.specs.Basics.{Result, refuse, accept, _>>=_, _>>_, forbid}
 use Rattle.cows.specs.Terms.{Term, size}
@@ -54,8 +54,9 @@ pub record RightRecords (b : List ℕ) : Type 0 where
   pub whole : length b % 16 ≡ 0
   pub right : firstWrong 0 (records b) ≡ none
 
--- the table reader, which was at the first record, stands at a place
-pub record Stood (b : List ℕ) (at : ℕ) : Type 0 where
+-- the table reader, which was at the first record, stands at a place, and behind the last record the ends are those of the terms
+pub record Stood (b ends : List ℕ) (at : ℕ) : Type 0 where
   pub before : List ℕ
   pub after : List ℕ
   pub passed : Passed b 0 before after at
+  pub end : at ≡ length b / 16 → EndsFrom b ends 0

@@ -70,12 +70,16 @@ fn find_scopes(s: &[u8], ends: &[u16]) -> Verdict
     }
 }
 
-// The refusal of right records, 3 to 7, by the place at which the table reader stands. The ends are found again, on any shape.
+// Refusals 3 to 7 of right records, by the place at which the table reader stands: the scopes, if it is behind the last record, and else 3, 4 or 5, with the ends
+// found again, on any shape.
 fn find_refusal(s: &[u8], ends: &mut [u16], at: usize) -> Verdict
-    requires { ⌜ RightRecords (now s) × (length (now s) / 16 + 1 < length (now ends)) × Stood (now s) at ⌝ }
+    requires { ⌜ RightRecords (now s) × (length (now s) / 16 + 1 < length (now ends)) × Stood (now s) (now ends) at ⌝ }
     ensures { λ v. ⌜ (replyOf v ≡ checkReply (judgeShape (now (s .entry)))) × EndsFrom (now (s .entry)) (now (ends .exit)) 0 ⌝ }
 {
     let n = s.len() / 16;
+    if at == n {
+        return find_scopes(s, ends);
+    }
     records::ends::ends(s, ends);
     let end = records::wide16(ends[0]);
     if end < n {
@@ -83,9 +87,6 @@ fn find_refusal(s: &[u8], ends: &mut [u16], at: usize) -> Verdict
     }
     if n < end {
         return Verdict::Shape(n);
-    }
-    if at == n {
-        return find_scopes(s, ends);
     }
     if at < 2 * n + 2 {
         return Verdict::Deep(at - n - 2);

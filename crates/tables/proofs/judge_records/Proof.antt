@@ -15,7 +15,7 @@ judge-records-spec =
     (tie.spec
     (λ c κs. search needs)
     (λ c κs. let r = c .before .before .before .before in
-    (r .before .before .before .before .pre .0, omega arith, record { before = _; after = _; passed = r .read-on .ensures }))
+    (r .before .before .before .before .pre .0, omega arith, record { before = _; after = _; passed = r .read-on .ensures; end = λ e. absurd (c .before .if1 .taken e) }))
     (λ c. search needs)
     (λ c. search needs)
     (λ c. search needs)
@@ -40,6 +40,8 @@ judge-records-spec =
       whole-ends _ _ _ _ p e (omega arith) (omega arith),
     ))
     (λ c κs. let r = c .before .before .before .before .before .before .before in
-    (r .before .before .before .before .pre .0, simp length-set (omega arith), record { before = _; after = _; passed = r .read-on .ensures }))
+    let p = r .read-on .ensures in
+    let q = whole-ends _ _ _ _ p (c .before .before .before .before .if1 .left) (omega arith) (omega arith) in
+    (r .before .before .before .before .pre .0, simp length-set (omega arith), record { before = _; after = _; passed = p; end = λ e. q }))
     (λ c. omega (arith, simp length-set at (c .before .before .find-refusal2 .kept .1 .0)))
     (λ c. search needs))
