@@ -24,10 +24,9 @@ use Rattle.records.proofs.Stands.{holds-size}
 use Rattle.scopes.specs.Scopes.{EndsOf, opens, strays}
 use Rattle.scopes.proofs.Directory.{eq-case}
 use Rattle.scopes.proofs.Uses.{place-inside, kind-here, delimitation-is, delimitation-here, endpoint-here, kill-here, none-used}
-use Rattle.quick.specs.Quick.{bound}
 use Rattle.ranges.specs.Lists.{Listed}
 use Rattle.ranges.proofs.Lists.{listed-all}
-use Rattle.index.specs.Index.{Index, entryOf, fineBy, fineAt, Fine, Entries}
+use Rattle.index.specs.Index.{Index, entryOf, fineBy, fineAt, Fine, Entries, bound}
 use Rattle.index.proofs.Growth.{entry-says}
 
 any-none : (f : ℕ → Bool) (ws : List ℕ) → ((i : ℕ) → i < length ws → f (getD ws i 0) ≡ false) → any f ws ≡ false

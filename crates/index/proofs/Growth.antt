@@ -14,8 +14,11 @@ use Rattle.cows.proofs.Basics.{and-true}
 use Rattle.ranges.specs.Lists.{Listed}
 use Rattle.ranges.proofs.Lists.{listed-inside}
 use Rattle.scopes.proofs.Directory.{eq-case, blank-replicate}
-use Rattle.quick.proofs.Heights.{set-all}
 use Rattle.index.specs.Index.{slotOf, entryOf, Marked, Index, Growing, Starts, Grows, Ready, fineBy}
+
+-- what holds of every number of a list, and of one more
+set-all : (P : ℕ → Type 0) (h : List ℕ) (j r : ℕ) → j < length h → ((m : ℕ) → P (getD h m 0)) → P r → (m : ℕ) → P (getD (set h j r) m 0)
+set-all P h j r l f k m = eq-case (P (getD (set h j r) m 0)) m j (λ q. rw (q, getD-set-same h j r 0 l) k) (λ q. rw (getD-set-other h j m r 0 q) (f m))
 
 -- the start
 pub blank : (s : List ℕ) (n : ℕ) → 32 ≤ n → Growing s (replicate 2048 0) (replicate n 0) 32

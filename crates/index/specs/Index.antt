@@ -2,10 +2,15 @@
 use mathlib.Core.Path.{_≡_}
 use mathlib.Core.Bool.{Bool, true, _&&_}
 use mathlib.Core.List.{List}
+use mathlib.Core.Option.{none}
 use Prim.Native.Nat.{ℕ, suc, _+_, _*_, _/_, _%_, _<_, _≤_, max}
 use lib.Dec.{leb, ltb}
 use lib.ListN.{length, getD}
+use Rattle.cows.specs.Terms.{Term}
+use Rattle.cows.specs.Places.{first}
 use Rattle.cows.specs.Format.{word}
+use Rattle.cows.specs.Tables.{unbound, clash}
+use Rattle.records.specs.Holds.{Holds}
 use Rattle.records.specs.Ends.{EndsFrom}
 use Rattle.ranges.specs.Lists.{Listed, Inside}
 
@@ -77,3 +82,10 @@ Fine s ends pages marks j n = (i : ℕ) → i < n → fineAt ends pages marks j 
 -- every delimitation at the first n places of the list has its own entry
 abbrev pub Entries : List ℕ → List ℕ → List ℕ → List ℕ → ℕ → Type 0
 Entries s list pages marks n = (q : ℕ) → q < n → entryOf pages marks (word s (16 * getD list q 0 + 2)) ≡ getD list q 0 + 1
+
+-- What the quick test of scopes shows, if its answer is true, of the term whose table the bytes are: refusals 6 and 7 do not apply.
+abbrev pub bound : Term → Type 0
+bound t = (first unbound t ≡ none) × (first (clash t) t ≡ none)
+
+abbrev pub ShowsBound : Bool → List ℕ → Type 0
+ShowsBound r s = r ≡ true → (t : Term) → Holds s t → bound t

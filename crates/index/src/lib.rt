@@ -9,8 +9,7 @@ ghost use Prim.Native.Nat.{ℕ, _+_, _/_, _<_, _≤_};
 ghost use lib.ListN.{length, getD};
 ghost use Rattle.records.specs.Ends.{EndsFrom};
 ghost use Rattle.ranges.specs.Lists.{Inside};
-ghost use Rattle.quick.specs.Quick.{Shows, bound};
-ghost use Rattle.index.specs.Index.{Index, Starts, Grows, Delimitations, Ready, entryOf, fineAt, Fine, Entries};
+ghost use Rattle.index.specs.Index.{Index, Starts, Grows, Delimitations, Ready, entryOf, fineAt, Fine, Entries, ShowsBound};
 
 // The start of a page: x, or `top` for a page that is not given out.
 fn page_start(x: u16, top: u16) -> u16
@@ -127,7 +126,7 @@ fn indexed_right(
     marks: &mut [u16],
 ) -> bool
     requires { ⌜ Delimitations (now s) (now ends) (now list) m × Ready (now s) (now list) m (now pages) (now marks) ⌝ }
-    ensures { λ r. ⌜ Shows r (now (s .entry)) bound ⌝ }
+    ensures { λ r. ⌜ ShowsBound r (now (s .entry)) ⌝ }
 {
     enter(s, list, m, pages, marks);
     if !entries_right(s, list, m, pages, marks) {
@@ -140,7 +139,7 @@ fn indexed_right(
 // The same, with an index for the delimitations that there are; false if there are too many.
 fn listed_right(s: &[u8], ends: &[u16], list: &mut [u16]) -> bool
     requires { ⌜ EndsFrom (now s) (now ends) 0 × (length (now s) / 16 < length (now list)) ⌝ }
-    ensures { λ r. ⌜ Shows r (now (s .entry)) bound ⌝ }
+    ensures { λ r. ⌜ ShowsBound r (now (s .entry)) ⌝ }
 {
     let m = places(s, 8, 8, list);
     let mut pages = [0u16; 2048];
@@ -162,7 +161,7 @@ fn listed_right(s: &[u8], ends: &[u16], list: &mut [u16]) -> bool
 // The same. A short table takes a short list, since its numbers are cleared first.
 pub fn scopes_right(s: &[u8], ends: &[u16]) -> bool
     requires { ⌜ EndsFrom (now s) (now ends) 0 ⌝ }
-    ensures { λ r. ⌜ Shows r (now (s .entry)) bound ⌝ }
+    ensures { λ r. ⌜ ShowsBound r (now (s .entry)) ⌝ }
 {
     if s.len() <= 4096 {
         let mut few = [0u16; 257];

@@ -1,9 +1,10 @@
 // Ranges: the rules for single records (refusal 2) as ranges of the eight 16-bit fields of a record, by its kind and by its count: a quick test that only ever
-// accepts, without branches on the kind.
+// accepts, without branches on the kind; and the first record that breaks them.
 pub mod places;
 
 use places::places;
 use records::rows::distinct4;
+use records::rows::record_right;
 use records::wide16;
 use records::word_at;
 ghost use mathlib.Core.Path.{_≡_};
@@ -13,6 +14,7 @@ ghost use Prim.Native.Nat.{ℕ, _+_, _*_, _/_, _<_, _≤_};
 ghost use lib.ListN.{length, getD};
 ghost use Rattle.cows.specs.Format.{records};
 ghost use Rattle.cows.specs.Tables.{firstWrong};
+ghost use Rattle.records.specs.Rows.{placeOr};
 ghost use Rattle.ranges.specs.Lists.{Inside};
 ghost use Rattle.ranges.specs.Ranges.{atLeast, atMost, ranged, patternRight};
 
@@ -171,7 +173,7 @@ fn distinct_right(s: &[u8], list: &mut [u16]) -> bool
 }
 
 // Refusal 2 does not apply. A short table takes a short list, since its numbers are cleared first.
-pub fn records_right(s: &[u8]) -> bool
+fn records_right(s: &[u8]) -> bool
     requires { ⌜ length (now s) / 16 ≤ 2048 ⌝ }
     ensures { λ r. ⌜ (r ≡ true → firstWrong 0 (records (now (s .entry))) ≡ none) ⌝ }
 {
@@ -184,4 +186,30 @@ pub fn records_right(s: &[u8]) -> bool
     }
     let mut list = [0u16; 2050];
     distinct_right(s, &mut list)
+}
+
+// The first record that is not right, or the number of records, by a search.
+fn find_wrong(s: &[u8]) -> usize
+    ensures { λ r. ⌜ r ≡ placeOr (length (now (s .entry)) / 16) (firstWrong 0 (records (now (s .entry)))) ⌝ }
+{
+    let n = s.len() / 16;
+    let mut i = 0;
+    while i < n {
+        if !record_right(s, i) {
+            return i;
+        }
+        i += 1;
+    }
+    n
+}
+
+// The same, with the quick test first.
+pub fn first_wrong(s: &[u8]) -> usize
+    requires { ⌜ length (now s) / 16 ≤ 2048 ⌝ }
+    ensures { λ r. ⌜ r ≡ placeOr (length (now (s .entry)) / 16) (firstWrong 0 (records (now (s .entry)))) ⌝ }
+{
+    if records_right(s) {
+        return s.len() / 16;
+    }
+    find_wrong(s)
 }

@@ -1,1 +1,4 @@
 pub mod Readings
+pub mod Seeking
+pub mod Chains
+pub mod Filling

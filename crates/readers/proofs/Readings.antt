@@ -1,209 +1,211 @@
--- Laws of the readers: what a reading says of runs of records, one law for each branch of the code, and what the reading of a whole table tells.
--- The laws of the branches serve both readers: b is false for a service, and true for a guard.
-use mathlib.Core.Path.{_≡_, refl, sym, ap, _∙_}
+-- Laws of the readers: one for each branch of the code; what is handed from one reader to the other; and what the reading of a whole table tells.
+use mathlib.Core.Path.{_≡_, refl, sym, ap, subst, _∙_}
 use mathlib.Core.Logic.{_≢_, _↔_}
-use mathlib.Core.Bool.{Bool, true, false, cond, not, _&&_, _||_}
-use mathlib.Core.List.{List, [], _∷_}
+use mathlib.Core.Bool.{Bool, true, false, cond, not}
+use mathlib.Core.List.{List, [], append-nil}
 use mathlib.Core.Option.{Option, none, some}
-use Prim.Native.Nat.{ℕ, zero, suc, _+_, _*_, _/_, _≤_, _<_}
+use Prim.Native.Nat.{ℕ, _+_, _-_, _*_, _/_, _≤_, _<_}
 use native.Mathlib.Omega.{arith}
 use native.Mathlib.Nat.{zero-add}
-use native.Mathlib.Numerals.{add-one}
 use lib.ListN.{length, getD}
 use borrow.Author.Tests.{lt-ltb, le-ltb}
-use Rattle.cows.specs.Basics.{placeIf, orElse, firstFrom}
-use Rattle.cows.specs.Terms.{Prefix, Join, choice, parallel, Term, under, both, size, below, guard}
-use Rattle.cows.specs.Places.{Frame, inside, leftOf, rightOf, Spot, spot, wayTo, sub, first, frameChooses}
-use Rattle.cows.specs.Tables.{tooDeep, inChoice, noGuard}
-use Rattle.cows.specs.Format.{kindOf}
-use Rattle.cows.proofs.Basics.{same-some, orElse-none, firstFrom-append, firstFrom-below}
-use Rattle.cows.proofs.Places.{size-pos, descend-first, spot-fits, At, spot-under, spot-left, spot-right}
+use Rattle.cows.specs.Basics.{placeIf, orElse}
+use Rattle.cows.specs.Terms.{Basic, Prefix, Join, choice, parallel, Term, leaf, under, both, size, below, guard}
+use Rattle.cows.specs.Format.{kindOf, encode}
+use Rattle.cows.specs.Places.{first}
+use Rattle.cows.specs.Tables.{tooDeep, noGuard}
+use Rattle.cows.proofs.Basics.{same-some, orElse-none}
+use Rattle.cows.proofs.Places.{size-pos}
+use Rattle.cows.proofs.Format.{length-encode}
 use Rattle.cows.proofs.Fields.{kind-leaf, kind-prefix, kind-choice, kind-parallel, guard-kind}
 use Rattle.records.specs.Ends.{childrenOf}
-use Rattle.records.specs.Holds.{Holds}
 use Rattle.records.specs.Rows.{placeOr}
-use Rattle.records.proofs.Laws.{children-none, children-one, children-two, place-tells}
-use Rattle.records.proofs.Stands.{holds-size, holds-kind}
-use Rattle.readers.specs.declared.Reading.{Reading}
-use Rattle.readers.specs.Reads.{guardKind, earlierOf, deepFrom, guardFrom, nextOf, About, Here, Reads}
+use Rattle.records.specs.Rewrites.{Stands}
+use Rattle.records.specs.Holds.{Holds}
+use Rattle.records.proofs.Laws.{children-none, children-one, place-tells}
+use Rattle.records.proofs.Stands.{holds-size, stands-kind, stands-fits, stands-under, stands-left, stands-right}
+use Rattle.readers.proofs.Seeking.{deep-first, fault-first, fault-below}
+use Rattle.readers.specs.Reads.{Reading, guardKind, earlierOf, deepIn, chooses, faultIn, nextOf, About, Reads}
 
 -- the kind of the record at a place: its first byte
 abbrev pub kindAt : List ℕ → ℕ → ℕ
 kindAt s at = getD s (16 * at) 0
 
--- two readings one after the other, in a table of n records; the record of kind k at a place, and the reading of what is behind it
+-- two readings one after the other, in a table of n records
 abbrev pub joined : ℕ → Reading → Reading → Reading
 joined n x y = record { next = y .next; fault = earlierOf n (x .fault) (y .fault) }
 
-abbrev pub withOwn : Bool → ℕ → ℕ → Reading → Reading
-withOwn b k at x = record { next = x .next; fault = cond (not b || guardKind k) (x .fault) at }
+-- a term that stands at a place is within the records
+pub stands-within : (s : List ℕ) (at : ℕ) (t : Term) → Stands s (16 * at) t → at + size t ≤ length s / 16
+stands-within s at t h = omega (arith, stands-fits t h, length-encode t)
 
--- No records; and two runs of records one after the other, where the second is read only if nothing in the first is too deep.
-about-none : (t : Term) (o : ℕ) → About t o 0 (record { next = o; fault = size t })
-unfolding deepFrom guardFrom firstFrom
-about-none t o = record { next = omega arith; fault = λ e. refl }
+-- Beyond the table; and too deep, where the first record is.
+pub reads-out : (b : Bool) (s : List ℕ) (at d f r : ℕ) → length s / 16 ≤ at → at ≤ r → (length s / 16 < at → r ≡ at) → Reads b s at d (record { next = r; fault = f })
+reads-out b s at d f r out on same = record {
+  onward = on;
+  stays = same;
+  right = λ t h. absurd (omega (arith, stands-within s at t h, size-pos t));
+}
 
+deep-here : (d at : ℕ) (t : Term) → 256 < d → deepIn d at t ≡ some at
+unfolding deepIn placeIf orElse
+deep-here d at (leaf x) deep = rw (lt-ltb 256 d deep)
+deep-here d at (under u t) deep = rw (lt-ltb 256 d deep)
+deep-here d at (both j l r) deep = rw (lt-ltb 256 d deep)
+
+pub reads-deep : (b : Bool) (s : List ℕ) (at d f : ℕ) → at < length s / 16 → 256 < d → Reads b s at d (record { next = length s / 16 + 2 + at; fault = f })
+reads-deep b s at d f in-table deep = record {
+  onward = omega arith;
+  stays = λ l. absurd (omega arith);
+  right = λ t h.
+      let e = deep-here d at t deep in
+      record { next = rw e; fault = λ z. absurd (let y : _≡_ {A = ℕ} 0 1 = cc in omega arith) };
+}
+
+-- The first of the faults of two terms one after the other.
 earlier-place : (n : ℕ) (f g : Option ℕ) → ((p : ℕ) → f ≡ some p → p < n) → earlierOf n (placeOr n f) (placeOr n g) ≡ placeOr n (orElse f g)
 unfolding orElse
 earlier-place n none g h = rw (le-ltb n n (omega arith))
 earlier-place n (some p) g h = rw (lt-ltb p n (h p refl))
 
-module _ (t : Term) (o k l : ℕ) (a b : Reading) (fits : o + k ≤ size t) (ra : About t o k a) (stays : size t ≤ a .next → b .next ≡ a .next) (rb : a .next ≡ o + k → About t (o + k) l b) where
-  both-next : (f : Option ℕ) → deepFrom t o k ≡ f → b .next ≡ nextOf (size t) (o + (k + l)) (orElse f (deepFrom t (o + k) l))
-  unfolding orElse
-  both-next none e = rb (rw e at (ra .next)) .next ∙ ap (λ m. nextOf (size t) m (deepFrom t (o + k) l)) (omega arith)
-  both-next (some p) e = let n = rw e at (ra .next) in stays (omega arith) ∙ n
+-- Within the table and the depth: by the number of children.
+module _ (s : List ℕ) (at d : ℕ) (in-table : at < length s / 16) (low : d ≤ 256) where
+  abbrev n : ℕ
+  n = length s / 16
 
-  about-both : About t o (k + l) (joined (size t) a b)
-  unfolding deepFrom guardFrom
-  about-both = record {
-    next = rw firstFrom-append (both-next (firstFrom _ o k) refl);
-    fault = λ e.
-        let (p, q) = orElse-none (deepFrom t o k) (deepFrom t (o + k) l) (rw firstFrom-append at e) in
-        rw (firstFrom-append, ra .fault p, rb (ra .next ∙ ap (nextOf (size t) (o + k)) p) .fault q)
-        (earlier-place (size t) (guardFrom t o k) (guardFrom t (o + k) l) (λ i f. omega (arith, firstFrom-below _ o k i f)));
-  }
+  abbrev made : Reading → Type 0
+  made x = (t : Term) → Stands s (16 * at) t → About n false at d t x
 
--- The record at a place before those behind it: it is not too deep, and it is a fault if it is a choice's child and no guard.
-own-fault : (b g : Bool) (n at : ℕ) (f : Option ℕ) → cond (not b || g) (placeOr n f) at ≡ placeOr n (orElse (placeIf (b && not g) at) f)
-unfolding orElse placeIf
-own-fault false g n at f = refl
-own-fault true true n at f = refl
-own-fault true false n at f = refl
+  within : (x : Reading) → at ≤ x .next → made x → Reads false s at d x
+  within x on right = record { onward = on; stays = λ l. absurd (omega arith); right = right }
 
-module _ (b : Bool) (s : List ℕ) (at d : ℕ) (low : d ≤ 256) (t : Term) (h : Here b s at d t) where
-  deep-own : (k : ℕ) → deepFrom t at (suc k) ≡ deepFrom t (at + 1) k
-  unfolding deepFrom firstFrom tooDeep wayTo placeIf orElse
-  deep-own k = rw (← h .deep, le-ltb 256 d low, add-one)
+  kind : (t : Term) → Stands s (16 * at) t → kindAt s at ≡ kindOf t
+  kind t h = stands-kind t h
 
-  guard-own : (k : ℕ) → guardFrom t at (suc k) ≡ orElse (placeIf (b && not (guard (sub t at))) at) (guardFrom t (at + 1) k)
-  unfolding guardFrom firstFrom noGuard wayTo sub
-  guard-own k = rw (h .child, add-one)
+  -- the record at the place is not too deep itself
+  low-under : (u : Prefix) (c : Term) → deepIn d at (under u c) ≡ deepIn (d + 1) (at + 1) c
+  unfolding deepIn placeIf orElse
+  low-under u c = rw (le-ltb 256 d low)
 
-  about-own : (k : ℕ) (x : Reading) → size (sub t at) ≡ suc k → About t (at + 1) k x → About t at (size (sub t at)) (withOwn b (kindAt s at) at x)
-  about-own k x e r =
-      rw (e, holds-kind s t at (h .table) (h .placed), ← guard-kind (sub t at))
-      (record {
-        next = r .next ∙ rw (deep-own k) (ap (λ m. nextOf (size t) m (deepFrom t (at + 1) k)) (omega arith));
-        fault = λ f. rw (guard-own k, r .fault (sym (deep-own k) ∙ f)) (own-fault b (guard (sub t at)) (size t) at (guardFrom t (at + 1) k));
-      })
+  low-both : (j : Join) (l r : Term) → deepIn d at (both j l r) ≡ orElse (deepIn (d + 1) (at + 1) l) (deepIn (d + 1) (at + 1 + size l) r)
+  unfolding deepIn placeIf orElse
+  low-both j l r = rw (le-ltb 256 d low)
 
-  -- the children, from what their readings ensure
-  about-child : (n : ℕ) (f : Frame) (c : Term) (g : Bool) (x : Reading) → At t n (f ∷ wayTo t at) c → frameChooses f ≡ g → Reads g s n (d + 1) x → About t n (size c) x
-  unfolding inChoice
-  about-child n f c g x (l, e, w) k r =
-      rw e at (r .right t (record { table = h .table; placed = l; deep = rw w (omega (arith, h .deep)); child = rw w k }))
+  leaf-right : (x : Basic) → About n false at d (leaf x) (record { next = at + 1; fault = n })
+  unfolding deepIn faultIn placeIf size
+  leaf-right x = record { next = rw (le-ltb 256 d low); fault = λ e. refl }
 
-  about-one : (u : Prefix) (c : Term) (x : Reading) → sub t at ≡ under u c → Reads false s (at + 1) (d + 1) x → About t (at + 1) (size c) x
-  unfolding frameChooses
-  about-one u c x e r = about-child (at + 1) (inside u) c false x (rw (add-one at) (spot-under t at u c (h .placed) e)) refl r
+  pub reads-leaf : childrenOf (kindAt s at) ≡ 0 → Reads false s at d (record { next = at + 1; fault = n })
+  reads-leaf c = within _ (omega arith) (λ t h. let (x, e) = kind-leaf t (children-none (kindOf t) (rw (kind t h) at c)) in rw e (leaf-right x))
 
-  about-two : (j : Join) (l r : Term) (g : Bool) (x y : Reading) → sub t at ≡ both j l r → frameChooses (leftOf j r) ≡ g → frameChooses (rightOf j l) ≡ g
-      → Reads g s (at + 1) (d + 1) x → Reads g s (x .next) (d + 1) y → About t (at + 1) (size l + size r) (joined (size t) x y)
-  unfolding size
-  about-two j l r g x y e p q rx ry =
-      about-both t (at + 1) (size l) (size r) x y (omega (arith, spot-fits t at (h .placed), ap size e))
-      (about-child (at + 1) (leftOf j r) l g x (rw (add-one at) (spot-left t at j l r (h .placed) e)) p rx)
-      (λ z. ry .stays (omega (arith, holds-size s t (h .table))))
-      (λ z. about-child (at + 1 + size l) (rightOf j l) r g y (rw (add-one at) (spot-right t at j l r (h .placed) e)) q (rw z at ry))
+  one-right : (u : Prefix) (t : Term) (x : Reading) → About n false (at + 1) (d + 1) t x → About n false at d (under u t) x
+  unfolding faultIn placeIf orElse size
+  one-right u t x y = record { next = rw (low-under u t) (y .next ∙ ap (λ i. nextOf n i (deepIn (d + 1) (at + 1) t)) (omega arith)); fault = λ e. y .fault (sym (low-under u t) ∙ e) }
 
--- The branches of the code: beyond the table; too deep; and, within the table and the depth, by the number of children.
-pub reads-out : (b : Bool) (s : List ℕ) (at d f : ℕ) → length s / 16 ≤ at → Reads b s at d (record { next = at; fault = f })
-reads-out b s at d f out = record {
-  onward = omega arith;
-  stays = λ l. refl;
-  right = λ t h. absurd (omega (arith, h .placed, holds-size s t (h .table)));
-}
-
--- at least one record is read, and the first is too deep
-deep-here : (b : Bool) (s : List ℕ) (at d : ℕ) → 256 < d → (t : Term) → Here b s at d t → (k : ℕ) → 1 ≤ k → deepFrom t at k ≡ some at
-unfolding deepFrom firstFrom tooDeep wayTo placeIf orElse
-deep-here b s at d deep t h zero l = absurd (omega arith)
-deep-here b s at d deep t h (suc k) l = rw (← h .deep, lt-ltb 256 d deep)
-
-pub reads-deep : (b : Bool) (s : List ℕ) (at d f : ℕ) → at < length s / 16 → 256 < d → Reads b s at d (record { next = length s / 16 + 1 + at; fault = f })
-reads-deep b s at d f in-table deep = record {
-  onward = omega arith;
-  stays = λ l. absurd (omega arith);
-  right = λ t h.
-      let f = deep-here b s at d deep t h (size (sub t at)) (size-pos (sub t at)) in
-      record { next = rw (f, holds-size s t (h .table)); fault = λ e. absurd (let z : _≡_ {A = ℕ} 0 1 = cc in omega arith) };
-}
-
-module _ (b : Bool) (s : List ℕ) (at d : ℕ) (in-table : at < length s / 16) (low : d ≤ 256) where
-  -- from what is right about the records behind the place
-  reads : (x : Reading) → at ≤ x .next → ((t : Term) → Here b s at d t → (k : ℕ) × (size (sub t at) ≡ suc k) × About t (at + 1) k x) → Reads b s at d (withOwn b (kindAt s at) at x)
-  reads x onward right = record {
-    onward = onward;
-    stays = λ l. absurd (omega arith);
-    right = λ t h. let (k, e, r) = right t h in about-own b s at d low t h k x e r;
-  }
-
-  kind : (t : Term) → Here b s at d t → kindAt s at ≡ kindOf (sub t at)
-  kind t h = holds-kind s t at (h .table) (h .placed)
-
-  pub reads-leaf : childrenOf (kindAt s at) ≡ 0 → Reads b s at d (withOwn b (kindAt s at) at (record { next = at + 1; fault = length s / 16 }))
-  unfolding size
-  reads-leaf c =
-      reads (record { next = at + 1; fault = length s / 16 }) (omega arith)
-      (λ t h.
-      let (x, e) = kind-leaf (sub t at) (children-none (kindOf (sub t at)) (rw (kind t h) at c)) in
-      (0, ap size e, rw (holds-size s t (h .table)) (about-none t (at + 1))))
-
-  pub reads-one : (x : Reading) → childrenOf (kindAt s at) ≡ 1 → Reads false s (at + 1) (d + 1) x → Reads b s at d (withOwn b (kindAt s at) at x)
-  unfolding size
+  pub reads-one : (x : Reading) → childrenOf (kindAt s at) ≡ 1 → Reads false s (at + 1) (d + 1) x → Reads false s at d x
   reads-one x c r =
-      reads x (omega (arith, r .onward))
+      within x (omega (arith, r .onward))
       (λ t h.
-      let (k, p, q) = children-one (kindOf (sub t at)) (rw (kind t h) at c) in
-      let (u, e) = kind-prefix (sub t at) k p q in
-      (size (below (sub t at)), ap size e, about-one b s at d low t h u (below (sub t at)) x e r))
+      let (k, p, q) = children-one (kindOf t) (rw (kind t h) at c) in
+      let (u, e) = kind-prefix t k p q in
+      rw e (one-right u (below t) x (r .right (below t) (subst (λ i. Stands s i (below t)) (omega arith) (stands-under u (below t) (rw e at h))))))
 
-  reads-two : (j : Join) (g : Bool) (x y : Reading) → ((t : Term) → Here b s at d t → (l : Term) × (r : Term) × (sub t at ≡ both j l r))
-      → ((l r : Term) → (frameChooses (leftOf j r) ≡ g) × (frameChooses (rightOf j l) ≡ g)) → Reads g s (at + 1) (d + 1) x → Reads g s (x .next) (d + 1) y
-      → Reads b s at d (withOwn b (kindAt s at) at (joined (length s / 16) x y))
-  unfolding size
-  reads-two j g x y view is rx ry =
-      reads (joined (length s / 16) x y) (omega (arith, rx .onward, ry .onward))
+  -- two children: the second is read only if nothing in the first is too deep
+  module _ (g : Bool) (x y : Reading) (rx : Reads g s (at + 1) (d + 1) x) (ry : Reads g s (x .next) (d + 1) y) (l r : Term) (hl : Stands s (16 * (at + 1)) l)
+      (hr : Stands s (16 * (at + 1 + size l)) r) where
+    abbrev dl : Option ℕ
+    dl = deepIn (d + 1) (at + 1) l
+
+    abbrev dr : Option ℕ
+    dr = deepIn (d + 1) (at + 1 + size l) r
+
+    second : dl ≡ none → About n g (at + 1 + size l) (d + 1) r y
+    second e = let z = rx .right l hl .next ∙ ap (nextOf n (at + 1 + size l)) e in (rw z at ry) .right r hr
+
+    two-next : (f : Option ℕ) → dl ≡ f → y .next ≡ nextOf n (at + (1 + (size l + size r))) (orElse f dr)
+    unfolding orElse
+    two-next none e = second e .next ∙ ap (λ i. nextOf n i dr) (omega arith)
+    two-next (some p) e = let z = rx .right l hl .next ∙ ap (nextOf n (at + 1 + size l)) e in ry .stays (omega arith) ∙ z
+
+    two-fault : orElse dl dr ≡ none → earlierOf n (x .fault) (y .fault) ≡ placeOr n (orElse (faultIn g (at + 1) l) (faultIn g (at + 1 + size l) r))
+    two-fault e =
+        let (p, q) = orElse-none dl dr e in
+        rw (rx .right l hl .fault p, second p .fault q)
+        (earlier-place n (faultIn g (at + 1) l) (faultIn g (at + 1 + size l) r) (λ i f. omega (arith, fault-below g (at + 1) l i f, stands-within s (at + 1) l hl)))
+
+    two-right : (j : Join) → chooses j ≡ g → About n false at d (both j l r) (joined n x y)
+    unfolding faultIn placeIf orElse size
+    two-right j e = record { next = rw (low-both j l r) (two-next dl refl ∙ ap (λ i. nextOf n i (orElse dl dr)) (omega arith)); fault = λ z. rw e (two-fault (sym (low-both j l r) ∙ z)) }
+
+  reads-two : (j : Join) (x y : Reading) → ((t : Term) → Stands s (16 * at) t → (l : Term) × (r : Term) × (t ≡ both j l r)) → Reads (chooses j) s (at + 1) (d + 1) x
+      → Reads (chooses j) s (x .next) (d + 1) y → Reads false s at d (joined n x y)
+  reads-two j x y view rx ry =
+      within (joined n x y) (omega (arith, rx .onward, ry .onward))
       (λ t h.
       let (l, r, e) = view t h in
-      let (p, q) = is l r in
-      (size l + size r, ap size e, rw (holds-size s t (h .table)) (about-two b s at d low t h j l r g x y e p q rx ry)))
+      let k = rw e at h in
+      rw e
+      (two-right (chooses j) x y rx ry l r (subst (λ i. Stands s i l) (omega arith) (stands-left j l r k)) (stands-right j l r (16 * (at + 1 + size l)) (omega (arith, length-encode l)) k) j refl))
 
-  pub reads-choice : (x y : Reading) → kindAt s at ≡ 5 → Reads true s (at + 1) (d + 1) x → Reads true s (x .next) (d + 1) y
-      → Reads b s at d (withOwn b 5 at (joined (length s / 16) x y))
-  unfolding frameChooses
-  reads-choice x y k rx ry =
-      rw k at (reads-two choice true x y (λ t h. kind-choice (sub t at) (sym (kind t h) ∙ k)) (λ l r. (refl, refl)) rx ry)
+  pub reads-choice : (x y : Reading) → kindAt s at ≡ 5 → Reads true s (at + 1) (d + 1) x → Reads true s (x .next) (d + 1) y → Reads false s at d (joined n x y)
+  reads-choice x y k rx ry = reads-two choice x y (λ t h. kind-choice t (sym (kind t h) ∙ k)) rx ry
 
-  pub reads-parallel : (x y : Reading) → childrenOf (kindAt s at) ≡ 2 → kindAt s at ≢ 5 → Reads false s (at + 1) (d + 1) x → Reads false s (x .next) (d + 1) y
-      → Reads b s at d (withOwn b 6 at (joined (length s / 16) x y))
-  unfolding frameChooses
-  reads-parallel x y c n rx ry =
-      let k = children-two (kindAt s at) c n in
-      rw k at (reads-two parallel false x y (λ t h. kind-parallel (sub t at) (sym (kind t h) ∙ k)) (λ l r. (refl, refl)) rx ry)
+  pub reads-parallel : (x y : Reading) → kindAt s at ≡ 6 → Reads false s (at + 1) (d + 1) x → Reads false s (x .next) (d + 1) y → Reads false s at d (joined n x y)
+  reads-parallel x y k rx ry = reads-two parallel x y (λ t h. kind-parallel t (sym (kind t h) ∙ k)) rx ry
+
+-- From one reader to the other: of a guard both say the same, and of what is none the guard reader says that it is a fault.
+own : (n at : ℕ) (g : Bool) (f : Option ℕ) → placeOr n (orElse (placeIf (not g) at) f) ≡ cond g (placeOr n f) at
+unfolding placeIf orElse
+own n at true f = refl
+own n at false f = refl
+
+own-alone : (n at : ℕ) (g : Bool) → placeOr n (placeIf (not g) at) ≡ cond g n at
+unfolding placeIf
+own-alone n at true = refl
+own-alone n at false = refl
+
+fault-own : (n at : ℕ) (t : Term) → placeOr n (faultIn true at t) ≡ cond (guard t) (placeOr n (faultIn false at t)) at
+unfolding faultIn placeIf orElse
+fault-own n at (leaf x) = own-alone n at (guard (leaf x))
+fault-own n at (under u t) = own n at (guard (under u t)) (faultIn false (at + 1) t)
+fault-own n at (both j l r) = own n at (guard (both j l r)) (orElse (faultIn (chooses j) (at + 1) l) (faultIn (chooses j) (at + 1 + size l) r))
+
+module _ (s : List ℕ) (at d : ℕ) (x : Reading) where
+  guard-at : (t : Term) → Stands s (16 * at) t → guardKind (kindAt s at) ≡ guard t
+  guard-at t h = ap guardKind (stands-kind t h) ∙ sym (guard-kind t)
+
+  pub reads-noted : Reads false s at d x → Reads true s at d (record { next = x .next; fault = cond (guardKind (kindAt s at)) (x .fault) at })
+  reads-noted r = record {
+    onward = r .onward;
+    stays = r .stays;
+    right = λ t h. let y = r .right t h in record { next = y .next; fault = λ e. rw (guard-at t h, y .fault e) (sym (fault-own (length s / 16) at t)) };
+  }
+
+  pub reads-guard : guardKind (kindAt s at) ≡ true → Reads true s at d x → Reads false s at d x
+  reads-guard k r = record {
+    onward = r .onward;
+    stays = r .stays;
+    right = λ t h. let y = r .right t h in record { next = y .next; fault = λ e. y .fault e ∙ (fault-own (length s / 16) at t ∙ rw (sym (guard-at t h) ∙ k)) };
+  }
 
 -- What the reading of the whole table tells of refusals 4 and 5.
 pub record Tells (t : Term) (r : Reading) : Type 0 where
   pub whole : size t ≤ r .next
   pub shallow : first tooDeep t ≡ none ↔ r .next ≡ size t
-  pub deep : (p : ℕ) → first tooDeep t ≡ some p ↔ r .next ≡ size t + 1 + p
+  pub deep : (p : ℕ) → first tooDeep t ≡ some p ↔ r .next ≡ size t + 2 + p
   pub guarded : first tooDeep t ≡ none → r .fault ≡ size t → first noGuard t ≡ none
   pub unguarded : first tooDeep t ≡ none → r .fault ≢ size t → (first noGuard t ≡ some (r .fault)) × (r .fault < size t)
 
-next-tells : (n m : ℕ) (f : Option ℕ) → m ≡ nextOf n n f → (n ≤ m) × (f ≡ none ↔ m ≡ n) × ((p : ℕ) → f ≡ some p ↔ m ≡ n + 1 + p)
+next-tells : (n m : ℕ) (f : Option ℕ) → m ≡ nextOf n n f → (n ≤ m) × (f ≡ none ↔ m ≡ n) × ((p : ℕ) → f ≡ some p ↔ m ≡ n + 2 + p)
 next-tells n m none e = (omega arith, (λ h. e, λ h. refl), λ p. (λ h. cc, λ h. absurd (omega arith)))
-next-tells n m (some q) e = (omega arith, (λ h. cc, λ h. absurd (omega arith)), λ p. (λ h. e ∙ ap (λ i. n + 1 + i) (same-some h), λ h. ap some (omega arith)))
-
-at-root : (t : Term) → At t 0 [] t
-unfolding spot sub wayTo
-at-root t = let e = descend-first [] t in (size-pos t, ap (λ (z : Spot). z .here) e, ap (λ (z : Spot). z .way) e)
+next-tells n m (some q) e = (omega arith, (λ h. cc, λ h. absurd (omega arith)), λ p. (λ h. e ∙ ap (λ i. n + 2 + i) (same-some h), λ h. ap some (omega arith)))
 
 pub reads-tells : (s : List ℕ) (t : Term) (r : Reading) → Holds s t → Reads false s 0 1 r → Tells t r
-unfolding inChoice deepFrom guardFrom first
 reads-tells s t r h x =
-    let (l, e, w) = at-root t in
-    let a = rw e at (x .right t (record { table = h; placed = l; deep = rw w; child = rw w })) in
-    let (whole, shallow, deep) = next-tells (size t) (r .next) (first tooDeep t) (rw zero-add at (a .next)) in
-    let fault = place-tells (size t) (r .fault) (first noGuard t) (λ p f. rw zero-add at (firstFrom-below _ 0 (size t) p f)) in
-    record { whole = whole; shallow = shallow; deep = deep; guarded = λ n. fault (a .fault n) .0; unguarded = λ n. fault (a .fault n) .1 }
+    let e = holds-size s t h in
+    let a = x .right t (rw (h .is) (record { rest = []; is = sym (append-nil (encode t)) })) in
+    let n = rw (e, deep-first t, zero-add) at (a .next) in
+    let (whole, shallow, deep) = next-tells (size t) (r .next) (first tooDeep t) n in
+    let f : first tooDeep t ≡ none → r .fault ≡ placeOr (size t) (first noGuard t) = λ z. rw (e, fault-first t) at (a .fault (deep-first t ∙ z)) in
+    let fault = place-tells (size t) (r .fault) (first noGuard t) (λ p q. omega (arith, fault-below false 0 t p (fault-first t ∙ q))) in
+    record { whole = whole; shallow = shallow; deep = deep; guarded = λ z. fault (f z) .0; unguarded = λ z. fault (f z) .1 }

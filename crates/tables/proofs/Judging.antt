@@ -4,7 +4,7 @@ use mathlib.Core.Logic.{_≢_}
 use mathlib.Core.Bool.{true, false}
 use mathlib.Core.Option.{Option, none, some}
 use mathlib.Core.List.{List, [], _∷_, map}
-use Prim.Native.Nat.{ℕ, suc, _-_, _/_, _%_, _<_, _≤_}
+use Prim.Native.Nat.{ℕ, suc, _+_, _-_, _/_, _%_, _<_, _≤_}
 use native.Mathlib.Omega.{arith}
 use lib.ListN.{length, getD}
 use Rattle.cows.specs.Basics.{placeIf, _>>_, forbid}
@@ -16,12 +16,12 @@ use Rattle.cows.proofs.Tables.{records-hold}
 use Rattle.records.specs.Holds.{Holds}
 use Rattle.records.specs.Ends.{endAt}
 use Rattle.records.proofs.Shapes.{end-shape}
-use Rattle.readers.specs.declared.Reading.{Reading}
+use Rattle.readers.specs.Reads.{Reading}
 use Rattle.scopes.specs.declared.Scoping.the-variants.{Fine, Open, Clash}
 use Rattle.tables.specs.declared.Verdict.{Verdict}
 use Rattle.tables.specs.declared.Verdict.the-variants.{Accepted, Length, Record, Shape, Deep, Choice, Open as OpenUse, Clash as Clashes}
 use Rattle.scopes.specs.Scopes.{scopingOf}
-use Rattle.quick.specs.Quick.{shallow, guarded, bound}
+use Rattle.index.specs.Index.{bound}
 use Rattle.tables.specs.Verdict.{replyOf, checkReply, judgeScopes, judgeShape}
 use Rattle.readers.proofs.Readings.{Tells}
 
@@ -57,9 +57,9 @@ unfolding judgeScopes _>>_ forbid
 judge-clash t i e = let (p, q) = scoping-clash (first unbound t) (first (clash t) t) i e in rw (p, q)
 
 -- 4 and 5, in a table of n records
-pub judge-deep : (t : Term) (r : Reading) (n : ℕ) → Tells t r → n ≡ size t → n < r .next → replyOf (Deep (r .next - n - 1)) ≡ checkReply (judgeTerm t)
+pub judge-deep : (t : Term) (r : Reading) (n : ℕ) → Tells t r → n ≡ size t → n + 2 ≤ r .next → replyOf (Deep (r .next - n - 2)) ≡ checkReply (judgeTerm t)
 unfolding judgeTerm _>>_ forbid
-judge-deep t r n h e l = rw (h .deep (r .next - n - 1) .1 (omega arith))
+judge-deep t r n h e l = rw (h .deep (r .next - n - 2) .1 (omega arith))
 
 pub judge-choice : (t : Term) (r : Reading) (n : ℕ) → Tells t r → n ≡ size t → r .next ≤ n → r .fault ≢ n → replyOf (Choice (r .fault)) ≡ checkReply (judgeTerm t)
 unfolding judgeTerm _>>_ forbid
@@ -72,11 +72,6 @@ unfolding judgeTerm judgeScopes _>>_ forbid
 judge-rest t r n v h e l f q =
     let d = h .shallow .1 (omega (arith, h .whole)) in
     rw (d, h .guarded d (f ∙ e)) q
-
--- neither 4 nor 5
-pub judge-read : (t : Term) (v : Verdict) → shallow t → guarded t → replyOf v ≡ checkReply (judgeScopes t) → replyOf v ≡ checkReply (judgeTerm t)
-unfolding judgeTerm judgeScopes _>>_ forbid
-judge-read t v d g q = rw (d, g) q
 
 -- the bytes of a slice are bytes
 pub slice-bytes : (s : List ℕ) → ((k : ℕ) → getD s k 0 < 256) → Bytes s

@@ -1,13 +1,16 @@
 -- The verdict on a table, and document 01's number and place for each of its cases.
 use mathlib.Core.Path.{_≡_}
 use mathlib.Core.List.{List, map}
-use Prim.Native.Nat.{ℕ}
+use mathlib.Core.Option.{none}
+use Prim.Native.Nat.{ℕ, _/_, _%_, _≤_}
+use lib.ListN.{length}
 use Rattle.cows.specs.Basics.{Result, refuse, accept, _>>=_, _>>_, forbid}
 use Rattle.cows.specs.Terms.{Term, size}
 use Rattle.cows.specs.Places.{first}
 use Rattle.cows.specs.Format.{node, records, decode}
-use Rattle.cows.specs.Tables.{misshapen, unbound, clash, judgeTerm, judge}
+use Rattle.cows.specs.Tables.{firstWrong, misshapen, unbound, clash, judgeTerm, judge}
 use Rattle.records.specs.Ends.{EndsFrom}
+use Rattle.readers.specs.Terms.{Passed}
 use Rattle.tables.specs.declared.Verdict.{Verdict}
 use Rattle.tables.specs.declared.Verdict.the-variants.{Accepted, Length, Record, Shape, Deep, Choice, Open, Clash}
 use Rattle.tables.specs.declared.Reply.{Reply}
@@ -44,3 +47,16 @@ unfoldable pub judgeShape : List ℕ → Result Term
 judgeShape b = do
   forbid 3 (misshapen 1 0 (map node (records b)))
   judgeTerm (decode (map node (records b)))
+
+-- the bytes are whole records, not too many, and each is right: refusals 1 and 2 do not apply, but for an empty table
+pub record RightRecords (b : List ℕ) : Type 0 where
+  pub short : length b ≤ 32768
+  pub whole : length b % 16 ≡ 0
+  pub right : firstWrong 0 (records b) ≡ none
+
+-- the table reader, which was at the first record, stands at a place, and behind the last record the ends are those of the terms
+pub record Stood (b ends : List ℕ) (at : ℕ) : Type 0 where
+  pub before : List ℕ
+  pub after : List ℕ
+  pub passed : Passed b 0 before after at
+  pub end : at ≡ length b / 16 → EndsFrom b ends 0

@@ -1,16 +1,13 @@
 // Tables: whether bytes are a well-formed table, or the refusal of 1 to 7 with its place.
 use scopes::Scoping;
 ghost use mathlib.Core.Path.{_≡_};
-ghost use mathlib.Core.Option.{none};
-ghost use Prim.Native.Nat.{_+_, _/_, _%_, _<_, _≤_, min};
+ghost use Prim.Native.Nat.{_+_, _/_, _<_, min};
 ghost use lib.ListN.{length};
 ghost use Rattle.cows.specs.Terms.{Term};
-ghost use Rattle.cows.specs.Format.{records};
-ghost use Rattle.cows.specs.Tables.{firstWrong, judgeTerm, judge};
+ghost use Rattle.cows.specs.Tables.{judge};
 ghost use Rattle.records.specs.Holds.{Holds};
 ghost use Rattle.records.specs.Ends.{EndsFrom};
-ghost use Rattle.quick.specs.Quick.{Shows, shallow};
-ghost use Rattle.tables.specs.Verdict.{replyOf, checkReply, Checked, judgeScopes, judgeShape};
+ghost use Rattle.tables.specs.Verdict.{replyOf, checkReply, Checked, judgeScopes, judgeShape, RightRecords, Stood};
 
 // What the author of a table is told.
 pub enum Verdict {
@@ -73,43 +70,17 @@ fn find_scopes(s: &[u8], ends: &[u16]) -> Verdict
     }
 }
 
-// The same, with the quick test first.
-fn judge_scopes(s: &[u8], ends: &[u16]) -> Verdict
-    requires { ⌜ EndsFrom (now s) (now ends) 0 ⌝ }
-    ensures { λ v. ⌜ ((t : Term) → Holds (now (s .entry)) t → replyOf v ≡ checkReply (judgeScopes t)) ⌝ }
-{
-    if index::scopes_right(s, ends) {
-        return Verdict::Accepted(s.len() / 16);
-    }
-    find_scopes(s, ends)
-}
-
-// Refusals 4 to 7 of a table that holds a term; `low` says that it is not too deep, or nothing.
-fn judge_term(s: &[u8], ends: &[u16], low: bool) -> Verdict
-    requires { ⌜ EndsFrom (now s) (now ends) 0 × Shows low (now s) shallow ⌝ }
-    ensures { λ v. ⌜ ((t : Term) → Holds (now (s .entry)) t → replyOf v ≡ checkReply (judgeTerm t)) ⌝ }
-{
-    if quick::reading_right(s, ends, low) {
-        return judge_scopes(s, ends);
-    }
-    let n = s.len() / 16;
-    let r = readers::service(s, 0, 1);
-    if n < r.next {
-        return Verdict::Deep(r.next - n - 1);
-    }
-    if r.fault != n {
-        return Verdict::Choice(r.fault);
-    }
-    find_scopes(s, ends)
-}
-
-// Refusals 3 to 7 of right records; `ends` takes the ends of the terms.
-fn judge_records(s: &[u8], ends: &mut [u16]) -> Verdict
-    requires { ⌜ (length (now s) ≤ 32768) × (length (now s) % 16 ≡ 0) × (firstWrong 0 (records (now s)) ≡ none) × (length (now s) / 16 + 1 < length (now ends)) ⌝ }
+// Refusals 3 to 7 of right records, by the place at which the table reader stands: the scopes, if it is behind the last record, and else 3, 4 or 5, with the ends
+// found again, on any shape.
+fn find_refusal(s: &[u8], ends: &mut [u16], at: usize) -> Verdict
+    requires { ⌜ RightRecords (now s) × (length (now s) / 16 + 1 < length (now ends)) × Stood (now s) (now ends) at ⌝ }
     ensures { λ v. ⌜ (replyOf v ≡ checkReply (judgeShape (now (s .entry)))) × EndsFrom (now (s .entry)) (now (ends .exit)) 0 ⌝ }
 {
     let n = s.len() / 16;
-    let low = quick::ends_right(s, ends);
+    if at == n {
+        return find_scopes(s, ends);
+    }
+    records::ends::ends(s, ends);
     let end = records::wide16(ends[0]);
     if end < n {
         return Verdict::Shape(end);
@@ -117,7 +88,29 @@ fn judge_records(s: &[u8], ends: &mut [u16]) -> Verdict
     if n < end {
         return Verdict::Shape(n);
     }
-    judge_term(s, ends, low)
+    if at < 2 * n + 2 {
+        return Verdict::Deep(at - n - 2);
+    }
+    Verdict::Choice(at - 2 * n - 2)
+}
+
+// Refusals 3 to 7 of right records: the table reader reads the term at the first, and the quick test of scopes follows; `ends` takes the ends of the terms.
+fn judge_records(s: &[u8], ends: &mut [u16]) -> Verdict
+    requires { ⌜ RightRecords (now s) × (length (now s) / 16 + 1 < length (now ends)) ⌝ }
+    ensures { λ v. ⌜ (replyOf v ≡ checkReply (judgeShape (now (s .entry)))) × EndsFrom (now (s .entry)) (now (ends .exit)) 0 ⌝ }
+{
+    let n = s.len() / 16;
+    let at = readers::read_on(s, ends, 0);
+    if at != n {
+        return find_refusal(s, ends, at);
+    }
+    let over = (n + 1) as u16;
+    ends[n + 1] = over;
+    ends[n] = over;
+    if index::scopes_right(s, ends) {
+        return Verdict::Accepted(n);
+    }
+    find_refusal(s, ends, at)
 }
 
 // All refusals of a table; `ends` takes the ends of the terms of an accepted one.
@@ -129,7 +122,7 @@ fn judge_table(s: &[u8], ends: &mut [u16]) -> Verdict
     if (n == 0) | (32768 < n) | (n % 16 != 0) {
         return Verdict::Length;
     }
-    let wrong = reader::read_records(s);
+    let wrong = ranges::first_wrong(s);
     if wrong != n / 16 {
         return Verdict::Record(wrong);
     }
