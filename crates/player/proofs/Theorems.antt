@@ -57,6 +57,11 @@ module _ (table moves out after slots after′ : List ℕ) (p : Played) (t : Ter
         followed (rw (play-judged table moves out slots t formed, le-ltb 60000 (length moves) h, le-ltb (length out) 32768 k, le-ltb (length slots) (6 * (length moves / 6)) l) at plays) (judge-within table t b formed);
   }
 
+-- What play promises, of a table of bytes: the equation, and demand 3 with it.
+pub promised : (table moves out after slots after′ : List ℕ) (p : Played) → Bytes table → Plays table moves out after slots after′ p
+    → Plays table moves out after slots after′ p × ((t : Term) → judge table ≡ accept t → Demand3 t moves out after slots after′ p)
+promised table moves out after slots after′ p b plays = (plays, λ t formed. demand-3 table moves out after slots after′ p t formed plays b)
+
 -- The inequality over the night book, for lists of any length.
 pub any-list : (t : Term) (ms : List (List ℕ)) → let r = run (start t) ms in
     2 * r .tally .communications + r .tally .kills + r .tally .timeouts + load (r .table) ≤ load t + r .tally .copied
