@@ -4,6 +4,7 @@ mod loads;
 mod nights;
 mod turns;
 
+use crate::turns::Kept;
 use tables::Reply;
 use tally::Tally;
 ghost use mathlib.Core.Path.{_≡_};
@@ -49,16 +50,21 @@ fn play_known(
     let mut first = [0u8; 32768];
     let mut second = [0u8; 32768];
     records::copying::copy(table, 0, table.len(), &mut first, 0);
-    let kept = nights::night(
+    let night = nights::night(
+        Kept {
+            second: false,
+            records: table.len() / 16,
+        },
         moves,
         &mut first,
         &mut second,
         ends,
-        table.len() / 16,
         replies,
+        moves.len() / 6,
     );
+    let kept = night.kept;
     let records = kept.records;
-    let tally = kept.tally;
+    let tally = night.tally;
     if kept.second {
         buffers::put_table(&second, records, out);
     } else {
