@@ -14,15 +14,13 @@ use Rattle.cows.specs.Run.{noTally, Run, start, run, judgement, turn, kept, rep
 use Rattle.cows.proofs.Lists.{run-more, replies-more, pieces-more, bytes-more, length-pieces, length-replies, length-bytes}
 use Rattle.cows.proofs.Step.{Below, below-step}
 use Rattle.records.specs.Rewrites.{put}
-use Rattle.records.proofs.Put.{length-put}
 use Rattle.tables.specs.declared.Reply as code
-use Rattle.stepper.specs.Replies.{replyOf}
 use Rattle.tally.specs.declared.Tally.{Tally}
 use Rattle.tally.specs.Counted.{tallyOf, Small}
 use Rattle.tally.proofs.Counting.{zeros-small, sum-small}
 use Rattle.player.specs.declared.turns.Kept.{Kept}
 use Rattle.player.specs.declared.turns.Next.{Next}
-use Rattle.player.specs.Turns.{Keeps, Going, Goes}
+use Rattle.player.specs.Turns.{Keeps, Goes}
 use Rattle.player.specs.Nights.{sixBytes, replySix, bookAt, repliesAt, moveAt, Ready, Made, Recorded, Opens, Playing, Ends}
 use Rattle.player.proofs.Turning.{kept-records}
 

@@ -14,7 +14,6 @@ use Rattle.cows.specs.Tables.{judge}
 use Rattle.cows.specs.Within.{Within}
 use Rattle.cows.specs.Load.{load}
 use Rattle.cows.specs.Run.{start, run, movesOf, played, playedReply, playedTally, playedOutput, playedReplies}
-use Rattle.cows.specs.Run as meaning
 use Rattle.cows.proofs.Tables.{judge-within, within-judge}
 use Rattle.cows.proofs.Lists.{length-pieces, length-replies}
 use Rattle.cows.proofs.Theorems.{list-bound, tables-within}

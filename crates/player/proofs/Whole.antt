@@ -13,7 +13,7 @@ use Rattle.cows.specs.Basics.{placeIf, Result, refuse, accept, _>>=_, _>>_, for
 use Rattle.cows.specs.Terms.{Term}
 use Rattle.cows.specs.Format.{pieces}
 use Rattle.cows.specs.Tables.{judge}
-use Rattle.cows.specs.Run.{Run, start, replies, movesOf, played, judgePlay, playedReply, playedTally, playedOutput, playedReplies}
+use Rattle.cows.specs.Run.{Run, start, movesOf, played, judgePlay, playedReply, playedTally, playedOutput, playedReplies}
 use Rattle.cows.specs.Run as meaning
 use Rattle.cows.proofs.Basics.{or-false, accept-bind}
 use Rattle.cows.proofs.Lists.{length-pieces, length-replies}
