@@ -81,15 +81,14 @@ module _ (moves : List ℕ) (i : ℕ) (k : Kept) (x y ends slots : List ℕ) (o 
   move-six = length-take-le 6 (drop (6 * i) moves) (omega (arith, length-drop (6 * i) moves, o .inside))
 
   module _ (x′ y′ ends′ : List ℕ) (r : Next) (g : Goes (moveAt moves i) k x y ends x′ y′ ends′ r) where
-    pub reply-fits : ((j : ℕ) → getD moves j 0 < 256) → (6 * i + 5 < length slots) × (r .reply .place < 65536) × (r .reply .records < 65536)
+    pub reply-fits : ((j : ℕ) → getD moves j 0 < 256) → (r .reply .place < 65536) × (r .reply .records < 65536)
     reply-fits small =
         let q = o .going .run in
         let h = o .going .keeps in
         let e = g .replies q h in
-        let l : 6 * i + 5 < length slots = omega (arith, o .slots-room, o .inside) in
         let a : r .reply .place < 65536 = subst (λ v. v < 65536) (sym (ap (λ (v : code.Reply). v .place) e)) (place-small moves small i q (h .table .within .small)) in
         let b : r .reply .records ≡ size (turn q (moveAt moves i) .table) = ap (λ (v : code.Reply). v .records) e ∙ kept-records q (moveAt moves i) in
-        (l, a, omega (arith, b, g .keeps q h .table .within .small))
+        (a, omega (arith, b, g .keeps q h .table .within .small))
 
     pub made : (slots′ : List ℕ) → slots′ ≡ put slots (6 * i) (sixBytes (r .reply .answer) (r .reply .place) (r .reply .records)) → Made moves i k x y ends slots x′ y′ ends′ slots′ (record { kept = r .kept; tally = r .counts })
     made slots′ e = record {

@@ -199,8 +199,24 @@ module _ {M : Type 1} (𝓤 : URA M) (H : Heap 𝓤) (A : Atoms 𝓤) (W : Given
   fits : (z : State) → z .i < 2 ^ 64
   fits z = lt-of-le-of-lt (subst (λ (m : ℕ). z .i ≤ m) (sym (ok .all)) (z .playing .inside)) n-fits
 
-  -- the call at the state z, with the tally in block l lent for ν under δ, and each slice for its own lifetime and name: what is passed, what it asks,
-  -- and what is known of its result
+  -- the last tally and lists
+  abbrev Lasts : Type 0
+  Lasts = Tally × (Unit {0} × (Unit {0} × (List ℕ × (List ℕ × (List ℕ × (List ℕ × (Unit {0} × Unit {0})))))))
+
+  abbrev last-x : Lasts → List ℕ
+  last-x zs = zs .1 .1 .1 .0
+
+  abbrev last-y : Lasts → List ℕ
+  last-y zs = zs .1 .1 .1 .1 .0
+
+  abbrev last-e : Lasts → List ℕ
+  last-e zs = zs .1 .1 .1 .1 .1 .0
+
+  abbrev last-r : Lasts → List ℕ
+  last-r zs = zs .1 .1 .1 .1 .1 .1 .0
+
+  -- the call at the state z, with the tally in block l lent for ν under δ, and each slice for a lifetime and under a name of its own: what is passed, what
+  -- it asks, and what is known of its result
   module _ (z : State) (less : z .i < n) (l ν : ℕ) (δ : GName) (νx : ℕ) (δx : GName) (νy : ℕ) (δy : GName) (νe : ℕ) (δe : GName) (νr : ℕ) (δr : GName) where
     abbrev tally-ref : RefT Tally
     tally-ref = record { ptr = (l, 0); name = δ; now = z .c }
@@ -223,8 +239,8 @@ module _ {M : Type 1} (𝓤 : URA M) (H : Heap 𝓤) (A : Atoms 𝓤) (W : Given
     abbrev Tokens : Item 𝓤
     Tokens = ‵ (flft (ν ∷ []) fullShare) ⊛ ‵ (flft κs qs) ⊛ ‵ (flft (νx ∷ []) fullShare) ⊛ ‵ (flft (νy ∷ []) fullShare) ⊛ ‵ (flft (νe ∷ []) fullShare) ⊛ ‵ (flft (νr ∷ []) fullShare) ⊛ ‵ ftrue
 
-    abbrev Says : Kept → Tally → (x′ y′ e′ r′ : List ℕ) → Type 0
-    Says k′ c′ x′ y′ e′ r′ = Recorded (now s) (z .i) (z .k) (z .xs) (z .ys) (z .es) (z .rs) (z .c) x′ y′ e′ r′ c′ k′
+    abbrev Says : Kept → Lasts → Type 0
+    Says k′ zs = Recorded (now s) (z .i) (z .k) (z .xs) (z .ys) (z .es) (z .rs) (z .c) (last-x zs) (last-y zs) (last-e zs) (last-r zs) (zs .0) k′
 
     asks : Ready (now s) (z .i) (z .k) (z .xs) (z .ys) (z .es) (z .rs) × Small (z .c) (z .i)
     asks = (playing-ready _ _ _ _ _ _ _ ok _ _ _ _ _ _ _ (z .playing) less, z .playing .small)
@@ -265,7 +281,10 @@ module _ {M : Type 1} (𝓤 : URA M) (H : Heap 𝓤) (A : Atoms 𝓤) (W : Given
 
     -- the result, first, moves, x, y, ends, replies, n, t, kept, i, t's copy, the test, what is lent
     abbrev En : Env 𝓤 H
-    En = (N′.mir, l₀) ∷ (K′.mir, l₁) ∷ (slice-in 0 imm w8, l₂) ∷ (slice-in 1 mut w8, l₃) ∷ (slice-in 2 mut w8, l₄) ∷ (slice-in 3 mut w16, l₅) ∷ (slice-in 4 mut w8, l₆) ∷ (word, l₇) ∷ (T′.mir, l₈) ∷ (K′.mir, l₉) ∷ (word, l₁₀) ∷ (T′.mir, l₁₁) ∷ (tyBool, l₁₂) ∷ (tally-lent, l₁₃) ∷ (lent w8, l₁₄) ∷ (sliceTy (lent w8), l₁₅) ∷ (lent w8, l₁₆) ∷ (sliceTy (lent w8), l₁₇) ∷ (lent w16, l₁₈) ∷ (sliceTy (lent w16), l₁₉) ∷ (lent w8, l₂₀) ∷ (sliceTy (lent w8), l₂₁) ∷ []
+    En =
+        (N′.mir, l₀) ∷ (K′.mir, l₁) ∷ (slice-in 0 imm w8, l₂) ∷ (slice-in 1 mut w8, l₃) ∷ (slice-in 2 mut w8, l₄) ∷ (slice-in 3 mut w16, l₅) ∷ (slice-in 4 mut w8, l₆) ∷ (word, l₇)
+        ∷ (T′.mir, l₈) ∷ (K′.mir, l₉) ∷ (word, l₁₀) ∷ (T′.mir, l₁₁) ∷ (tyBool, l₁₂) ∷ (tally-lent, l₁₃)
+        ∷ (lent w8, l₁₄) ∷ (sliceTy (lent w8), l₁₅) ∷ (lent w8, l₁₆) ∷ (sliceTy (lent w8), l₁₇) ∷ (lent w16, l₁₈) ∷ (sliceTy (lent w16), l₁₉) ∷ (lent w8, l₂₀) ∷ (sliceTy (lent w8), l₂₁) ∷ []
 
     -- the invariant, as a context
     abbrev At : State → List (Item 𝓤)
@@ -330,9 +349,9 @@ module _ {M : Type 1} (𝓤 : URA M) (H : Heap 𝓤) (A : Atoms 𝓤) (W : Given
         use1 W (later (some (λ (k′ : Kept). (Tokens z (lt less) l₈ ν δ νx δx νy δy νe δe νr δr ⊛ ‵ (K.the-row .own k′ (w ∷ [])))
         ⊛ raw (ensured 𝓤 H A work.ended (work.clauses 𝓤 H A at-mem run) (κs′ z (lt less) l₈ ν δ νx δx νy δy νe δe νr δr) (a z (lt less) l₈ ν δ νx δx νy δy νe δe νr δr) tt k′)))) (id⊢ 𝓤 _) $ await ! tt $ pick ! (λ k′.
         -- what the call ensures, at some last values
-        split ! $ move ! (1 ∷ []) $ use1 W (some (λ (zs : Tally × (Unit {0} × (Unit {0} × (List ℕ × (List ℕ × (List ℕ × (List ℕ × (Unit {0} × Unit {0})))))))).
-        ‵ (lasts work.ended (κs′ z (lt less) l₈ ν δ νx δx νy δy νe δe νr δr) (a z (lt less) l₈ ν δ νx δx νy δy νe δe νr δr) zs) ⊛ raw (fact 𝓤 (Says z (lt less) l₈ ν δ νx δx νy δy νe δe νr δr k′ (zs .0) (zs .1 .1 .1 .0) (zs .1 .1 .1 .1 .0) (zs .1 .1 .1 .1 .1 .0) (zs .1 .1 .1 .1 .1 .1 .0))))) (id⊢ 𝓤 _) $ pick ! (λ zs.
-        split ! $ move ! (1 ∷ []) $ heard ! (Says z (lt less) l₈ ν δ νx δx νy δy νe δe νr δr k′ (zs .0) (zs .1 .1 .1 .0) (zs .1 .1 .1 .1 .0) (zs .1 .1 .1 .1 .1 .0) (zs .1 .1 .1 .1 .1 .1 .0)) (λ recorded.
+        split ! $ move ! (1 ∷ []) $ use1 W (some (λ (zs : Lasts).
+        ‵ (lasts work.ended (κs′ z (lt less) l₈ ν δ νx δx νy δy νe δe νr δr) (a z (lt less) l₈ ν δ νx δx νy δy νe δe νr δr) zs) ⊛ raw (fact 𝓤 (Says z (lt less) l₈ ν δ νx δx νy δy νe δe νr δr k′ zs)))) (id⊢ 𝓤 _) $ pick ! (λ zs.
+        split ! $ move ! (1 ∷ []) $ heard ! (Says z (lt less) l₈ ν δ νx δx νy δy νe δe νr δr k′ zs) (λ recorded.
         fsplit ! $ move ! (1 ∷ []) $ fsplit ! $ drop ! $ fsplit ! $ drop ! $ fsplit ! $ fsplit ! $ move ! (1 ∷ []) $ feqL ! (λ lx. move ! (1 ∷ []) $ fsplit ! $ fsplit ! $ move ! (1 ∷ []) $ feqL ! (λ ly.
         move ! (1 ∷ []) $ fsplit ! $ fsplit ! $ move ! (1 ∷ []) $ feqL ! (λ le. move ! (1 ∷ []) $ fsplit ! $ fsplit ! $ move ! (1 ∷ []) $ feqL ! (λ lr.
         -- [the last replies; …; the last ends, second and first buffer; the last tally; the tokens and the result; the moves; the lenders' parts; _21; …]
@@ -343,21 +362,22 @@ module _ {M : Type 1} (𝓤 : URA M) (H : Heap 𝓤) (A : Atoms 𝓤) (W : Given
         use1 W (‵ (fat fullShare T′.mir l₈ 0 (T′.lowered (zs .0))) ⊛ ‵ (T.the-row .own (zs .0) (T′.lowered (zs .0) ∷ []))) (lies-out 𝓤 H A W (zs .0) l₈ 0) $ split ! $
         move ! (1 ∷ []) $ peeks ! T.the-row (Is T.the-row) (shows 𝓤 H A T.the-row) (zs .0) (T′.lowered (zs .0) ∷ []) (λ is.
         -- [what _8 owns; _8; the other tokens; the last replies; …; the last ends, second and first buffer; the moves; the lenders' parts; _21; …]: the slices come back
-        move ! (2 ∷ []) $ split ! $ move ! (1 ∷ []) $ split ! $ lft-end ! tt $ move ! (0 ∷ 14 ∷ 9 ∷ []) $ use3 W (later (‵ (OwnX κx (x .name) (zs .1 .1 .1 .0)) ⊛ ‵ (flft κx qx)))
-        (again.back u8 (named 1) κx qx x 𝓤 H A W νx (z .xs) (z .playing .same-first) δx (zs .1 .1 .1 .0) room-x lx) $ await ! tt $ split ! $
-        move ! (2 ∷ []) $ split ! $ lft-end ! tt $ move ! (0 ∷ 14 ∷ 10 ∷ []) $ use3 W (later (‵ (OwnY κy (y .name) (zs .1 .1 .1 .1 .0)) ⊛ ‵ (flft κy qy)))
-        (again.back u8 (named 2) κy qy y 𝓤 H A W νy (z .ys) (z .playing .same-second) δy (zs .1 .1 .1 .1 .0) room-y ly) $ await ! tt $ split ! $
-        move ! (2 ∷ []) $ split ! $ lft-end ! tt $ move ! (0 ∷ 14 ∷ 11 ∷ []) $ use3 W (later (‵ (OwnE κe (e .name) (zs .1 .1 .1 .1 .1 .0)) ⊛ ‵ (flft κe qe)))
-        (again.back u16 (named 3) κe qe e 𝓤 H A W νe (z .es) (z .playing .same-ends) δe (zs .1 .1 .1 .1 .1 .0) room-e le) $ await ! tt $ split ! $
-        move ! (2 ∷ []) $ split ! $ lft-end ! tt $ move ! (0 ∷ 14 ∷ 11 ∷ []) $ use3 W (later (‵ (OwnR κr (r .name) (zs .1 .1 .1 .1 .1 .1 .0)) ⊛ ‵ (flft κr qr)))
-        (again.back u8 (named 4) κr qr r 𝓤 H A W νr (z .rs) (z .playing .same-slots) δr (zs .1 .1 .1 .1 .1 .1 .0) room-r lr) $ await ! tt $ split ! $
+        move ! (2 ∷ []) $ split ! $ move ! (1 ∷ []) $ split ! $ lft-end ! tt $ move ! (0 ∷ 14 ∷ 9 ∷ []) $ use3 W (later (‵ (OwnX κx (x .name) (last-x zs)) ⊛ ‵ (flft κx qx)))
+        (again.back u8 (named 1) κx qx x 𝓤 H A W νx (z .xs) (z .playing .same-first) δx (last-x zs) room-x lx) $ await ! tt $ split ! $
+        move ! (2 ∷ []) $ split ! $ lft-end ! tt $ move ! (0 ∷ 14 ∷ 10 ∷ []) $ use3 W (later (‵ (OwnY κy (y .name) (last-y zs)) ⊛ ‵ (flft κy qy)))
+        (again.back u8 (named 2) κy qy y 𝓤 H A W νy (z .ys) (z .playing .same-second) δy (last-y zs) room-y ly) $ await ! tt $ split ! $
+        move ! (2 ∷ []) $ split ! $ lft-end ! tt $ move ! (0 ∷ 14 ∷ 11 ∷ []) $ use3 W (later (‵ (OwnE κe (e .name) (last-e zs)) ⊛ ‵ (flft κe qe)))
+        (again.back u16 (named 3) κe qe e 𝓤 H A W νe (z .es) (z .playing .same-ends) δe (last-e zs) room-e le) $ await ! tt $ split ! $
+        move ! (2 ∷ []) $ split ! $ lft-end ! tt $ move ! (0 ∷ 14 ∷ 11 ∷ []) $ use3 W (later (‵ (OwnR κr (r .name) (last-r zs)) ⊛ ‵ (flft κr qr)))
+        (again.back u8 (named 4) κr qr r 𝓤 H A W νr (z .rs) (z .playing .same-slots) δr (last-r zs) room-r lr) $ await ! tt $ split ! $
         -- [the replies; κr's token; true; the ends; κe's; the second buffer; κy's; the first; κx's; κs's; what _8 owns; _8; …; the moves; _21; …]
-        assigns-last ! (bin ! (load ! (from ! (stop !)) (look ! 36 refl)) (lit ! tt) (record { fits = fits (next less k′ (zs .0) (zs .1 .1 .1 .0) (zs .1 .1 .1 .1 .0) (zs .1 .1 .1 .1 .1 .0) (zs .1 .1 .1 .1 .1 .1 .0) recorded (kept-is k′ w isk) is lx ly le lr) }))
-        (from ! (stop !)) (store ! 36 refl (tt, record { fits = fits (next less k′ (zs .0) (zs .1 .1 .1 .0) (zs .1 .1 .1 .1 .0) (zs .1 .1 .1 .1 .1 .0) (zs .1 .1 .1 .1 .1 .1 .0) recorded (kept-is k′ w isk) is lx ly le lr) })) $
+        let z′ : State = next less k′ zs recorded (kept-is k′ w isk) is lx ly le lr in
+        assigns-last ! (bin ! (load ! (from ! (stop !)) (look ! 36 refl)) (lit ! tt) (record { fits = fits z′ }))
+        (from ! (stop !)) (store ! 36 refl (tt, record { fits = fits z′ })) $
         forget ! 14 refl $ forget ! 16 refl $ forget ! 18 refl $ forget ! 20 refl $ forget ! 22 refl $ forget ! 24 refl $ forget ! 26 refl $ forget ! 28 refl $ forget ! 30 refl $
         forget ! 32 refl $
         keep ! (9 ∷ 8 ∷ 6 ∷ 4 ∷ 1 ∷ 13 ∷ 7 ∷ 5 ∷ 3 ∷ 0 ∷ 14 ∷ 15 ∷ 16 ∷ 17 ∷ 18 ∷ 19 ∷ 20 ∷ 21 ∷ 22 ∷ 23 ∷ 24 ∷ 25 ∷ 26 ∷ 27 ∷ 28 ∷ 29 ∷ 30 ∷ 31 ∷ 32 ∷ 33 ∷ 34 ∷ 35 ∷ 36 ∷ 37 ∷ 38 ∷ 39 ∷ 11 ∷ 40 ∷ 41 ∷ 42 ∷ 43 ∷ 44 ∷ 45 ∷ 46 ∷ 47 ∷ 48 ∷ 49 ∷ 50 ∷ 51 ∷ 52 ∷ 53 ∷ 54 ∷ 55 ∷ 56 ∷ []) $
-        rounds ! Nearer At z (next less k′ (zs .0) (zs .1 .1 .1 .0) (zs .1 .1 .1 .1 .0) (zs .1 .1 .1 .1 .1 .0) (zs .1 .1 .1 .1 .1 .1 .0) recorded (kept-is k′ w isk) is lx ly le lr) (add-one-dec n (z .i) (lt less)))))))))))))))))))))))
+        rounds ! Nearer At z z′ (add-one-dec n (z .i) (lt less)))))))))))))))))))))))
         (λ over. jumps ! $ exec ! C Λ En mir′.t-6 (atRet En Post) $
         assigns ! (of-opd ! (load ! (from ! (stop !)) (look ! 36 refl))) (from ! (stop !)) (init ! 30 refl (typed 𝓤 H A W (z .c) (T′.lowered (z .c)) (z .c-is))) $
         assigns ! (agg ! (and-then ! (load ! (from ! (stop !)) (look ! 34 refl)) (and-then ! (load ! (from ! (stop !)) (look ! 30 refl)) (no-more !)))) (from ! (stop !)) (init ! 52 refl (moved-typed 𝓤 H A W (made (z .k) (z .c)) _ (moved-is (z .k) (z .c) (z .k-is) (z .c-is)))) $
@@ -377,16 +397,17 @@ module _ {M : Type 1} (𝓤 : URA M) (H : Heap 𝓤) (A : Atoms 𝓤) (W : Given
         kept-is : (k′ : Kept) (w : Val) → Is K.the-row k′ (w ∷ []) → Is K.the-row k′ (K′.lowered k′ ∷ [])
         kept-is k′ w is = subst (λ (v : Val). Is K.the-row k′ (v ∷ [])) (kept-spelled k′ w is) is
 
-        next : Holds (ltb (z .i) n) → (k′ : Kept) (c′ : Tally) (x′ y′ e′ r′ : List ℕ) → Recorded (now s) (z .i) (z .k) (z .xs) (z .ys) (z .es) (z .rs) (z .c) x′ y′ e′ r′ c′ k′ → Is K.the-row k′ (K′.lowered k′ ∷ []) → Is T.the-row c′ (T′.lowered c′ ∷ [])
-            → length x′ ≡ length (z .xs) → length y′ ≡ length (z .ys) → length e′ ≡ length (z .es) → length r′ ≡ length (z .rs) → State
-        next less k′ c′ x′ y′ e′ r′ g is-k is-c lx ly le lr = record {
+        next : Holds (ltb (z .i) n) → (k′ : Kept) (zs : Lasts) → Recorded (now s) (z .i) (z .k) (z .xs) (z .ys) (z .es) (z .rs) (z .c) (last-x zs) (last-y zs) (last-e zs) (last-r zs) (zs .0) k′
+            → Is K.the-row k′ (K′.lowered k′ ∷ []) → Is T.the-row (zs .0) (T′.lowered (zs .0) ∷ [])
+            → length (last-x zs) ≡ length (z .xs) → length (last-y zs) ≡ length (z .ys) → length (last-e zs) ≡ length (z .es) → length (last-r zs) ≡ length (z .rs) → State
+        next less k′ zs g is-k is-c lx ly le lr = record {
           i = z .i + 1;
-          c = c′;
+          c = zs .0;
           k = k′;
-          xs = x′;
-          ys = y′;
-          es = e′;
-          rs = r′;
+          xs = last-x zs;
+          ys = last-y zs;
+          es = last-e zs;
+          rs = last-r zs;
           playing = playing-next _ _ _ _ _ _ _ ok _ _ _ _ _ _ _ (z .playing) (lt less) _ _ _ _ _ _ g lx ly le lr;
           c-is = is-c;
           k-is = is-k;
@@ -406,7 +427,9 @@ module _ {M : Type 1} (𝓤 : URA M) (H : Heap 𝓤) (A : Atoms 𝓤) (W : Given
       qed W ((‵ (flft κs qs) ⊛ ‵ (flft κx qx) ⊛ ‵ (flft κy qy) ⊛ ‵ (flft κe qe) ⊛ ‵ (flft κr qr) ⊛ ‵ ftrue)
       ∷ ‵ (owns (K.the-row ∷ ShrSlice (named 0) κs u8 ∷ MutSlice (named 1) κx u8 ∷ MutSlice (named 2) κy u8 ∷ MutSlice (named 3) κe u16 ∷ MutSlice (named 4) κr u8 ∷ usize ∷ []) a₀ passed₀) ∷ []) ∵
       enter ! (𝓣 .C) (𝓣 .Λ) code.function (K′.lowered first ∷ at s ∷ at x ∷ at y ∷ at e ∷ at r ∷ vint w64 n ∷ []) _ $
-      alloc1 ! (λ l₀. alloc1 ! (λ l₁. alloc1 ! (λ l₂. alloc1 ! (λ l₃. alloc1 ! (λ l₄. alloc1 ! (λ l₅. alloc1 ! (λ l₆. alloc1 ! (λ l₇. alloc1 ! (λ l₈. alloc1 ! (λ l₉. alloc1 ! (λ l₁₀. alloc1 ! (λ l₁₁. alloc1 ! (λ l₁₂. alloc1 ! (λ l₁₃. alloc1 ! (λ l₁₄. alloc1 ! (λ l₁₅. alloc1 ! (λ l₁₆. alloc1 ! (λ l₁₇. alloc1 ! (λ l₁₈. alloc1 ! (λ l₁₉. alloc1 ! (λ l₂₀. alloc1 ! (λ l₂₁. alloc0 ! $ params1 ! $
+      alloc1 ! (λ l₀. alloc1 ! (λ l₁. alloc1 ! (λ l₂. alloc1 ! (λ l₃. alloc1 ! (λ l₄. alloc1 ! (λ l₅. alloc1 ! (λ l₆. alloc1 ! (λ l₇. alloc1 ! (λ l₈. alloc1 ! (λ l₉. alloc1 ! (λ l₁₀.
+      alloc1 ! (λ l₁₁. alloc1 ! (λ l₁₂. alloc1 ! (λ l₁₃. alloc1 ! (λ l₁₄. alloc1 ! (λ l₁₅. alloc1 ! (λ l₁₆. alloc1 ! (λ l₁₇. alloc1 ! (λ l₁₈. alloc1 ! (λ l₁₉. alloc1 ! (λ l₂₀. alloc1 ! (λ l₂₁.
+      alloc0 ! $ params1 ! $
       pass1 ! (init ! 40 refl (kept-typed 𝓤 H A W first (K′.lowered first) is-first)) $ pass1 ! (init ! 38 refl (shr-slice-lawful 𝓤 H A W (named 0) κs u8 .typed s (at s ∷ []) p .0)) $
       pass1 ! (init ! 36 refl (tt, (tt, (record { fits = room-x .0 }, tt)))) $ pass1 ! (init ! 34 refl (tt, (tt, (record { fits = room-y .0 }, tt)))) $
       pass1 ! (init ! 32 refl (tt, (tt, (record { fits = room-e .0 }, tt)))) $ pass1 ! (init ! 30 refl (tt, (tt, (record { fits = room-r .0 }, tt)))) $ pass1 ! (init ! 28 refl (tt, record { fits = n-fits })) $ pass0 ! $
