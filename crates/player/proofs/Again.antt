@@ -39,7 +39,8 @@ module _ (R : RattleType) (ℓ : Lifetime) (κ : Lft) (q : Share) (z : RefT (Lis
 
   -- what the holder keeps while it is lent for ν under δ: the lender's part, and its own borrow, open, with both halves of its ghost variable
   abbrev pub Lent : ℕ → List (R .Denot) → GName → Fml
-  Lent ν ys δ = fsep (flent (ν ∷ []) (Held R (length ys) b o δ)) (fsep (fobor κ q (Held R (length ys) b o (z .name))) (fsep (fobs (z .name) (codedHoleys R .code (heres R ys))) (fauth (z .name) (codedHoleys R .code (heres R ys)))))
+  Lent ν ys δ = fsep (flent (ν ∷ []) (Held R (length ys) b o δ))
+      (fsep (fobor κ q (Held R (length ys) b o (z .name))) (fsep (fobs (z .name) (codedHoleys R .code (heres R ys))) (fauth (z .name) (codedHoleys R .code (heres R ys)))))
 
   module _ {M : Type 1} (𝓤 : URA M) (H : Heap 𝓤) (A : Atoms 𝓤) (W : Given 𝓤 H A) (ν : ℕ) (ys : List (R .Denot)) where
     abbrev vals : List Val
@@ -48,9 +49,11 @@ module _ (R : RattleType) (ℓ : Lifetime) (κ : Lft) (q : Share) (z : RefT (Lis
     lends-here : ent 𝓤 (sep 𝓤 (sem 𝓤 H A (MutSlice ℓ κ R .own (at-list (z .name) ys) vals)) (A .lft κ q))
         (H .⇛ (ex 𝓤 (λ (δ : GName). sep 𝓤 (sem 𝓤 H A (MutSlice ℓ (ν ∷ []) R .own (at-list δ ys) vals)) (sem 𝓤 H A (Lent ν ys δ)))))
     lends-here =
-        qed W (‵ (MutSlice ℓ κ R .own (at-list (z .name) ys) vals) ∷ ‵ (flft κ q) ∷ []) ∵ updating ! $ fsplit ! $ pureL ! (at-slice R (at-list (z .name) ys) vals) (λ p. fsplit ! $ opens-slice ! tt R ys b o $
+        qed W (‵ (MutSlice ℓ κ R .own (at-list (z .name) ys) vals) ∷ ‵ (flft κ q) ∷ []) ∵ updating ! $ fsplit ! $ pureL ! (at-slice R (at-list (z .name) ys) vals) (λ p. fsplit ! $
+        opens-slice ! tt R ys b o $
         use1 W (‵ (cells (mem R) ys b o)) (whole-in 𝓤 H A W R ys b o) $
-        use1 W (later (some (λ (δ : GName). ‵ (MutSlice ℓ (ν ∷ []) R .own (at-list δ ys) vals) ⊛ ‵ (flent (ν ∷ []) (Held R (length ys) b o δ))))) (lends-slice 𝓤 H A W R ℓ (ν ∷ []) ys b o (p .1)) $ await ! tt $ pick ! (λ δ. split ! $
+        use1 W (later (some (λ (δ : GName). ‵ (MutSlice ℓ (ν ∷ []) R .own (at-list δ ys) vals) ⊛ ‵ (flent (ν ∷ []) (Held R (length ys) b o δ)))))
+        (lends-slice 𝓤 H A W R ℓ (ν ∷ []) ys b o (p .1)) $ await ! tt $ pick ! (λ δ. split ! $
         -- [the new slice; the lender's part; the open borrow; obs; auth]
         at-once ! $ show ! (λ (δ′ : GName). sep 𝓤 (sem 𝓤 H A (MutSlice ℓ (ν ∷ []) R .own (at-list δ′ ys) vals)) (sem 𝓤 H A (Lent ν ys δ′))) δ $ frame ! $
         move ! (2 ∷ 3 ∷ []) $ fjoin ! $ move ! (2 ∷ 0 ∷ []) $ fjoin ! $ move ! (1 ∷ 0 ∷ []) $ fjoin ! $ done !))
@@ -59,7 +62,8 @@ module _ (R : RattleType) (ℓ : Lifetime) (κ : Lft) (q : Share) (z : RefT (Lis
         → ent 𝓤 (sep 𝓤 (A .dead (ν ∷ [])) (sep 𝓤 (sem 𝓤 H A (Lent ν ys δ)) (sem 𝓤 H A (finally R δ zs)))) (H .⇛ (sep 𝓤 (sem 𝓤 H A (MutSlice ℓ κ R .own (at-list (z .name) zs) vals)) (A .lft κ q)))
     back-here δ zs room e =
         qed W (‵ (fdead (ν ∷ [])) ∷ ‵ (Lent ν ys δ) ∷ ‵ (finally R δ zs) ∷ []) ∵ updating ! $ move ! (1 ∷ []) $ fsplit ! $ move ! (2 ∷ 0 ∷ 3 ∷ []) $
-        use3 W (later (‵ (Arr (mem R) (length ys) .lies zs b o))) (slice-back 𝓤 H A W R (ν ∷ []) δ zs (length ys) b o) $ await ! tt $ fsplit ! $ drop ! $ use1 W (‵ (row R fullShare zs b o)) (whole-out 𝓤 H A W R zs b o) $
+        use3 W (later (‵ (Arr (mem R) (length ys) .lies zs b o))) (slice-back 𝓤 H A W R (ν ∷ []) δ zs (length ys) b o) $ await ! tt $ fsplit ! $ drop ! $
+        use1 W (‵ (row R fullShare zs b o)) (whole-out 𝓤 H A W R zs b o) $
         move ! (1 ∷ []) $ fsplit ! $ move ! (1 ∷ []) $ fsplit ! $ move ! (3 ∷ 2 ∷ 0 ∷ 1 ∷ []) $ closes-slice ! tt R ys zs e b o $ at-once ! $
         fjoin ! $ pureI ! (at-slice R (at-list (z .name) zs) vals) (tt, (tt, tt)) (ap (λ (m : ℕ). sliceVal (b, o) m ∷ []) (sym e), subst (Room R) (sym e) room) $ fjoin ! $ done !
 
@@ -76,5 +80,6 @@ module _ (R : RattleType) (ℓ : Lifetime) (κ : Lft) (q : Share) (z : RefT (Lis
       pub back : (δ : GName) (zs : List (R .Denot)) → Room R (length (now z)) → length zs ≡ length ys
           → ent 𝓤 (sep 𝓤 (A .dead (ν ∷ [])) (sep 𝓤 (sem 𝓤 H A (Lent ν ys δ)) (sem 𝓤 H A (finally R δ zs)))) (H .⇛ (sep 𝓤 (sem 𝓤 H A (Own κ (z .name) zs)) (A .lft κ q)))
       back δ zs room e =
-          subst (λ (vs : List Val). ent 𝓤 (sep 𝓤 (A .dead (ν ∷ [])) (sep 𝓤 (sem 𝓤 H A (Lent ν ys δ)) (sem 𝓤 H A (finally R δ zs)))) (H .⇛ (sep 𝓤 (sem 𝓤 H A (MutSlice ℓ κ R .own (at-list (z .name) zs) vs)) (A .lft κ q)))) same
+          subst (λ (vs : List Val). ent 𝓤 (sep 𝓤 (A .dead (ν ∷ [])) (sep 𝓤 (sem 𝓤 H A (Lent ν ys δ)) (sem 𝓤 H A (finally R δ zs))))
+          (H .⇛ (sep 𝓤 (sem 𝓤 H A (MutSlice ℓ κ R .own (at-list (z .name) zs) vs)) (A .lft κ q)))) same
           (back-here δ zs (subst⁻¹ (Room R) long room) e)

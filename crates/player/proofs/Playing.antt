@@ -69,7 +69,8 @@ module _ (l : List ℕ) (small : (k : ℕ) → getD l k 0 < 256) (i : ℕ) where
   unfolding kept judgement word byte
   place-small q h =
       go (stepTerm (q .table) (moveAt l i) 32768)
-      (below-step (q .table) 65536 (omega arith) (moveAt l i) 32768 (omega (arith, byte-small 2 (omega arith), byte-small 3 (omega arith))) (omega (arith, byte-small 4 (omega arith), byte-small 5 (omega arith))))
+      (below-step (q .table) 65536 (omega arith) (moveAt l i) 32768 (omega (arith, byte-small 2 (omega arith), byte-small 3 (omega arith)))
+      (omega (arith, byte-small 4 (omega arith), byte-small 5 (omega arith))))
     where
       go : (x : Result Term) → Below 65536 x → kept q x .place < 65536
       go (refuse n p) b = b .1
@@ -90,7 +91,8 @@ module _ (moves : List ℕ) (i : ℕ) (k : Kept) (x y ends slots : List ℕ) (o 
         let b : r .reply .records ≡ size (turn q (moveAt moves i) .table) = ap (λ (v : code.Reply). v .records) e ∙ kept-records q (moveAt moves i) in
         (a, omega (arith, b, g .keeps q h .table .within .small))
 
-    pub made : (slots′ : List ℕ) → slots′ ≡ put slots (6 * i) (sixBytes (r .reply .answer) (r .reply .place) (r .reply .records)) → Made moves i k x y ends slots x′ y′ ends′ slots′ (record { kept = r .kept; tally = r .counts })
+    pub made : (slots′ : List ℕ) → slots′ ≡ put slots (6 * i) (sixBytes (r .reply .answer) (r .reply .place) (r .reply .records)) → Made moves i k x y ends slots x′ y′ ends′ slots′
+        (record { kept = r .kept; tally = r .counts })
     made slots′ e = record {
       keeps = g .keeps;
       replies = λ q h. e ∙ ap (λ (v : code.Reply). put slots (6 * i) (sixBytes (v .answer) (v .place) (v .records))) (g .replies q h);

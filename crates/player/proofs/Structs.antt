@@ -32,7 +32,8 @@ moved-spelled r w is = ap only (LL.tells N.the-type N′.the-laws r (w ∷ []) i
 pub fields-are : (r : Moved) (w : Val) → Is N.the-row r (w ∷ []) → Is K.the-row (r .kept) (K′.lowered (r .kept) ∷ []) × Is T.the-row (r .tally) (T′.lowered (r .tally) ∷ [])
 fields-are r w is = let all = LL.owed N.the-type N′.the-laws r _ (subst (λ (y : Val). Is N.the-row r (y ∷ [])) (moved-spelled r w is) is) in (all .0, all .1 .0)
 
-pub moved-is : (k : Kept) (c : Tally) → Is K.the-row k (K′.lowered k ∷ []) → Is T.the-row c (T′.lowered c ∷ []) → Is N.the-row (record { kept = k; tally = c }) (N′.lowered (record { kept = k; tally = c }) ∷ [])
+pub moved-is : (k : Kept) (c : Tally) → Is K.the-row k (K′.lowered k ∷ []) → Is T.the-row c (T′.lowered c ∷ []) → Is N.the-row (record { kept = k; tally = c })
+    (N′.lowered (record { kept = k; tally = c }) ∷ [])
 moved-is k c is-k is-c = LL.owes N.the-type N′.the-laws (record { kept = k; tally = c }) (is-k, (is-c, tt))
 
 -- they have the structs' types

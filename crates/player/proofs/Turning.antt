@@ -141,7 +141,9 @@ module _ (q : Run) (m to after : List ℕ) (r : Reply) (d : Tally) (a : Answers 
       let (v, ev) = accepted-move q m u eu in
       record {
         answers = a;
-        counted = rw (turn-accepted q m u v eu ev) (ap (sumOf (tallyOf (q .tally))) (e ∙ ap (countsOf (getD m 0 0)) (k .is (q .table) h v ev)) ∙ (unfold byte in counted-reads (q .tally) (q .table) m v ev));
+        counted =
+            let is = e ∙ ap (countsOf (getD m 0 0)) (k .is (q .table) h v ev) in
+            rw (turn-accepted q m u v eu ev) (ap (sumOf (tallyOf (q .tally))) is ∙ (unfold byte in counted-reads (q .tally) (q .table) m v ev));
         few = subst (λ c. Small c 1) (sym e) (counts-small (getD m 0 0) l (k .few));
       }
 
@@ -295,11 +297,21 @@ module _ (x y ends m : List ℕ) (k : Kept) (g : Going x y ends k) where
     goes-second e t =
         let at : (q : Run) → Keeps q x y ends k → Turned q (k .records) y m to ends′ r =
         λ q h. t q (subst (λ b. Table (held (k .records) (cond b y x)) ends (q .table)) e (h .table)) in
-        record { keeps = λ q h. second-keeps q m y to ends′ (k .records) r (at q h) (h .second-room) room; replies = λ q h. at q h .replies; counted = λ q h. at q h .counted; few = at (g .run) (g .keeps) .few }
+        record {
+          keeps = λ q h. second-keeps q m y to ends′ (k .records) r (at q h) (h .second-room) room;
+          replies = λ q h. at q h .replies;
+          counted = λ q h. at q h .counted;
+          few = at (g .run) (g .keeps) .few;
+        }
 
     pub goes-first : k .second ≡ false → ((q : Run) → Table (held (k .records) x) ends (q .table) → Turned q (k .records) x m to ends′ r) → Goes m k x y ends x to ends′ (keptAfter false r)
     unfolding keptAfter
     goes-first e t =
         let at : (q : Run) → Keeps q x y ends k → Turned q (k .records) x m to ends′ r =
         λ q h. t q (subst (λ b. Table (held (k .records) (cond b y x)) ends (q .table)) e (h .table)) in
-        record { keeps = λ q h. first-keeps q m x to ends′ (k .records) r (at q h) (h .first-room) room; replies = λ q h. at q h .replies; counted = λ q h. at q h .counted; few = at (g .run) (g .keeps) .few }
+        record {
+          keeps = λ q h. first-keeps q m x to ends′ (k .records) r (at q h) (h .first-room) room;
+          replies = λ q h. at q h .replies;
+          counted = λ q h. at q h .counted;
+          few = at (g .run) (g .keeps) .few;
+        }

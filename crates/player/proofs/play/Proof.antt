@@ -28,7 +28,8 @@ play-spec =
     (λ c. let k = c .before .before .before .before .before .before in
     let x = k .before .before .before .before .before in
     let b = slice-bytes (x .before .args .table .now) (λ i. omega (arith, x .shared-slice-known .given i)) in
-    promised _ _ _ _ _ _ _ b (plays-cramped _ _ _ _ _ (table-read _ _ _ b (k .check-ends .ensures) (c .before .before .before .if1 .left)) _ (c .before .before .if2 .left) (c .before .if3 .taken) (c .refused3 .ensures)))
+    promised _ _ _ _ _ _ _ b (plays-cramped _ _ _ _ _ (table-read _ _ _ b (k .check-ends .ensures) (c .before .before .before .if1 .left)) _ (c .before .before .if2 .left)
+    (c .before .if3 .taken) (c .refused3 .ensures)))
     (λ c. search needs)
     (λ c κs. let i = c .before .before .before .before .before in
     let k = i .before .before .before in
@@ -43,4 +44,5 @@ play-spec =
     let x = k .before .before .before .before .before in
     let b = slice-bytes (x .before .args .table .now) (λ i. omega (arith, x .shared-slice-known .given i)) in
     let q = table-read _ _ _ b (k .check-ends .ensures) (i .if1 .left) in
-    promised _ _ _ _ _ _ _ b (plays-all _ _ _ _ _ q _ _ _ (p .before .before .before .before .before .if2 .left) (p .before .before .before .before .if3 .left) (p .play-known .ensures (q .term) (q .table)))))
+    promised _ _ _ _ _ _ _ b (plays-all _ _ _ _ _ q _ _ _ (p .before .before .before .before .before .if2 .left) (p .before .before .before .before .if3 .left)
+    (p .play-known .ensures (q .term) (q .table)))))

@@ -20,7 +20,8 @@ move-at-spec =
     (λ c κs. let m = c .before .before .before .before .before .before .before .before .before .before in
     let x = m .before .before .before .before .before .before .before .before .before in
     let z = x .before in
-    let (place, records) = reply-fits _ _ _ _ _ _ _ (z .pre) _ _ _ _ (moved (part-move (z .args .moves .now) (z .args .i)) (m .move-on .ensures)) (λ j. omega (arith, x .shared-slice-known .given j)) in
+    let (place, records) = reply-fits _ _ _ _ _ _ _ (z .pre) _ _ _ _ (moved (part-move (z .args .moves .now) (z .args .i)) (m .move-on .ensures))
+    (λ j. omega (arith, x .shared-slice-known .given j)) in
     (omega (arith, z .pre .inside, z .pre .slots-room), place, records))
     (λ c. search needs)
     (λ c. search needs)

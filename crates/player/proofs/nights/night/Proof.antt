@@ -123,7 +123,8 @@ abbrev more : Code
 more = rest (rest mir′.turn-1)
 
 -- s is the moves' reference, x, y, e and r those of the two buffers, the ends and the replies
-module _ {M : Type 1} (𝓤 : URA M) (H : Heap 𝓤) (A : Atoms 𝓤) (W : Given 𝓤 H A) (at-mem : Memory → SProp 𝓤) (run : Routine → Fun 𝓤) (κs κx κy κe κr : Lft) (bounds : AllOutlive 5 (f.signature .outlives) (κs, (κx, (κy, (κe, (κr, tt)))))) (qs qx qy qe qr : Share)
+module _ {M : Type 1} (𝓤 : URA M) (H : Heap 𝓤) (A : Atoms 𝓤) (W : Given 𝓤 H A) (at-mem : Memory → SProp 𝓤) (run : Routine → Fun 𝓤) (κs κx κy κe κr : Lft)
+    (bounds : AllOutlive 5 (f.signature .outlives) (κs, (κx, (κy, (κe, (κr, tt)))))) (qs qx qy qe qr : Share)
     (first : Kept) (is-first : Is K.the-row first (K′.lowered first ∷ [])) (s x y e r : RefT (List ℕ)) (n : ℕ) (n-fits : n < 2 ^ 64) (ok : Opens (now s) n first (now x) (now y) (now e) (now r)) where
   -- the machine value of a slice
   abbrev at : RefT (List ℕ) → Val
@@ -178,10 +179,12 @@ module _ {M : Type 1} (𝓤 : URA M) (H : Heap 𝓤) (A : Atoms 𝓤) (W : Given
     pub k-is : Is K.the-row k (K′.lowered k ∷ [])
 
   exits : (z : State) → Said (z .k) (z .c) (z .xs) (z .ys) (z .es) (z .rs)
-      → ent 𝓤 (⋆ 𝓤 H A (‵ (flft κs qs) ∷ ‵ (flft κx qx) ∷ ‵ (flft κy qy) ∷ ‵ (flft κe qe) ∷ ‵ (flft κr qr) ∷ ‵ OwnS ∷ ‵ (OwnX κx (x .name) (z .xs)) ∷ ‵ (OwnY κy (y .name) (z .ys)) ∷ ‵ (OwnE κe (e .name) (z .es)) ∷ ‵ (OwnR κr (r .name) (z .rs)) ∷ []))
+      → ent 𝓤 (⋆ 𝓤 H A (‵ (flft κs qs) ∷ ‵ (flft κx qx) ∷ ‵ (flft κy qy) ∷ ‵ (flft κe qe) ∷ ‵ (flft κr qr) ∷ ‵ OwnS ∷ ‵ (OwnX κx (x .name) (z .xs)) ∷ ‵ (OwnY κy (y .name) (z .ys)) ∷ ‵
+      (OwnE κe (e .name) (z .es)) ∷ ‵ (OwnR κr (r .name) (z .rs)) ∷ []))
       (Post (N′.lowered (made (z .k) (z .c))))
   exits z said =
-      qed W (‵ (flft κs qs) ∷ ‵ (flft κx qx) ∷ ‵ (flft κy qy) ∷ ‵ (flft κe qe) ∷ ‵ (flft κr qr) ∷ ‵ OwnS ∷ ‵ (OwnX κx (x .name) (z .xs)) ∷ ‵ (OwnY κy (y .name) (z .ys)) ∷ ‵ (OwnE κe (e .name) (z .es)) ∷ ‵ (OwnR κr (r .name) (z .rs)) ∷ []) ∵
+      qed W (‵ (flft κs qs) ∷ ‵ (flft κx qx) ∷ ‵ (flft κy qy) ∷ ‵ (flft κe qe) ∷ ‵ (flft κr qr) ∷ ‵ OwnS ∷ ‵ (OwnX κx (x .name) (z .xs)) ∷ ‵ (OwnY κy (y .name) (z .ys)) ∷ ‵
+      (OwnE κe (e .name) (z .es)) ∷ ‵ (OwnR κr (r .name) (z .rs)) ∷ []) ∵
       suffices ! _ (ends-at 𝓤 H A f.ended stayed (f.clauses 𝓤 H A at-mem run) W bound (N′.lowered (made (z .k) (z .c))) (made (z .k) (z .c)) (tt, (tt, (z .xs, (z .ys, (z .es, (z .rs, (tt, tt)))))))
       (tt, (tt, (z .playing .same-first, (z .playing .same-second, (z .playing .same-ends, (z .playing .same-slots, (tt, tt)))))))) $ says ! said $
       nothing ! $ move ! (5 ∷ 0 ∷ []) $ join ! $ move ! (4 ∷ 0 ∷ []) $ join ! $ move ! (3 ∷ 0 ∷ []) $ join ! $ move ! (2 ∷ 0 ∷ []) $ join ! $ move ! (1 ∷ 0 ∷ []) $ join ! $ frame ! $
@@ -248,7 +251,8 @@ module _ {M : Type 1} (𝓤 : URA M) (H : Heap 𝓤) (A : Atoms 𝓤) (W : Given
     asked : ent 𝓤 (onEntry 𝓤 H A work.signature κs′ (fullShare, (qs, (fullShare, (fullShare, (fullShare, (fullShare, tt)))))) a passed) (Work 𝓤 H A at-mem run .pre to)
     asked =
         qed W (Tokens
-        ∷ ‵ (owns (MutRef (named 0) (ν ∷ []) T.the-row ∷ K.the-row ∷ ShrSlice (named 1) κs u8 ∷ MutSlice (named 2) (νx ∷ []) u8 ∷ MutSlice (named 3) (νy ∷ []) u8 ∷ MutSlice (named 4) (νe ∷ []) u16 ∷ MutSlice (named 5) (νr ∷ []) u8 ∷ usize ∷ []) a passed) ∷ []) ∵
+        ∷ ‵ (owns (MutRef (named 0) (ν ∷ []) T.the-row ∷ K.the-row ∷ ShrSlice (named 1) κs u8 ∷ MutSlice (named 2) (νx ∷ []) u8 ∷ MutSlice (named 3) (νy ∷ []) u8 ∷ MutSlice (named 4)
+        (νe ∷ []) u16 ∷ MutSlice (named 5) (νr ∷ []) u8 ∷ usize ∷ []) a passed) ∷ []) ∵
         says ! asks $ frame ! $ done !
 
   -- `zeros`: it asks nothing
@@ -258,7 +262,8 @@ module _ {M : Type 1} (𝓤 : URA M) (H : Heap 𝓤) (A : Atoms 𝓤) (W : Given
   none-said : (c : Tally) → ent 𝓤 (ensured 𝓤 H A none.ended (none.clauses 𝓤 H A at-mem run) tt tt tt c) (fact 𝓤 (c ≡ tallyOf noTally))
   none-said c = exE 𝓤 _ (λ ws. snd∗ 𝓤 (sem 𝓤 H A (lasts none.ended tt tt ws)) (fact 𝓤 (c ≡ tallyOf noTally)))
 
-  module _ (𝓣 : Tables 𝓤 H) (known : Triple 𝓤 (𝓣 .C #record-move) (Work 𝓤 H A at-mem run)) (room-x : Room u8 (length (now x))) (room-y : Room u8 (length (now y))) (room-e : Room u16 (length (now e))) (room-r : Room u8 (length (now r)))
+  module _ (𝓣 : Tables 𝓤 H) (known : Triple 𝓤 (𝓣 .C #record-move) (Work 𝓤 H A at-mem run)) (room-x : Room u8 (length (now x))) (room-y : Room u8 (length (now y)))
+      (room-e : Room u16 (length (now e))) (room-r : Room u8 (length (now r)))
       (l₀ l₁ l₂ l₃ l₄ l₅ l₆ l₇ l₈ l₉ l₁₀ l₁₁ l₁₂ l₁₃ l₁₄ l₁₅ l₁₆ l₁₇ l₁₈ l₁₉ l₂₀ l₂₁ : ℕ) where
     abbrev C : Calls 𝓤 H
     C = 𝓣 .C
@@ -289,14 +294,19 @@ module _ {M : Type 1} (𝓤 : URA M) (H : Heap 𝓤) (A : Atoms 𝓤) (W : Given
     -- the invariant, as a context
     abbrev At : State → List (Item 𝓤)
     At z =
-        ‵ (flft κs qs) ∷ ‵ (flft κx qx) ∷ ‵ (flft κy qy) ∷ ‵ (flft κe qe) ∷ ‵ (flft κr qr) ∷ ‵ OwnS ∷ ‵ (OwnX κx (x .name) (z .xs)) ∷ ‵ (OwnY κy (y .name) (z .ys)) ∷ ‵ (OwnE κe (e .name) (z .es)) ∷ ‵ (OwnR κr (r .name) (z .rs))
-        ∷ ‵ (froom (sliceTy (lent w8)) l₂₁ 0) ∷ ‵ (fdies (sliceTy (lent w8)) l₂₁) ∷ ‵ (froom (lent w8) l₂₀ 0) ∷ ‵ (fdies (lent w8) l₂₀) ∷ ‵ (froom (sliceTy (lent w16)) l₁₉ 0) ∷ ‵ (fdies (sliceTy (lent w16)) l₁₉)
+        ‵ (flft κs qs) ∷ ‵ (flft κx qx) ∷ ‵ (flft κy qy) ∷ ‵ (flft κe qe) ∷ ‵ (flft κr qr) ∷ ‵ OwnS ∷ ‵ (OwnX κx (x .name) (z .xs)) ∷ ‵ (OwnY κy (y .name) (z .ys)) ∷ ‵
+        (OwnE κe (e .name) (z .es)) ∷ ‵ (OwnR κr (r .name) (z .rs))
+        ∷ ‵ (froom (sliceTy (lent w8)) l₂₁ 0) ∷ ‵ (fdies (sliceTy (lent w8)) l₂₁) ∷ ‵ (froom (lent w8) l₂₀ 0) ∷ ‵ (fdies (lent w8) l₂₀) ∷ ‵ (froom (sliceTy (lent w16)) l₁₉ 0) ∷ ‵
+        (fdies (sliceTy (lent w16)) l₁₉)
         ∷ ‵ (froom (lent w16) l₁₈ 0) ∷ ‵ (fdies (lent w16) l₁₈) ∷ ‵ (froom (sliceTy (lent w8)) l₁₇ 0) ∷ ‵ (fdies (sliceTy (lent w8)) l₁₇) ∷ ‵ (froom (lent w8) l₁₆ 0) ∷ ‵ (fdies (lent w8) l₁₆)
         ∷ ‵ (froom (sliceTy (lent w8)) l₁₅ 0) ∷ ‵ (fdies (sliceTy (lent w8)) l₁₅) ∷ ‵ (froom (lent w8) l₁₄ 0) ∷ ‵ (fdies (lent w8) l₁₄) ∷ ‵ (froom tally-lent l₁₃ 0) ∷ ‵ (fdies tally-lent l₁₃)
         ∷ ‵ (froom tyBool l₁₂ 0) ∷ ‵ (fdies tyBool l₁₂) ∷ ‵ (froom T′.mir l₁₁ 0) ∷ ‵ (fdies T′.mir l₁₁) ∷ ‵ (fat fullShare word l₁₀ 0 (vint w64 (z .i))) ∷ ‵ (fdies word l₁₀)
-        ∷ ‵ (fat fullShare K′.mir l₉ 0 (K′.lowered (z .k))) ∷ ‵ (fdies K′.mir l₉) ∷ ‵ (fat fullShare T′.mir l₈ 0 (T′.lowered (z .c))) ∷ ‵ (fdies T′.mir l₈) ∷ ‵ (fat fullShare word l₇ 0 (vint w64 n)) ∷ ‵ (fdies word l₇)
-        ∷ ‵ (fat fullShare (slice-in 4 mut w8) l₆ 0 (at r)) ∷ ‵ (fdies (slice-in 4 mut w8) l₆) ∷ ‵ (fat fullShare (slice-in 3 mut w16) l₅ 0 (at e)) ∷ ‵ (fdies (slice-in 3 mut w16) l₅) ∷ ‵ (fat fullShare (slice-in 2 mut w8) l₄ 0 (at y)) ∷ ‵ (fdies (slice-in 2 mut w8) l₄)
-        ∷ ‵ (fat fullShare (slice-in 1 mut w8) l₃ 0 (at x)) ∷ ‵ (fdies (slice-in 1 mut w8) l₃) ∷ ‵ (fat fullShare (slice-in 0 imm w8) l₂ 0 (at s)) ∷ ‵ (fdies (slice-in 0 imm w8) l₂) ∷ ‵ (fat fullShare K′.mir l₁ 0 (K′.lowered first)) ∷ ‵ (fdies K′.mir l₁)
+        ∷ ‵ (fat fullShare K′.mir l₉ 0 (K′.lowered (z .k))) ∷ ‵ (fdies K′.mir l₉) ∷ ‵ (fat fullShare T′.mir l₈ 0 (T′.lowered (z .c))) ∷ ‵ (fdies T′.mir l₈) ∷ ‵
+        (fat fullShare word l₇ 0 (vint w64 n)) ∷ ‵ (fdies word l₇)
+        ∷ ‵ (fat fullShare (slice-in 4 mut w8) l₆ 0 (at r)) ∷ ‵ (fdies (slice-in 4 mut w8) l₆) ∷ ‵ (fat fullShare (slice-in 3 mut w16) l₅ 0 (at e)) ∷ ‵ (fdies (slice-in 3 mut w16) l₅) ∷ ‵
+        (fat fullShare (slice-in 2 mut w8) l₄ 0 (at y)) ∷ ‵ (fdies (slice-in 2 mut w8) l₄)
+        ∷ ‵ (fat fullShare (slice-in 1 mut w8) l₃ 0 (at x)) ∷ ‵ (fdies (slice-in 1 mut w8) l₃) ∷ ‵ (fat fullShare (slice-in 0 imm w8) l₂ 0 (at s)) ∷ ‵ (fdies (slice-in 0 imm w8) l₂) ∷ ‵
+        (fat fullShare K′.mir l₁ 0 (K′.lowered first)) ∷ ‵ (fdies K′.mir l₁)
         ∷ ‵ (froom N′.mir l₀ 0) ∷ ‵ (fdies N′.mir l₀) ∷ []
 
     -- a turn's postcondition: it ends nearer to n, or the loop is left and the rest of the body runs
@@ -323,8 +333,10 @@ module _ {M : Type 1} (𝓤 : URA M) (H : Heap 𝓤) (A : Atoms 𝓤) (W : Given
         assigns ! (agg ! (and-then ! (load ! (from ! (stop !)) (look ! 12 refl)) (and-then ! (load ! (from ! (fld ! refl (stop !))) (look-in ! 40 (sub ! 1 refl (whole !)))) (no-more !))))
         (from ! (stop !)) (init ! 10 refl (tt, (tt, (record { fits = room-r .0 }, tt)))) $
         -- the tally is lent for a lifetime ν, and each slice again for one of its own
-        owned ! T.the-row (Is T.the-row) ((LL.makes T.the-type T′.the-plain) 𝓤 H A) (z .c) _ (z .c-is) $ move ! (37 ∷ 0 ∷ []) $ use2 W (‵ (mem T.the-row .lies (z .c) l₈ 0)) (lies-in 𝓤 H A W (z .c) l₈ 0 (T′.lowered (z .c))) $
-        lft-new ! tt (λ ν. move ! (1 ∷ []) $ use1 W (later (some (λ (δ : GName). ‵ (MutRef (named 0) (ν ∷ []) T.the-row .own (record { ptr = (l₈, 0); name = δ; now = z .c }) (vptr l₈ 0 ∷ [])) ⊛ ‵ (flent (ν ∷ []) (Body (mem T.the-row) l₈ 0 δ)))))
+        owned ! T.the-row (Is T.the-row) ((LL.makes T.the-type T′.the-plain) 𝓤 H A) (z .c) _ (z .c-is) $ move ! (37 ∷ 0 ∷ []) $
+        use2 W (‵ (mem T.the-row .lies (z .c) l₈ 0)) (lies-in 𝓤 H A W (z .c) l₈ 0 (T′.lowered (z .c))) $
+        lft-new ! tt (λ ν. move ! (1 ∷ []) $ use1 W (later (some
+        (λ (δ : GName). ‵ (MutRef (named 0) (ν ∷ []) T.the-row .own (record { ptr = (l₈, 0); name = δ; now = z .c }) (vptr l₈ 0 ∷ [])) ⊛ ‵ (flent (ν ∷ []) (Body (mem T.the-row) l₈ 0 δ)))))
         (lends-ref 𝓤 H A W T.the-row (named 0) (ν ∷ []) (z .c) l₈ 0) $ await ! tt $ pick ! (λ δ. split ! $
         lft-new ! tt (λ νx. move ! (10 ∷ 5 ∷ []) $ use2 W (later (some (λ (δ : GName). ‵ (OwnX (νx ∷ []) δ (z .xs)) ⊛ ‵ (again.Lent u8 (named 1) κx qx x νx (z .xs) δ))))
         (again.lends u8 (named 1) κx qx x 𝓤 H A W νx (z .xs) (z .playing .same-first)) $ await ! tt $ pick ! (λ δx. split ! $
@@ -341,18 +353,27 @@ module _ {M : Type 1} (𝓤 : URA M) (H : Heap 𝓤) (A : Atoms 𝓤) (W : Given
         move ! (3 ∷ 0 ∷ []) $ fjoin ! $ move ! (5 ∷ 0 ∷ []) $ fjoin ! $ move ! (7 ∷ 0 ∷ []) $ fjoin ! $ move ! (9 ∷ 0 ∷ []) $ fjoin ! $ move ! (1 ∷ 0 ∷ []) $ fjoin ! $
         owned ! K.the-row (Is K.the-row) ((LL.makes K.the-type K′.the-plain) 𝓤 H A) (z .k) _ (z .k-is) $ fjoin ! $ move ! (10 ∷ 0 ∷ []) $ fjoin ! $
         -- [what the parameters own; the moves; the replies' lender's part; νr; the ends'; νe; the second buffer's; νy; the first's; νx; the tally's; ν; κs's token; _21; …], and then the tokens
-        nothing ! $ move ! (4 ∷ 0 ∷ []) $ join ! $ move ! (5 ∷ 0 ∷ []) $ join ! $ move ! (6 ∷ 0 ∷ []) $ join ! $ move ! (7 ∷ 0 ∷ []) $ join ! $ move ! (9 ∷ 0 ∷ []) $ join ! $ move ! (8 ∷ 0 ∷ []) $ join ! $
+        nothing ! $ move ! (4 ∷ 0 ∷ []) $ join ! $ move ! (5 ∷ 0 ∷ []) $ join ! $ move ! (6 ∷ 0 ∷ []) $ join ! $ move ! (7 ∷ 0 ∷ []) $ join ! $ move ! (9 ∷ 0 ∷ []) $ join ! $
+        move ! (8 ∷ 0 ∷ []) $ join ! $
         use2 W (raw (Work 𝓤 H A at-mem run .pre (to z (lt less) l₈ ν δ νx δx νy δy νe δe νr δr))) (asked z (lt less) l₈ ν δ νx δx νy δy νe δe νr δr) $
         -- [what the call asks; the moves; the lenders' parts of the replies, the ends, the second and the first buffer, and the tally; _21; …; that _8 dies; …; room for _0; …]
         calls-at ! (fmOf 𝓤 H (W .laws) 𝓣) (Work 𝓤 H A at-mem run) known (to z (lt less) l₈ ν δ νx δx νy δy νe δe νr δr)
-        (and-then ! (load ! (from ! (stop !)) (look ! 23 refl)) (and-then ! (load ! (from ! (stop !)) (look ! 31 refl)) (and-then ! (load ! (from ! (stop !)) (look ! 44 refl)) (and-then ! (load ! (from ! (stop !)) (look ! 19 refl)) (and-then ! (load ! (from ! (stop !)) (look ! 15 refl)) (and-then ! (load ! (from ! (stop !)) (look ! 11 refl)) (and-then ! (load ! (from ! (stop !)) (look ! 7 refl)) (and-then ! (load ! (from ! (stop !)) (look ! 29 refl)) (no-more !))))))))) (λ w.
+        (and-then ! (load ! (from ! (stop !)) (look ! 23 refl))
+        (and-then ! (load ! (from ! (stop !)) (look ! 31 refl))
+        (and-then ! (load ! (from ! (stop !)) (look ! 44 refl))
+        (and-then ! (load ! (from ! (stop !)) (look ! 19 refl))
+        (and-then ! (load ! (from ! (stop !)) (look ! 15 refl))
+        (and-then ! (load ! (from ! (stop !)) (look ! 11 refl)) (and-then ! (load ! (from ! (stop !)) (look ! 7 refl)) (and-then ! (load ! (from ! (stop !)) (look ! 29 refl)) (no-more !))))))))) (λ w.
         use1 W (later (some (λ (k′ : Kept). (Tokens z (lt less) l₈ ν δ νx δx νy δy νe δe νr δr ⊛ ‵ (K.the-row .own k′ (w ∷ [])))
-        ⊛ raw (ensured 𝓤 H A work.ended (work.clauses 𝓤 H A at-mem run) (κs′ z (lt less) l₈ ν δ νx δx νy δy νe δe νr δr) (a z (lt less) l₈ ν δ νx δx νy δy νe δe νr δr) tt k′)))) (id⊢ 𝓤 _) $ await ! tt $ pick ! (λ k′.
+        ⊛ raw (ensured 𝓤 H A work.ended (work.clauses 𝓤 H A at-mem run) (κs′ z (lt less) l₈ ν δ νx δx νy δy νe δe νr δr) (a z (lt less) l₈ ν δ νx δx νy δy νe δe νr δr) tt k′)))) (id⊢ 𝓤 _) $
+        await ! tt $ pick ! (λ k′.
         -- what the call ensures, at some last values
         split ! $ move ! (1 ∷ []) $ use1 W (some (λ (zs : Lasts).
-        ‵ (lasts work.ended (κs′ z (lt less) l₈ ν δ νx δx νy δy νe δe νr δr) (a z (lt less) l₈ ν δ νx δx νy δy νe δe νr δr) zs) ⊛ raw (fact 𝓤 (Says z (lt less) l₈ ν δ νx δx νy δy νe δe νr δr k′ zs)))) (id⊢ 𝓤 _) $ pick ! (λ zs.
+        ‵ (lasts work.ended (κs′ z (lt less) l₈ ν δ νx δx νy δy νe δe νr δr) (a z (lt less) l₈ ν δ νx δx νy δy νe δe νr δr) zs) ⊛ raw
+        (fact 𝓤 (Says z (lt less) l₈ ν δ νx δx νy δy νe δe νr δr k′ zs)))) (id⊢ 𝓤 _) $ pick ! (λ zs.
         split ! $ move ! (1 ∷ []) $ heard ! (Says z (lt less) l₈ ν δ νx δx νy δy νe δe νr δr k′ zs) (λ recorded.
-        fsplit ! $ move ! (1 ∷ []) $ fsplit ! $ drop ! $ fsplit ! $ drop ! $ fsplit ! $ fsplit ! $ move ! (1 ∷ []) $ feqL ! (λ lx. move ! (1 ∷ []) $ fsplit ! $ fsplit ! $ move ! (1 ∷ []) $ feqL ! (λ ly.
+        fsplit ! $ move ! (1 ∷ []) $ fsplit ! $ drop ! $ fsplit ! $ drop ! $ fsplit ! $ fsplit ! $ move ! (1 ∷ []) $ feqL ! (λ lx. move ! (1 ∷ []) $ fsplit ! $ fsplit ! $ move ! (1 ∷ []) $
+        feqL ! (λ ly.
         move ! (1 ∷ []) $ fsplit ! $ fsplit ! $ move ! (1 ∷ []) $ feqL ! (λ le. move ! (1 ∷ []) $ fsplit ! $ fsplit ! $ move ! (1 ∷ []) $ feqL ! (λ lr.
         -- [the last replies; …; the last ends, second and first buffer; the last tally; the tokens and the result; the moves; the lenders' parts; _21; …]
         move ! (6 ∷ []) $ split ! $ move ! (1 ∷ []) $ peeks ! K.the-row (Is K.the-row) (shows 𝓤 H A K.the-row) k′ (w ∷ []) (λ isk.
@@ -376,11 +397,13 @@ module _ {M : Type 1} (𝓤 : URA M) (H : Heap 𝓤) (A : Atoms 𝓤) (W : Given
         (from ! (stop !)) (store ! 36 refl (tt, record { fits = fits z′ })) $
         forget ! 14 refl $ forget ! 16 refl $ forget ! 18 refl $ forget ! 20 refl $ forget ! 22 refl $ forget ! 24 refl $ forget ! 26 refl $ forget ! 28 refl $ forget ! 30 refl $
         forget ! 32 refl $
-        keep ! (9 ∷ 8 ∷ 6 ∷ 4 ∷ 1 ∷ 13 ∷ 7 ∷ 5 ∷ 3 ∷ 0 ∷ 14 ∷ 15 ∷ 16 ∷ 17 ∷ 18 ∷ 19 ∷ 20 ∷ 21 ∷ 22 ∷ 23 ∷ 24 ∷ 25 ∷ 26 ∷ 27 ∷ 28 ∷ 29 ∷ 30 ∷ 31 ∷ 32 ∷ 33 ∷ 34 ∷ 35 ∷ 36 ∷ 37 ∷ 38 ∷ 39 ∷ 11 ∷ 40 ∷ 41 ∷ 42 ∷ 43 ∷ 44 ∷ 45 ∷ 46 ∷ 47 ∷ 48 ∷ 49 ∷ 50 ∷ 51 ∷ 52 ∷ 53 ∷ 54 ∷ 55 ∷ 56 ∷ []) $
+        keep ! (9 ∷ 8 ∷ 6 ∷ 4 ∷ 1 ∷ 13 ∷ 7 ∷ 5 ∷ 3 ∷ 0 ∷ 14 ∷ 15 ∷ 16 ∷ 17 ∷ 18 ∷ 19 ∷ 20 ∷ 21 ∷ 22 ∷ 23 ∷ 24 ∷ 25 ∷ 26 ∷ 27 ∷ 28 ∷ 29 ∷ 30 ∷ 31 ∷ 32 ∷ 33 ∷ 34 ∷ 35 ∷ 36 ∷ 37 ∷ 38 ∷ 39 ∷ 11
+        ∷ 40 ∷ 41 ∷ 42 ∷ 43 ∷ 44 ∷ 45 ∷ 46 ∷ 47 ∷ 48 ∷ 49 ∷ 50 ∷ 51 ∷ 52 ∷ 53 ∷ 54 ∷ 55 ∷ 56 ∷ []) $
         rounds ! Nearer At z z′ (add-one-dec n (z .i) (lt less)))))))))))))))))))))))
         (λ over. jumps ! $ exec ! C Λ En mir′.t-6 (atRet En Post) $
         assigns ! (of-opd ! (load ! (from ! (stop !)) (look ! 36 refl))) (from ! (stop !)) (init ! 30 refl (typed 𝓤 H A W (z .c) (T′.lowered (z .c)) (z .c-is))) $
-        assigns ! (agg ! (and-then ! (load ! (from ! (stop !)) (look ! 34 refl)) (and-then ! (load ! (from ! (stop !)) (look ! 30 refl)) (no-more !)))) (from ! (stop !)) (init ! 52 refl (moved-typed 𝓤 H A W (made (z .k) (z .c)) _ (moved-is (z .k) (z .c) (z .k-is) (z .c-is)))) $
+        assigns ! (agg ! (and-then ! (load ! (from ! (stop !)) (look ! 34 refl)) (and-then ! (load ! (from ! (stop !)) (look ! 30 refl)) (no-more !)))) (from ! (stop !))
+        (init ! 52 refl (moved-typed 𝓤 H A W (made (z .k) (z .c)) _ (moved-is (z .k) (z .c) (z .k-is) (z .c-is)))) $
         returns ! (look ! 52 refl) $
         forget ! 28 refl $ forget ! 30 refl $ forget ! 32 refl $ forget ! 34 refl $ forget ! 36 refl $ forget ! 38 refl $ forget ! 40 refl $ forget ! 42 refl $ forget ! 44 refl $
         forget ! 46 refl $ forget ! 48 refl $ forget ! 50 refl $ forget ! 52 refl $
@@ -422,7 +445,8 @@ module _ {M : Type 1} (𝓤 : URA M) (H : Heap 𝓤) (A : Atoms 𝓤) (W : Given
 
   walk : (𝓣 : Tables 𝓤 H) → Triple 𝓤 (𝓣 .C #record-move) (Work 𝓤 H A at-mem run) → Triple 𝓤 (𝓣 .C #zeros) (None 𝓤 H A at-mem run) → Is (ShrSlice (named 0) κs u8) s (at s ∷ [])
       → Room u8 (length (now x)) → Room u8 (length (now y)) → Room u16 (length (now e)) → Room u8 (length (now r))
-      → ent 𝓤 (onEntry 𝓤 H A f.signature (κs, (κx, (κy, (κe, (κr, tt))))) (qs, (qx, (qy, (qe, (qr, tt))))) a₀ passed₀) (WpFn 𝓤 H (𝓣 .C) (𝓣 .Λ) code.function (K′.lowered first ∷ at s ∷ at x ∷ at y ∷ at e ∷ at r ∷ vint w64 n ∷ []) Post)
+      → ent 𝓤 (onEntry 𝓤 H A f.signature (κs, (κx, (κy, (κe, (κr, tt))))) (qs, (qx, (qy, (qe, (qr, tt))))) a₀ passed₀)
+      (WpFn 𝓤 H (𝓣 .C) (𝓣 .Λ) code.function (K′.lowered first ∷ at s ∷ at x ∷ at y ∷ at e ∷ at r ∷ vint w64 n ∷ []) Post)
   walk 𝓣 known known′ p room-x room-y room-e room-r =
       qed W ((‵ (flft κs qs) ⊛ ‵ (flft κx qx) ⊛ ‵ (flft κy qy) ⊛ ‵ (flft κe qe) ⊛ ‵ (flft κr qr) ⊛ ‵ ftrue)
       ∷ ‵ (owns (K.the-row ∷ ShrSlice (named 0) κs u8 ∷ MutSlice (named 1) κx u8 ∷ MutSlice (named 2) κy u8 ∷ MutSlice (named 3) κe u16 ∷ MutSlice (named 4) κr u8 ∷ usize ∷ []) a₀ passed₀) ∷ []) ∵
@@ -432,14 +456,16 @@ module _ {M : Type 1} (𝓤 : URA M) (H : Heap 𝓤) (A : Atoms 𝓤) (W : Given
       alloc0 ! $ params1 ! $
       pass1 ! (init ! 40 refl (kept-typed 𝓤 H A W first (K′.lowered first) is-first)) $ pass1 ! (init ! 38 refl (shr-slice-lawful 𝓤 H A W (named 0) κs u8 .typed s (at s ∷ []) p .0)) $
       pass1 ! (init ! 36 refl (tt, (tt, (record { fits = room-x .0 }, tt)))) $ pass1 ! (init ! 34 refl (tt, (tt, (record { fits = room-y .0 }, tt)))) $
-      pass1 ! (init ! 32 refl (tt, (tt, (record { fits = room-e .0 }, tt)))) $ pass1 ! (init ! 30 refl (tt, (tt, (record { fits = room-r .0 }, tt)))) $ pass1 ! (init ! 28 refl (tt, record { fits = n-fits })) $ pass0 ! $
+      pass1 ! (init ! 32 refl (tt, (tt, (record { fits = room-e .0 }, tt)))) $ pass1 ! (init ! 30 refl (tt, (tt, (record { fits = room-r .0 }, tt)))) $
+      pass1 ! (init ! 28 refl (tt, record { fits = n-fits })) $ pass0 ! $
       -- the tally of no move, in _8 by way of _11
       nothing ! $ nothing ! $ use2 W (raw (None 𝓤 H A at-mem run .pre to-none)) (qed W (‵ ftrue ∷ ‵ (owns [] tt tt) ∷ []) ∵ join ! $ frame ! $ done !) $
       calls-at ! (fmOf 𝓤 H (W .laws) 𝓣) (None 𝓤 H A at-mem run) known′ to-none (no-more !) (λ w.
       use1 W (later (some (λ (c : Tally). (‵ ftrue ⊛ ‵ (T.the-row .own c (w ∷ []))) ⊛ raw (ensured 𝓤 H A none.ended (none.clauses 𝓤 H A at-mem run) tt tt tt c)))) (id⊢ 𝓤 _) $ await ! tt $ pick ! (λ c.
       split ! $ move ! (1 ∷ []) $ use1 W (raw (fact 𝓤 (c ≡ tallyOf noTally))) (none-said c) $ heard ! (c ≡ tallyOf noTally) (λ none. split ! $ drop ! $
       peeks ! T.the-row (Is T.the-row) (shows 𝓤 H A T.the-row) c (w ∷ []) (λ is.
-      land ! (from ! (stop !)) (init ! 21 refl (typed 𝓤 H A W c w is)) $ drop ! $ rewrite ! 20 (λ (v : Val). ‵ (fat fullShare T′.mir l₁₁ 0 v)) (ap only (LL.tells T.the-type T′.the-laws c (w ∷ []) is)) refl $
+      land ! (from ! (stop !)) (init ! 21 refl (typed 𝓤 H A W c w is)) $ drop ! $ rewrite ! 20 (λ (v : Val). ‵ (fat fullShare T′.mir l₁₁ 0 v))
+      (ap only (LL.tells T.the-type T′.the-laws c (w ∷ []) is)) refl $
       assigns ! (of-opd ! (load ! (from ! (stop !)) (look ! 20 refl))) (from ! (stop !)) (init ! 26 refl (typed 𝓤 H A W c (T′.lowered c) (tally-is c w is))) $
       assigns ! (of-opd ! (load ! (from ! (stop !)) (look ! 40 refl))) (from ! (stop !)) (init ! 24 refl (kept-typed 𝓤 H A W first (K′.lowered first) is-first)) $
       assigns ! (of-opd ! (lit ! tt)) (from ! (stop !)) (init ! 22 refl (tt, record { fits = lit< tt })) $ forget ! 20 refl $
@@ -448,14 +474,16 @@ module _ {M : Type 1} (𝓤 : URA M) (H : Heap 𝓤) (A : Atoms 𝓤) (W : Given
       -- [κr's token; true; κe's; κy's; κx's; κs's; what the parameters own; _21; …]
       move ! (6 ∷ []) $ fsplit ! $ drop ! $ fsplit ! $ move ! (1 ∷ []) $ fsplit ! $ move ! (1 ∷ []) $ fsplit ! $ move ! (1 ∷ []) $ fsplit ! $ move ! (1 ∷ []) $ fsplit ! $
       -- [the replies; n's; the ends; the second and the first buffer; the moves; κr's token; true; κe's; κy's; κx's; κs's; _21; …]
-      keep ! (11 ∷ 10 ∷ 9 ∷ 8 ∷ 6 ∷ 5 ∷ 4 ∷ 3 ∷ 2 ∷ 0 ∷ 12 ∷ 13 ∷ 14 ∷ 15 ∷ 16 ∷ 17 ∷ 18 ∷ 19 ∷ 20 ∷ 21 ∷ 22 ∷ 23 ∷ 24 ∷ 25 ∷ 26 ∷ 27 ∷ 28 ∷ 29 ∷ 30 ∷ 31 ∷ 32 ∷ 33 ∷ 34 ∷ 35 ∷ 36 ∷ 37 ∷ 38 ∷ 39 ∷ 40 ∷ 41 ∷ 42 ∷ 43 ∷ 44 ∷ 45 ∷ 46 ∷ 47 ∷ 48 ∷ 49 ∷ 50 ∷ 51 ∷ 52 ∷ 53 ∷ 54 ∷ 55 ∷ []) $
+      keep ! (11 ∷ 10 ∷ 9 ∷ 8 ∷ 6 ∷ 5 ∷ 4 ∷ 3 ∷ 2 ∷ 0 ∷ 12 ∷ 13 ∷ 14 ∷ 15 ∷ 16 ∷ 17 ∷ 18 ∷ 19 ∷ 20 ∷ 21 ∷ 22 ∷ 23 ∷ 24 ∷ 25 ∷ 26 ∷ 27 ∷ 28 ∷ 29 ∷ 30 ∷ 31 ∷ 32 ∷ 33 ∷ 34 ∷ 35 ∷ 36 ∷ 37 ∷ 38
+      ∷ 39 ∷ 40 ∷ 41 ∷ 42 ∷ 43 ∷ 44 ∷ 45 ∷ 46 ∷ 47 ∷ 48 ∷ 49 ∷ 50 ∷ 51 ∷ 52 ∷ 53 ∷ 54 ∷ 55 ∷ []) $
       rounds-all 𝓣 known room-x room-y room-e room-r l₀ l₁ l₂ l₃ l₄ l₅ l₆ l₇ l₈ l₉ l₁₀ l₁₁ l₁₂ l₁₃ l₁₄ l₁₅ l₁₆ l₁₇ l₁₈ l₁₉ l₂₀ l₂₁ (begun c none (tally-is c w is))))))))))))))))))))))))))))
     where
       tally-is : (c : Tally) (w : Val) → Is T.the-row c (w ∷ []) → Is T.the-row c (T′.lowered c ∷ [])
       tally-is c w is = subst (λ (v : Val). Is T.the-row c (v ∷ [])) (ap only (LL.tells T.the-type T′.the-laws c (w ∷ []) is)) is
 
 module _ {M : Type 1} (𝓤 : URA M) (H : Heap 𝓤) (A : Atoms 𝓤) (W : Given 𝓤 H A) (at-mem : Memory → SProp 𝓤) (run : Routine → Fun 𝓤) where
-  night-walks : (𝓣 : Tables 𝓤 H) → Triple 𝓤 (𝓣 .C #record-move) (Work 𝓤 H A at-mem run) → Triple 𝓤 (𝓣 .C #zeros) (None 𝓤 H A at-mem run) → Walks 𝓤 H A f.ended stayed (WpFn 𝓤 H (𝓣 .C) (𝓣 .Λ) code.function) (f.clauses 𝓤 H A at-mem run)
+  night-walks : (𝓣 : Tables 𝓤 H) → Triple 𝓤 (𝓣 .C #record-move) (Work 𝓤 H A at-mem run) → Triple 𝓤 (𝓣 .C #zeros) (None 𝓤 H A at-mem run) → Walks 𝓤 H A f.ended stayed
+      (WpFn 𝓤 H (𝓣 .C) (𝓣 .Λ) code.function) (f.clauses 𝓤 H A at-mem run)
   night-walks 𝓣 known known′ =
       walked 𝓤 H A f.ended stayed (f.clauses 𝓤 H A at-mem run) (WpFn 𝓤 H (𝓣 .C) (𝓣 .Λ) code.function)
       (λ κs. (LL.vals K.the-type K′.the-laws, (slice-vals, (slice-vals, (slice-vals, (slice-vals, (slice-vals, (uint-vals w64, tt))))))))
@@ -475,7 +503,8 @@ module _ {M : Type 1} (𝓤 : URA M) (H : Heap 𝓤) (A : Atoms 𝓤) (W : Given
           ),
         ),
       ))
-      (λ κs qs bounds a _ are. needs 𝓤 _ _ (λ ok. walk 𝓤 H A W at-mem run (κs .0) (κs .1 .0) (κs .1 .1 .0) (κs .1 .1 .1 .0) (κs .1 .1 .1 .1 .0) bounds (qs .0) (qs .1 .0) (qs .1 .1 .0) (qs .1 .1 .1 .0) (qs .1 .1 .1 .1 .0)
+      (λ κs qs bounds a _ are. needs 𝓤 _ _ (λ ok. walk 𝓤 H A W at-mem run (κs .0) (κs .1 .0) (κs .1 .1 .0) (κs .1 .1 .1 .0) (κs .1 .1 .1 .1 .0) bounds (qs .0) (qs .1 .0) (qs .1 .1 .0)
+      (qs .1 .1 .1 .0) (qs .1 .1 .1 .1 .0)
       (a .0) (are .0) (a .1 .0) (a .1 .1 .0) (a .1 .1 .1 .0) (a .1 .1 .1 .1 .0) (a .1 .1 .1 .1 .1 .0) (a .1 .1 .1 .1 .1 .1 .0) (are .1 .1 .1 .1 .1 .1 .0 .1) ok
       𝓣 known known′ (are .1 .0) (are .1 .1 .0 .0 .1) (are .1 .1 .1 .0 .0 .1) (are .1 .1 .1 .1 .0 .0 .1) (are .1 .1 .1 .1 .1 .0 .0 .1)))
 
@@ -494,7 +523,8 @@ module _ {M : Type 1} (𝓤 : URA M) (H : Heap 𝓤) (A : Atoms 𝓤) (W : Given
     ),
   )
 
-night-meets : {M : Type 1} (𝓤 : URA M) (H : Heap 𝓤) (A : Atoms 𝓤) → Given 𝓤 H A → (at-mem : Memory → SProp 𝓤) (run : Routine → Fun 𝓤) (𝓣 : Tables 𝓤 H) → Triple 𝓤 (𝓣 .C #record-move) (Work 𝓤 H A at-mem run) → Triple 𝓤 (𝓣 .C #zeros) (None 𝓤 H A at-mem run)
+night-meets : {M : Type 1} (𝓤 : URA M) (H : Heap 𝓤) (A : Atoms 𝓤) → Given 𝓤 H A → (at-mem : Memory → SProp 𝓤) (run : Routine → Fun 𝓤) (𝓣 : Tables 𝓤 H) → Triple 𝓤 (𝓣 .C #record-move)
+    (Work 𝓤 H A at-mem run) → Triple 𝓤 (𝓣 .C #zeros) (None 𝓤 H A at-mem run)
     → Meets 𝓤 H A f.signature (WpFn 𝓤 H (𝓣 .C) (𝓣 .Λ) code.function) (f.spec 𝓤 H A at-mem run)
 night-meets 𝓤 H A W at-mem run 𝓣 known known′ =
     walk-meets 𝓤 H A f.ended stayed W (all-go 𝓤 H A W at-mem run) (f.clauses 𝓤 H A at-mem run) (WpFn 𝓤 H (𝓣 .C) (𝓣 .Λ) code.function) (WpFn-mono 𝓤 H (W .laws) 𝓣 code.function)

@@ -21,4 +21,5 @@ judged-spec =
     (λ c. search needs)
     (λ c q h. let s = c .before .before .before .before .before .before .before in
     let z = s .before .before .before .before .before .before in
-    judged-accepted q _ _ _ _ _ (answers-run q _ _ _ _ (z .pre .room) (s .step-known .ensures (q .table) h)) _ _ _ h (c .before .before .before .if1 .left) (c .before .copied .ensures) (c .counts .ensures)))
+    judged-accepted q _ _ _ _ _ (answers-run q _ _ _ _ (z .pre .room) (s .step-known .ensures (q .table) h)) _ _ _ h (c .before .before .before .if1 .left) (c .before .copied .ensures)
+    (c .counts .ensures)))
