@@ -6,6 +6,7 @@ use mathlib.Core.Path.{_≡_, refl, sym, ap, subst}
 use Prim.Native.Nat.{ℕ, _+_, _-_, _<_, _≤_, _^_}
 use native.Mathlib.Nat.{lt-of-le-of-lt}
 use native.Mathlib.Numerals.{add-one-dec}
+use native.Mathlib.Omega.{arith}
 use mathlib.Core.WellFounded.{WellFounded, InvImage·wf}
 use mathlib.Core.List.{[], _∷_, List}
 use lib.WfN.{Nat·lt-wfRel}
@@ -393,8 +394,8 @@ module _ {M : Type 1} (𝓤 : URA M) (H : Heap 𝓤) (A : Atoms 𝓤) (W : Given
         (again.back u8 (named 4) κr qr r 𝓤 H A W νr (z .rs) (z .playing .same-slots) δr (last-r zs) room-r lr) $ await ! tt $ split ! $
         -- [the replies; κr's token; true; the ends; κe's; the second buffer; κy's; the first; κx's; κs's; what _8 owns; _8; …; the moves; _21; …]
         let z′ : State = next less k′ zs recorded (kept-is k′ w isk) is lx ly le lr in
-        assigns-last ! (bin ! (load ! (from ! (stop !)) (look ! 36 refl)) (lit ! tt) (record { fits = fits z′ }))
-        (from ! (stop !)) (store ! 36 refl (tt, record { fits = fits z′ })) $
+        assigns-last ! (bin ! (load ! (from ! (stop !)) (look ! 36 refl)) (lit ! tt) (record { fits = omega (arith, lt less, ok .all, ok .short) }))
+        (from ! (stop !)) (store ! 36 refl (tt, record { fits = omega (arith, lt less, ok .all, ok .short) })) $
         forget ! 14 refl $ forget ! 16 refl $ forget ! 18 refl $ forget ! 20 refl $ forget ! 22 refl $ forget ! 24 refl $ forget ! 26 refl $ forget ! 28 refl $ forget ! 30 refl $
         forget ! 32 refl $
         keep ! (9 ∷ 8 ∷ 6 ∷ 4 ∷ 1 ∷ 13 ∷ 7 ∷ 5 ∷ 3 ∷ 0 ∷ 14 ∷ 15 ∷ 16 ∷ 17 ∷ 18 ∷ 19 ∷ 20 ∷ 21 ∷ 22 ∷ 23 ∷ 24 ∷ 25 ∷ 26 ∷ 27 ∷ 28 ∷ 29 ∷ 30 ∷ 31 ∷ 32 ∷ 33 ∷ 34 ∷ 35 ∷ 36 ∷ 37 ∷ 38 ∷ 39 ∷ 11
