@@ -4,3 +4,5 @@ pub mod Writing
 pub mod Playing
 pub mod Whole
 pub mod Theorems
+pub mod Structs
+pub mod Again

@@ -1,6 +1,5 @@
 -- A list of moves (specs/Nights): the state before the first move, one move more, and the end.
 use mathlib.Core.Path.{_≡_, refl, sym, ap, subst, _∙_}
-use mathlib.Core.Bool.{false}
 use mathlib.Core.List.{List, [], _∷_, _++_}
 use Prim.Native.Nat.{ℕ, _+_, _*_, _-_, _/_, _≤_, _<_}
 use native.Mathlib.Omega.{arith}
@@ -15,22 +14,15 @@ use Rattle.cows.specs.Run.{noTally, Run, start, run, judgement, turn, kept, rep
 use Rattle.cows.proofs.Lists.{run-more, replies-more, pieces-more, bytes-more, length-pieces, length-replies, length-bytes}
 use Rattle.cows.proofs.Step.{Below, below-step}
 use Rattle.records.specs.Rewrites.{put}
-use Rattle.records.proofs.Put.{length-put}
-use Rattle.passes.specs.Known.{Table}
 use Rattle.tables.specs.declared.Reply as code
-use Rattle.stepper.specs.Replies.{replyOf}
 use Rattle.tally.specs.declared.Tally.{Tally}
 use Rattle.tally.specs.Counted.{tallyOf, Small}
-use Rattle.tally.proofs.Counting.{zeros-small}
+use Rattle.tally.proofs.Counting.{zeros-small, sum-small}
 use Rattle.player.specs.declared.turns.Kept.{Kept}
 use Rattle.player.specs.declared.turns.Next.{Next}
-use Rattle.player.specs.Turns.{held, Keeps, Going, Goes}
-use Rattle.player.specs.Nights.{sixBytes, bookAt, repliesAt, Opens, Playing, Ends}
-use Rattle.player.proofs.Turning.{held-size, kept-records}
-
--- move i of a list
-abbrev pub moveAt : List ℕ → ℕ → List ℕ
-moveAt l i = take 6 (drop (6 * i) l)
+use Rattle.player.specs.Turns.{Keeps, Goes}
+use Rattle.player.specs.Nights.{sixBytes, replySix, bookAt, repliesAt, moveAt, Ready, Made, Recorded, Opens, Playing, Ends}
+use Rattle.player.proofs.Turning.{kept-records}
 
 pub part-move : (l : List ℕ) (i : ℕ) → take (6 * i + 6 - 6 * i) (drop (6 * i) l) ≡ moveAt l i
 part-move l i = let e : 6 * i + 6 - 6 * i ≡ 6 = omega arith in rw e
@@ -77,82 +69,91 @@ module _ (l : List ℕ) (small : (k : ℕ) → getD l k 0 < 256) (i : ℕ) where
   unfolding kept judgement word byte
   place-small q h =
       go (stepTerm (q .table) (moveAt l i) 32768)
-      (below-step (q .table) 65536 (omega arith) (moveAt l i) 32768 (omega (arith, byte-small 2 (omega arith), byte-small 3 (omega arith))) (omega (arith, byte-small 4 (omega arith), byte-small 5 (omega arith))))
+      (below-step (q .table) 65536 (omega arith) (moveAt l i) 32768 (omega (arith, byte-small 2 (omega arith), byte-small 3 (omega arith)))
+      (omega (arith, byte-small 4 (omega arith), byte-small 5 (omega arith))))
     where
       go : (x : Result Term) → Below 65536 x → kept q x .place < 65536
       go (refuse n p) b = b .1
       go (accept s) b = omega arith
 
+-- a move of the list (`move_at`): what its parts ask, and what it gives
+module _ (moves : List ℕ) (i : ℕ) (k : Kept) (x y ends slots : List ℕ) (o : Ready moves i k x y ends slots) where
+  pub move-six : length (moveAt moves i) ≡ 6
+  move-six = length-take-le 6 (drop (6 * i) moves) (omega (arith, length-drop (6 * i) moves, o .inside))
+
+  module _ (x′ y′ ends′ : List ℕ) (r : Next) (g : Goes (moveAt moves i) k x y ends x′ y′ ends′ r) where
+    pub reply-fits : ((j : ℕ) → getD moves j 0 < 256) → (r .reply .place < 65536) × (r .reply .records < 65536)
+    reply-fits small =
+        let q = o .going .run in
+        let h = o .going .keeps in
+        let e = g .replies q h in
+        let a : r .reply .place < 65536 = subst (λ v. v < 65536) (sym (ap (λ (v : code.Reply). v .place) e)) (place-small moves small i q (h .table .within .small)) in
+        let b : r .reply .records ≡ size (turn q (moveAt moves i) .table) = ap (λ (v : code.Reply). v .records) e ∙ kept-records q (moveAt moves i) in
+        (a, omega (arith, b, g .keeps q h .table .within .small))
+
+    pub made : (slots′ : List ℕ) → slots′ ≡ put slots (6 * i) (sixBytes (r .reply .answer) (r .reply .place) (r .reply .records)) → Made moves i k x y ends slots x′ y′ ends′ slots′
+        (record { kept = r .kept; tally = r .counts })
+    made slots′ e = record {
+      keeps = g .keeps;
+      replies = λ q h. e ∙ ap (λ (v : code.Reply). put slots (6 * i) (sixBytes (v .answer) (v .place) (v .records))) (g .replies q h);
+      counted = g .counted;
+      few = g .few;
+    }
+
 -- before the first move
-module _ (moves x₀ y₀ ends₀ : List ℕ) (n : ℕ) (slots : List ℕ) (o : Opens moves x₀ y₀ ends₀ n slots) where
-  pub opening : (c : Tally) → c ≡ tallyOf noTally → Playing moves x₀ y₀ ends₀ n slots x₀ y₀ ends₀ slots (record { second = false; records = n; tally = c }) 0
+module _ (moves : List ℕ) (n : ℕ) (first : Kept) (x₀ y₀ ends₀ slots : List ℕ) (o : Opens moves n first x₀ y₀ ends₀ slots) where
+  pub opening : (c : Tally) → c ≡ tallyOf noTally → Playing moves first x₀ y₀ ends₀ slots 0 first x₀ y₀ ends₀ slots c
   unfolding bookAt repliesAt pieces run replies start replyBytes
   opening c e = record {
     inside = omega arith;
-    keeps = λ t h. record {
-      table = h;
-      count = held-size n x₀ ends₀ t (o .inside) h;
-      tallied = e;
-      first-room = o .first-room;
-      second-room = o .second-room;
-      ends-room = o .ends-room;
-    };
+    keeps = λ t h. h;
     replies-are = λ t h. refl;
-    small = subst (λ x. Small x 0) (sym e) zeros-small;
+    tallied = λ t h. e;
+    small = subst (λ x. Small x 0) (sym e) (zeros-small 0);
     same-first = refl;
     same-second = refl;
     same-ends = refl;
     same-slots = refl;
   }
 
-  -- one move more
-  module _ (x y ends replied : List ℕ) (k : Kept) (i : ℕ) (p : Playing moves x₀ y₀ ends₀ n slots x y ends replied k i) (more : i < length moves / 6) where
-    pub playing-going : Going x y ends k i
-    playing-going = record { run = _; keeps = p .keeps (o .known .term) (o .known .table); small = p .small; early = omega (arith, o .short) }
+  module _ (i : ℕ) (k : Kept) (x y ends replied : List ℕ) (c : Tally) (p : Playing moves first x₀ y₀ ends₀ slots i k x y ends replied c) where
+    -- one move more
+    module _ (more : i < n) where
+      pub playing-ready : Ready moves i k x y ends replied
+      playing-ready = record {
+        going = record { run = bookAt (o .term) moves i; keeps = p .keeps (o .term) (o .keeps) };
+        inside = omega (arith, o .all);
+        short = o .short;
+        slots-room = omega (arith, o .slots-room, p .same-slots);
+      }
 
-    pub move-six : length (moveAt moves i) ≡ 6
-    move-six = length-take-le 6 (drop (6 * i) moves) (omega (arith, length-drop (6 * i) moves))
-
-    module _ (x′ y′ ends′ : List ℕ) (r : Next) (g : Goes (moveAt moves i) k x y ends x′ y′ ends′ r) where
-      -- the reply in the book, and that it fits
-      book-reply : (t : Term) → Table (held n x₀) ends₀ t → r .reply ≡ replyOf (kept (bookAt t moves i) (judgement (bookAt t moves i) (moveAt moves i)))
-      book-reply t h = g .replies (bookAt t moves i) (p .keeps t h)
-
-      pub reply-fits : ((j : ℕ) → getD moves j 0 < 256) → (6 * i + 5 < length replied) × (r .reply .place < 65536) × (r .reply .records < 65536)
-      reply-fits small =
-          let t = o .known .term in
-          let h = o .known .table in
-          let q = bookAt t moves i in
-          let e = book-reply t h in
-          let l : 6 * i + 5 < length replied = omega (arith, p .same-slots, o .slots-room) in
-          let a : r .reply .place < 65536 = subst (λ v. v < 65536) (sym (ap (λ (v : code.Reply). v .place) e)) (place-small moves small i q (p .keeps t h .table .within .small)) in
-          let b : r .reply .records ≡ size (turn q (moveAt moves i) .table) = ap (λ (v : code.Reply). v .records) e ∙ kept-records q (moveAt moves i) in
-          (l, a, omega (arith, b, g .keeps q (p .keeps t h) .table .within .small))
-
-      pub playing-next : (replied′ : List ℕ) → replied′ ≡ put replied (6 * i) (sixBytes (r .reply .answer) (r .reply .place) (r .reply .records)) → length x′ ≡ length x → length y′ ≡ length y → length ends′ ≡ length ends
-          → Playing moves x₀ y₀ ends₀ n slots x′ y′ ends′ replied′ (r .kept) (i + 1)
-      playing-next replied′ e lx ly le = record {
-        inside = omega arith;
-        keeps = λ t h. rw (book-next t moves i) (g .keeps (bookAt t moves i) (p .keeps t h));
+      pub playing-next : (x′ y′ ends′ replied′ : List ℕ) (c′ : Tally) (k′ : Kept) → Recorded moves i k x y ends replied c x′ y′ ends′ replied′ c′ k′
+          → length x′ ≡ length x → length y′ ≡ length y → length ends′ ≡ length ends → length replied′ ≡ length replied → Playing moves first x₀ y₀ ends₀ slots (i + 1) k′ x′ y′ ends′ replied′ c′
+      playing-next x′ y′ ends′ replied′ c′ k′ g lx ly le lr = record {
+        inside = omega (arith, o .all);
+        keeps = λ t h. rw (book-next t moves i) (g .made .keeps (bookAt t moves i) (p .keeps t h));
         replies-are = λ t h.
             let b = kept (bookAt t moves i) (judgement (bookAt t moves i) (moveAt moves i)) in
             let front = replyBytes (repliesAt t moves i) in
-            let six = sixBytes (b .answer) (b .place) (b .records) in
-            let is : sixBytes (r .reply .answer) (r .reply .place) (r .reply .records) ≡ six = ap (λ (v : code.Reply). sixBytes (v .answer) (v .place) (v .records)) (book-reply t h) in
-            let all : replyBytes (repliesAt t moves (i + 1)) ≡ front ++ six = ap replyBytes (replies-next t moves i) ∙ bytes-more (repliesAt t moves i) b in
-            let room : 6 * i + 6 ≤ length slots = omega (arith, o .slots-room) in
-            e ∙ (rw (p .replies-are t h, is, all) (put-next front slots six i (bytes-long t moves i) (six-long (b .answer) (b .place) (b .records)) room));
-        small = g .grows i (p .small);
+            let all : replyBytes (repliesAt t moves (i + 1)) ≡ front ++ replySix b = ap replyBytes (replies-next t moves i) ∙ bytes-more (repliesAt t moves i) b in
+            let room : 6 * i + 6 ≤ length slots = omega (arith, o .slots-room, o .all) in
+            g .made .replies (bookAt t moves i) (p .keeps t h)
+            ∙ (rw (p .replies-are t h, all) (put-next front slots (replySix b) i (bytes-long t moves i) (six-long (b .answer) (b .place) (b .records)) room));
+        tallied = λ t h. g .added ∙ (rw (p .tallied t h, book-next t moves i) (g .made .counted (bookAt t moves i) (p .keeps t h)));
+        small = subst (λ d. Small d (i + 1)) (sym (g .added)) (sum-small c (g .counts) i (p .small) (g .made .few));
         same-first = lx ∙ p .same-first;
         same-second = ly ∙ p .same-second;
         same-ends = le ∙ p .same-ends;
-        same-slots = ap length e ∙ (length-put replied (6 * i) _ ∙ p .same-slots);
+        same-slots = lr ∙ p .same-slots;
       }
 
-  -- after the last
-  pub playing-ends : (x y ends replied : List ℕ) (k : Kept) (i : ℕ) → Playing moves x₀ y₀ ends₀ n slots x y ends replied k i → i ≡ length moves / 6 → (t : Term) → Table (held n x₀) ends₀ t → Ends t moves x y ends slots replied k
-  unfolding movesOf bookAt repliesAt
-  playing-ends x y ends replied k i p e t h = record {
-    keeps = subst (λ j. Keeps (bookAt t moves j) x y ends k) e (p .keeps t h);
-    replied = subst (λ j. replied ≡ replyBytes (repliesAt t moves j) ++ drop (6 * j) slots) e (p .replies-are t h);
-  }
+    -- after the last
+    pub playing-ends : n ≤ i → (t : Term) → Keeps (start t) x₀ y₀ ends₀ first → Ends t moves x y ends slots replied (record { kept = k; tally = c })
+    unfolding movesOf bookAt repliesAt
+    playing-ends over t h =
+        let e : i ≡ length moves / 6 = omega (arith, o .all, p .inside) in
+        record {
+          keeps = subst (λ j. Keeps (bookAt t moves j) x y ends k) e (p .keeps t h);
+          replied = subst (λ j. replied ≡ replyBytes (repliesAt t moves j) ++ drop (6 * j) slots) e (p .replies-are t h);
+          tallied = subst (λ j. c ≡ tallyOf (bookAt t moves j .tally)) e (p .tallied t h);
+        }

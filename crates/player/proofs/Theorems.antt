@@ -14,7 +14,6 @@ use Rattle.cows.specs.Tables.{judge}
 use Rattle.cows.specs.Within.{Within}
 use Rattle.cows.specs.Load.{load}
 use Rattle.cows.specs.Run.{start, run, movesOf, played, playedReply, playedTally, playedOutput, playedReplies}
-use Rattle.cows.specs.Run as meaning
 use Rattle.cows.proofs.Tables.{judge-within, within-judge}
 use Rattle.cows.proofs.Lists.{length-pieces, length-replies}
 use Rattle.cows.proofs.Theorems.{list-bound, tables-within}
@@ -56,6 +55,11 @@ module _ (table moves out after slots after′ : List ℕ) (p : Played) (t : Ter
     else-played = λ h k l.
         followed (rw (play-judged table moves out slots t formed, le-ltb 60000 (length moves) h, le-ltb (length out) 32768 k, le-ltb (length slots) (6 * (length moves / 6)) l) at plays) (judge-within table t b formed);
   }
+
+-- What play promises, of a table of bytes: the equation, and demand 3 with it.
+pub promised : (table moves out after slots after′ : List ℕ) (p : Played) → Bytes table → Plays table moves out after slots after′ p
+    → Plays table moves out after slots after′ p × ((t : Term) → judge table ≡ accept t → Demand3 t moves out after slots after′ p)
+promised table moves out after slots after′ p b plays = (plays, λ t formed. demand-3 table moves out after slots after′ p t formed plays b)
 
 -- The inequality over the night book, for lists of any length.
 pub any-list : (t : Term) (ms : List (List ℕ)) → let r = run (start t) ms in

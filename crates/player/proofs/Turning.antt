@@ -34,8 +34,8 @@ use Rattle.tables.specs.declared.Reply.{Reply}
 use Rattle.stepper.specs.Replies.{replyOf, Answers}
 use Rattle.stepper.proofs.Stepping.{table-known}
 use Rattle.tally.specs.declared.Tally.{Tally}
-use Rattle.tally.specs.Counted.{tallyOf, countedBy, Room, Small}
-use Rattle.tally.proofs.Counting.{counted-reads, counted-small, small-later, small-room}
+use Rattle.tally.specs.Counted.{tallyOf, countsOf, sumOf, Small}
+use Rattle.tally.proofs.Counting.{sum-zeros, counted-reads, zeros-small, counts-small}
 use Rattle.player.specs.declared.turns.Kept.{Kept}
 use Rattle.player.specs.declared.turns.Tried.{Tried}
 use Rattle.player.specs.Loads.{loadBetween}
@@ -104,15 +104,12 @@ pub answers-run : (q : Run) (m to after : List ℕ) (r : Reply) → length to �
 unfolding judgement
 answers-run q m to after r e a = subst (λ n. Answers (stepTerm (q .table) m n) to after r) e a
 
-pub accepted-by : (s ends m to after : List ℕ) (c : Tally) (r : Reply) → Asks s ends m to c → ((t : Term) → Table s ends t → Answers (stepTerm t m (length to)) to after r) → r .answer ≡ 0 → Accepted s ends m
+pub accepted-by : (s ends m to after : List ℕ) (r : Reply) → Asks s ends m to → ((t : Term) → Table s ends t → Answers (stepTerm t m (length to)) to after r) → r .answer ≡ 0 → Accepted s ends m
 unfolding judgement
-accepted-by s ends m to after c r h a z =
+accepted-by s ends m to after r h a z =
     let q : Run = record { table = h .known .term; tally = noTally } in
     let (u, e) = judgement-accepted q m r (answers-run q m to after r (h .room) (a (h .known .term) (h .known .table)) .replies) z in
     record { known = h .known; successor = u; accepted = e; six = h .six }
-
-pub room-less : (c : Tally) (l : ℕ) → Room c 2048 → l ≤ 2048 → Room c l
-room-less c l r h = record { communications-fit = r .communications-fit; kills-fit = r .kills-fit; timeouts-fit = r .timeouts-fit; copied-fits = omega arith }
 
 -- some run that keeps a known table
 abbrev pub runOf : {s ends : List ℕ} → Known s ends → Run
@@ -131,24 +128,24 @@ accepted-move : (q : Run) (m : List ℕ) (s : Term) → judgement q m ≡ accept
 unfolding judgement
 accepted-move q m s e = let a = steps.step-accepted (q .table) s m 32768 e in (a .move, a .reads)
 
--- the tally after a refused and after an accepted move
-pub judged-refused : (q : Run) (m : List ℕ) (c : Tally) (to after : List ℕ) (r : Reply) → Answers (judgement q m) to after r → r .answer ≢ 0 → Judged q m c to after (record { reply = r; tally = c })
-judged-refused q m c to after r a h =
-    let (n, p, e) = answer-refused (judgement q m) r (a .replies) h in
-    record { answers = a; tallied = λ t. rw (turn-refused q m n p e) t; grows = λ i s. small-later c i s }
+-- what a refused and what an accepted move counts
+module _ (q : Run) (m to after : List ℕ) (r : Reply) (d : Tally) (a : Answers (judgement q m) to after r) where
+  pub judged-refused : r .answer ≢ 0 → d ≡ tallyOf noTally → Judged q m to after (record { reply = r; counts = d })
+  judged-refused h e =
+      let (n, p, x) = answer-refused (judgement q m) r (a .replies) h in
+      record { answers = a; counted = ap (sumOf (tallyOf (q .tally))) e ∙ (rw (turn-refused q m n p x) (sum-zeros (tallyOf (q .tally)))); few = subst (λ c. Small c 1) (sym e) (zeros-small 1) }
 
-pub judged-accepted : (q : Run) (s ends m : List ℕ) (c : Tally) (to after : List ℕ) (r : Reply) (l : ℕ) (d : Tally) → Table s ends (q .table) → Answers (judgement q m) to after r → r .answer ≡ 0
-    → Copied s ends m l → d ≡ countedBy c (getD m 0 0) l → Judged q m c to after (record { reply = r; tally = d })
-judged-accepted q s ends m c to after r l d h a z k e =
-    let (u, eu) = judgement-accepted q m r (a .replies) z in
-    let (v, ev) = accepted-move q m u eu in
-    record {
-      answers = a;
-      tallied = λ t.
-          rw (turn-accepted q m u v eu ev)
-          (e ∙ (ap (λ (x : Tally). countedBy x (getD m 0 0) l) t ∙ (ap (countedBy (tallyOf (q .tally)) (getD m 0 0)) (k .is (q .table) h v ev) ∙ (unfold byte in counted-reads (q .tally) (q .table) m v ev))));
-      grows = λ i s. subst (λ x. Small x (i + 1)) (sym e) (counted-small c i (getD m 0 0) l s (k .few));
-    }
+  pub judged-accepted : (s ends : List ℕ) (l : ℕ) → Table s ends (q .table) → r .answer ≡ 0 → Copied s ends m l → d ≡ countsOf (getD m 0 0) l → Judged q m to after (record { reply = r; counts = d })
+  judged-accepted s ends l h z k e =
+      let (u, eu) = judgement-accepted q m r (a .replies) z in
+      let (v, ev) = accepted-move q m u eu in
+      record {
+        answers = a;
+        counted =
+            let is = e ∙ ap (countsOf (getD m 0 0)) (k .is (q .table) h v ev) in
+            rw (turn-accepted q m u v eu ev) (ap (sumOf (tallyOf (q .tally))) is ∙ (unfold byte in counted-reads (q .tally) (q .table) m v ev));
+        few = subst (λ c. Small c 1) (sym e) (counts-small (getD m 0 0) l (k .few));
+      }
 
 -- the records of a table that lies in a buffer
 pub held-size : (n : ℕ) (x ends : List ℕ) (t : Term) → 16 * n ≤ length x → Table (held n x) ends t → n ≡ size t
@@ -161,25 +158,26 @@ pub held-small : (n : ℕ) (x ends : List ℕ) → 16 * n ≤ length x → Known
 held-small n x ends h k = omega (arith, k .few, length-take-le (16 * n) x h)
 
 -- a refused move: the table stays where it is
-module _ (q : Run) (n : ℕ) (from ends m to after : List ℕ) (c : Tally) (r : Tried) (inside : 16 * n ≤ length from) (room : length to ≡ 32768) (t : Table (held n from) ends (q .table))
-    (e : c ≡ tallyOf (q .tally)) (j : Judged q m c to after r) (z : r .reply .answer ≢ 0) where
-  refused-is : (a p : ℕ) → judgement q m ≡ refuse a p → Turned q n from m after ends (record { reply = record { answer = r .reply .answer; place = r .reply .place; records = n }; tally = r .tally })
+module _ (q : Run) (n : ℕ) (from ends m to after : List ℕ) (r : Tried) (inside : 16 * n ≤ length from) (room : length to ≡ 32768) (t : Table (held n from) ends (q .table))
+    (j : Judged q m to after r) (z : r .reply .answer ≢ 0) where
+  refused-is : (a p : ℕ) → judgement q m ≡ refuse a p → Turned q n from m after ends (record { reply = record { answer = r .reply .answer; place = r .reply .place; records = n }; counts = r .counts })
   unfolding reply written kept
   refused-is a p x =
       let y : r .reply ≡ record { answer = a; place = p; records = 0 } = rw x at (j .answers .replies) in
       record {
         replies = rw (x, y, held-size n from ends (q .table) inside t);
-        tallied = j .tallied e;
+        counted = j .counted;
+        few = j .few;
         length-is = ap length (j .answers .output) ∙ (rw x room);
         stays = λ _. rw (turn-refused q m a p x) t;
         goes = λ g. absurd (z g);
       }
 
-  pub turned-refused : Turned q n from m after ends (record { reply = record { answer = r .reply .answer; place = r .reply .place; records = n }; tally = r .tally })
+  pub turned-refused : Turned q n from m after ends (record { reply = record { answer = r .reply .answer; place = r .reply .place; records = n }; counts = r .counts })
   turned-refused = let (a, p, x) = answer-refused (judgement q m) (r .reply) (j .answers .replies) z in refused-is a p x
 
 -- an accepted move: the successor u lies in the other buffer
-module _ (q : Run) (m to after : List ℕ) (c : Tally) (r : Tried) (room : length to ≡ 32768) (w : Within (q .table)) (j : Judged q m c to after r) where
+module _ (q : Run) (m to after : List ℕ) (r : Tried) (room : length to ≡ 32768) (w : Within (q .table)) (j : Judged q m to after r) where
   module _ (u : Term) (accepted : judgement q m ≡ accept u) where
     next-within : Within u
     unfolding judgement
@@ -202,14 +200,15 @@ module _ (q : Run) (m to after : List ℕ) (c : Tally) (r : Tried) (room : lengt
       ap length after-is ∙ (length-append (encode u) (drop (16 * size u) to) ∙ omega (arith, length-encode u, length-drop (16 * size u) to, next-within .small, room)),
     )
 
-    turned : (n : ℕ) (from ends : List ℕ) → c ≡ tallyOf (q .tally) → r .reply .answer ≡ 0 → EndsFrom (take (16 * r .reply .records) after) ends 0 → Turned q n from m after ends r
+    turned : (n : ℕ) (from ends : List ℕ) → r .reply .answer ≡ 0 → EndsFrom (take (16 * r .reply .records) after) ends 0 → Turned q n from m after ends r
     unfolding kept
-    turned n from ends e z h =
+    turned n from ends z h =
         let (v, ev) = accepted-move q m u accepted in
         let is : take (16 * r .reply .records) after ≡ encode u = rw (records-are, after-is) (take-at (encode u) (drop (16 * size u) to) (16 * size u) (length-encode u)) in
         record {
           replies = rw accepted reply-is;
-          tallied = j .tallied e;
+          counted = j .counted;
+          few = j .few;
           length-is = places .1;
           stays = λ g. absurd (g z);
           goes = λ _. rw (turn-accepted q m u v accepted ev) (record { holds = record { is = is; right = next-within .right }; within = next-within; end = h });
@@ -218,17 +217,16 @@ module _ (q : Run) (m to after : List ℕ) (c : Tally) (r : Tried) (room : lengt
   pub successor-places : r .reply .answer ≡ 0 → (r .reply .records ≤ 2048) × (length after ≡ 32768)
   successor-places z = let (u, e) = judgement-accepted q m (r .reply) (j .answers .replies) z in places u e
 
-  pub turned-accepted : (n : ℕ) (from ends : List ℕ) → c ≡ tallyOf (q .tally) → r .reply .answer ≡ 0 → EndsFrom (take (16 * r .reply .records) after) ends 0 → Turned q n from m after ends r
-  turned-accepted n from ends t z h = let (u, e) = judgement-accepted q m (r .reply) (j .answers .replies) z in turned u e n from ends t z h
+  pub turned-accepted : (n : ℕ) (from ends : List ℕ) → r .reply .answer ≡ 0 → EndsFrom (take (16 * r .reply .records) after) ends 0 → Turned q n from m after ends r
+  turned-accepted n from ends z h = let (u, e) = judgement-accepted q m (r .reply) (j .answers .replies) z in turned u e n from ends z h
 
 -- the table that is kept, and the next move on it
-pub going-begins : (x y ends m : List ℕ) (k : Kept) (i : ℕ) → Going x y ends k i → length m ≡ 6 → Begins (k .records) (cond (k .second) y x) ends m (cond (k .second) x y) (k .tally)
-going-begins x y ends m k i g six = record {
+pub going-begins : (x y ends m : List ℕ) (k : Kept) → Going x y ends k → length m ≡ 6 → Begins (k .records) (cond (k .second) y x) ends m (cond (k .second) x y)
+going-begins x y ends m k g six = record {
   asks = record {
     known = table-known _ _ _ (g .keeps .table);
     six = six;
     room = cond-length (k .second) y x (g .keeps .second-room) (g .keeps .first-room);
-    counts = small-room (k .tally) i 2048 (g .small) (g .early) (omega arith);
   };
   inside = omega (arith, cond-length (k .second) x y (g .keeps .first-room) (g .keeps .second-room), g .keeps .count, g .keeps .table .within .small);
   ends-room = g .keeps .ends-room;
@@ -262,7 +260,6 @@ module _ (q : Run) (m from to ends : List ℕ) (n : ℕ) (r : Tried) (t : Turned
   second-keeps = record {
     table = subst (λ x. Table (held (r .reply .records) x) ends (turn q m .table)) (sym (other (eqb (r .reply .answer) 0))) kept-table;
     count = ap (λ (x : Reply). x .records) (t .replies) ∙ kept-records q m;
-    tallied = t .tallied;
     first-room = t .length-is;
     second-room = from-room;
     ends-room = room;
@@ -277,7 +274,6 @@ module _ (q : Run) (m from to ends : List ℕ) (n : ℕ) (r : Tried) (t : Turned
   first-keeps = record {
     table = subst (λ x. Table (held (r .reply .records) x) ends (turn q m .table)) (sym (other (eqb (r .reply .answer) 0))) kept-table;
     count = ap (λ (x : Reply). x .records) (t .replies) ∙ kept-records q m;
-    tallied = t .tallied;
     first-room = from-room;
     second-room = t .length-is;
     ends-room = room;
@@ -288,24 +284,34 @@ module _ (q : Run) (m from to ends : List ℕ) (n : ℕ) (r : Tried) (t : Turned
       other false = refl
 
 -- a move on the table in the second buffer, and in the first
-module _ (x y ends m : List ℕ) (k : Kept) where
-  pub begins-second : (i : ℕ) → Going x y ends k i → length m ≡ 6 → k .second ≡ true → Begins (k .records) y ends m x (k .tally)
-  begins-second i g six e = subst (λ b. Begins (k .records) (cond b y x) ends m (cond b x y) (k .tally)) e (going-begins x y ends m k i g six)
+module _ (x y ends m : List ℕ) (k : Kept) (g : Going x y ends k) where
+  pub begins-second : length m ≡ 6 → k .second ≡ true → Begins (k .records) y ends m x
+  begins-second six e = subst (λ b. Begins (k .records) (cond b y x) ends m (cond b x y)) e (going-begins x y ends m k g six)
 
-  pub begins-first : (i : ℕ) → Going x y ends k i → length m ≡ 6 → k .second ≡ false → Begins (k .records) x ends m y (k .tally)
-  begins-first i g six e = subst (λ b. Begins (k .records) (cond b y x) ends m (cond b x y) (k .tally)) e (going-begins x y ends m k i g six)
+  pub begins-first : length m ≡ 6 → k .second ≡ false → Begins (k .records) x ends m y
+  begins-first six e = subst (λ b. Begins (k .records) (cond b y x) ends m (cond b x y)) e (going-begins x y ends m k g six)
 
-  module _ (to ends′ : List ℕ) (r : Tried) (room : 2049 < length ends′) (grows : (i : ℕ) → Small (k .tally) i → Small (r .tally) (i + 1)) where
-    pub goes-second : k .second ≡ true → ((q : Run) → Table (held (k .records) y) ends (q .table) → k .tally ≡ tallyOf (q .tally) → Turned q (k .records) y m to ends′ r) → Goes m k x y ends to y ends′ (keptAfter true r)
+  module _ (to ends′ : List ℕ) (r : Tried) (room : 2049 < length ends′) where
+    pub goes-second : k .second ≡ true → ((q : Run) → Table (held (k .records) y) ends (q .table) → Turned q (k .records) y m to ends′ r) → Goes m k x y ends to y ends′ (keptAfter true r)
     unfolding keptAfter
     goes-second e t =
         let at : (q : Run) → Keeps q x y ends k → Turned q (k .records) y m to ends′ r =
-        λ q h. t q (subst (λ b. Table (held (k .records) (cond b y x)) ends (q .table)) e (h .table)) (h .tallied) in
-        record { keeps = λ q h. second-keeps q m y to ends′ (k .records) r (at q h) (h .second-room) room; replies = λ q h. at q h .replies; grows = grows }
+        λ q h. t q (subst (λ b. Table (held (k .records) (cond b y x)) ends (q .table)) e (h .table)) in
+        record {
+          keeps = λ q h. second-keeps q m y to ends′ (k .records) r (at q h) (h .second-room) room;
+          replies = λ q h. at q h .replies;
+          counted = λ q h. at q h .counted;
+          few = at (g .run) (g .keeps) .few;
+        }
 
-    pub goes-first : k .second ≡ false → ((q : Run) → Table (held (k .records) x) ends (q .table) → k .tally ≡ tallyOf (q .tally) → Turned q (k .records) x m to ends′ r) → Goes m k x y ends x to ends′ (keptAfter false r)
+    pub goes-first : k .second ≡ false → ((q : Run) → Table (held (k .records) x) ends (q .table) → Turned q (k .records) x m to ends′ r) → Goes m k x y ends x to ends′ (keptAfter false r)
     unfolding keptAfter
     goes-first e t =
         let at : (q : Run) → Keeps q x y ends k → Turned q (k .records) x m to ends′ r =
-        λ q h. t q (subst (λ b. Table (held (k .records) (cond b y x)) ends (q .table)) e (h .table)) (h .tallied) in
-        record { keeps = λ q h. first-keeps q m x to ends′ (k .records) r (at q h) (h .first-room) room; replies = λ q h. at q h .replies; grows = grows }
+        λ q h. t q (subst (λ b. Table (held (k .records) (cond b y x)) ends (q .table)) e (h .table)) in
+        record {
+          keeps = λ q h. first-keeps q m x to ends′ (k .records) r (at q h) (h .first-room) room;
+          replies = λ q h. at q h .replies;
+          counted = λ q h. at q h .counted;
+          few = at (g .run) (g .keeps) .few;
+        }

@@ -6,50 +6,60 @@ use mathlib.Core.List.{List, _++_}
 use Prim.Native.Nat.{ℕ, _+_, _*_, _-_, _/_, _≤_, _<_}
 use native.Mathlib.Omega.{arith}
 use lib.Dec.{ltb}
-use lib.ListN.{length, take, drop, replicate}
+use lib.ListN.{length, take, drop, replicate, length-replicate}
 use lib.Seq.{take-all, take-at}
 use borrow.Author.Tests.{ltb-false, lt-ltb, le-ltb}
 use Rattle.cows.specs.Basics.{placeIf, Result, refuse, accept, _>>=_, _>>_, forbid}
 use Rattle.cows.specs.Terms.{Term}
 use Rattle.cows.specs.Format.{pieces}
 use Rattle.cows.specs.Tables.{judge}
-use Rattle.cows.specs.Run.{Run, start, replies, movesOf, played, judgePlay, playedReply, playedTally, playedOutput, playedReplies}
+use Rattle.cows.specs.Run.{Run, start, movesOf, played, judgePlay, playedReply, playedTally, playedOutput, playedReplies}
 use Rattle.cows.specs.Run as meaning
 use Rattle.cows.proofs.Basics.{or-false, accept-bind}
 use Rattle.cows.proofs.Lists.{length-pieces, length-replies}
 use Rattle.records.specs.Rewrites.{put}
 use Rattle.records.proofs.Put.{length-put}
-use Rattle.passes.specs.Known.{Known}
+use Rattle.passes.specs.Known.{Table}
+use Rattle.passes.proofs.Tables.{table-size}
 use Rattle.tables.specs.declared.Reply.{Reply}
 use Rattle.tables.specs.Verdict.{checkReply, Checked}
 use Rattle.stepper.proofs.Stepping.{Read, read-known}
 use Rattle.player.specs.declared.turns.Kept.{Kept}
+use Rattle.player.specs.declared.nights.Moved.{Moved}
 use Rattle.player.specs.declared.Played.{Played}
 use Rattle.player.specs.Turns.{held, Keeps}
 use Rattle.player.specs.Nights.{Opens, Ends, Clear, refusedWith, Gives, Plays, PlaysTerm}
 use Rattle.player.proofs.Writing.{put-eq}
 
--- the table copied into the first buffer is held there
-pub copied-in : (table x : List ℕ) {d : List ℕ} → length table ≡ 16 * (length table / 16) → length table ≤ length x → d ≡ put x 0 (take (length table) (drop 0 table)) → table ≡ held (length table / 16) d
-copied-in table x w h e =
-    let all = take-all (length table) table (omega arith) in
-    let l : length table ≡ 16 * (length table / 16) = w in
-    sym (rw (e, all, put-eq x table h) (take-at table (drop (0 + length table) x) (16 * (length table / 16)) l))
+-- before the first move: the table copied into the first of two buffers of zeros is kept there
+abbrev pub zeros : List ℕ
+zeros = replicate 32768 0
 
-pub copied-room : (x bs : List ℕ) {d : List ℕ} → length x ≡ 32768 → d ≡ put x 0 bs → length d ≡ 32768
-copied-room x bs h e = ap length e ∙ (length-put x 0 bs ∙ h)
+module _ (table ends moves out slots x : List ℕ) (o : Clear table ends moves out slots) (e : x ≡ put zeros 0 (take (length table) (drop 0 table))) where
+  zeros-long : length zeros ≡ 32768
+  zeros-long = length-replicate {A = ℕ} 32768 0
 
-module _ (table ends moves out slots x y : List ℕ) (o : Clear table ends moves out slots) (held-is : table ≡ held (length table / 16) x) (first-room : length x ≡ 32768) (second-room : length y ≡ 32768) where
-  pub opens : Opens moves x y ends (length table / 16) slots
-  opens = record {
-    known = subst (λ s. Known s ends) held-is (o .known);
-    inside = omega (arith, o .known .few, first-room);
-    first-room = first-room;
-    second-room = second-room;
+  held-is : table ≡ held (length table / 16) x
+  held-is =
+      let all = take-all (length table) table (omega arith) in
+      let few : length table ≤ length zeros = omega (arith, o .known .few, o .known .whole, zeros-long) in
+      sym (rw (e, all, put-eq zeros table few) (take-at table (drop (0 + length table) zeros) (16 * (length table / 16)) (o .known .whole)))
+
+  abbrev first : Kept
+  first = record { second = false; records = length table / 16 }
+
+  pub keeps-first : (t : Term) → Table table ends t → Keeps (start t) x zeros ends first
+  unfolding start
+  keeps-first t h = record {
+    table = subst (λ s. Table s ends t) held-is h;
+    count = table-size table ends t h;
+    first-room = ap length e ∙ (length-put zeros 0 (take (length table) (drop 0 table)) ∙ zeros-long);
+    second-room = zeros-long;
     ends-room = o .ends-room;
-    short = o .short;
-    slots-room = o .slots-room;
   }
+
+  pub opens : Opens moves (length moves / 6) first x zeros ends slots
+  opens = record { term = o .known .term; keeps = keeps-first (o .known .term) (o .known .table); all = refl; short = o .short; slots-room = o .slots-room }
 
 -- the table that is kept can be written, from either buffer
 module _ (q : Run) (x y ends : List ℕ) (k : Kept) (h : Keeps q x y ends k) where
@@ -57,28 +67,27 @@ module _ (q : Run) (x y ends : List ℕ) (k : Kept) (h : Keeps q x y ends k) whe
   last-fits = let n : k .records ≤ 2048 = omega (arith, h .count, h .table .within .small) in (omega (arith, n, h .first-room), omega (arith, n, h .second-room), n)
 
 -- what is written is what play gives
-plays-term : (t : Term) (moves x y ends out after slots after′ : List ℕ) (k : Kept) → Ends t moves x y ends slots after′ k
-    → after ≡ held (k .records) (cond (k .second) y x) ++ replicate (32768 - 16 * k .records) 0 ++ drop 32768 out
-    → PlaysTerm t moves out after slots after′ (record { reply = record { answer = 0; place = 0; records = k .records }; tally = k .tally })
-unfolding played playedReply playedTally playedOutput playedReplies movesOf
-plays-term t moves x y ends out after slots after′ k h e =
-    let n = length-replies (start t) (pieces 6 (length moves / 6) moves) ∙ length-pieces 6 (length moves / 6) moves in
-    record {
-      replied = ap (λ (c : ℕ). record { answer = 0; place = 0; records = c }) (h .keeps .count);
-      tallied = h .keeps .tallied;
-      output = e ∙ rw (h .keeps .table .holds .is, h .keeps .count);
-      slots-are = h .replied ∙ rw n;
-    }
+module _ (t : Term) (moves x y ends out after slots after′ : List ℕ) (r : Moved) (h : Ends t moves x y ends slots after′ r) where
+  plays-term : after ≡ held (r .kept .records) (cond (r .kept .second) y x) ++ replicate (32768 - 16 * r .kept .records) 0 ++ drop 32768 out
+      → PlaysTerm t moves out after slots after′ (record { reply = record { answer = 0; place = 0; records = r .kept .records }; tally = r .tally })
+  unfolding played playedReply playedTally playedOutput playedReplies movesOf
+  plays-term e =
+      let n = length-replies (start t) (pieces 6 (length moves / 6) moves) ∙ length-pieces 6 (length moves / 6) moves in
+      record {
+        replied = ap (λ (c : ℕ). record { answer = 0; place = 0; records = c }) (h .keeps .count);
+        tallied = h .tallied;
+        output = e ∙ rw (h .keeps .table .holds .is, h .keeps .count);
+        slots-are = h .replied ∙ rw n;
+      }
 
--- from the second buffer, and from the first
-module _ (t : Term) (moves x y ends out after slots after′ : List ℕ) (k : Kept) (h : Ends t moves x y ends slots after′ k) where
-  pub plays-second : k .second ≡ true → after ≡ held (k .records) y ++ replicate (32768 - 16 * k .records) 0 ++ drop 32768 out
-      → PlaysTerm t moves out after slots after′ (record { reply = record { answer = 0; place = 0; records = k .records }; tally = k .tally })
-  plays-second b e = plays-term t moves x y ends out after slots after′ k h (rw b e)
+  -- from the second buffer, and from the first
+  pub plays-second : r .kept .second ≡ true → after ≡ held (r .kept .records) y ++ replicate (32768 - 16 * r .kept .records) 0 ++ drop 32768 out
+      → PlaysTerm t moves out after slots after′ (record { reply = record { answer = 0; place = 0; records = r .kept .records }; tally = r .tally })
+  plays-second b e = plays-term (rw b e)
 
-  pub plays-first : k .second ≡ false → after ≡ held (k .records) x ++ replicate (32768 - 16 * k .records) 0 ++ drop 32768 out
-      → PlaysTerm t moves out after slots after′ (record { reply = record { answer = 0; place = 0; records = k .records }; tally = k .tally })
-  plays-first b e = plays-term t moves x y ends out after slots after′ k h (rw b e)
+  pub plays-first : r .kept .second ≡ false → after ≡ held (r .kept .records) x ++ replicate (32768 - 16 * r .kept .records) 0 ++ drop 32768 out
+      → PlaysTerm t moves out after slots after′ (record { reply = record { answer = 0; place = 0; records = r .kept .records }; tally = r .tally })
+  plays-first b e = plays-term (rw b e)
 
 -- refused whole: the table, the list, the buffers
 gives-refused : (n p : ℕ) (out slots : List ℕ) (r : Played) → r ≡ refusedWith n p → Gives (refuse n p) out out slots slots r

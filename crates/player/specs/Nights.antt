@@ -2,23 +2,29 @@
 use mathlib.Core.Path.{_≡_}
 use mathlib.Core.List.{List, _++_}
 use Prim.Native.Nat.{ℕ, _+_, _*_, _/_, _≤_, _<_}
-use lib.ListN.{length, drop}
+use lib.ListN.{length, take, drop}
 use Rattle.cows.specs.Basics.{Result, accept}
 use Rattle.cows.specs.Terms.{Term}
 use Rattle.cows.specs.Format.{bytes2, pieces}
 use Rattle.cows.specs.Step.{Reply}
-use Rattle.cows.specs.Run.{noTally, Run, start, run, replies, replyBytes, movesOf, played, playedReply, playedTally, playedOutput, playedReplies}
+use Rattle.cows.specs.Run.{noTally, Run, start, run, judgement, turn, kept, replies, replyBytes, movesOf, played, playedReply, playedTally, playedOutput, playedReplies}
 use Rattle.cows.specs.Run as meaning
-use Rattle.passes.specs.Known.{Table, Known}
+use Rattle.records.specs.Rewrites.{put}
+use Rattle.passes.specs.Known.{Known}
 use Rattle.stepper.specs.Replies.{replyOf}
-use Rattle.tally.specs.Counted.{tallyOf, Small}
+use Rattle.tally.specs.declared.Tally.{Tally}
+use Rattle.tally.specs.Counted.{tallyOf, sumOf, Small}
 use Rattle.player.specs.declared.turns.Kept.{Kept}
+use Rattle.player.specs.declared.nights.Moved.{Moved}
 use Rattle.player.specs.declared.Played.{Played}
-use Rattle.player.specs.Turns.{held, Keeps}
+use Rattle.player.specs.Turns.{Keeps, Going}
 
 -- answer, place and records in six bytes
 abbrev pub sixBytes : ℕ → ℕ → ℕ → List ℕ
 sixBytes a p n = bytes2 a ++ (bytes2 p ++ bytes2 n)
+
+abbrev pub replySix : Reply → List ℕ
+replySix r = sixBytes (r .answer) (r .place) (r .records)
 
 -- The run of the first i moves of a list from the table of t, and its replies.
 unfoldable pub bookAt : Term → List ℕ → ℕ → Run
@@ -27,31 +33,55 @@ bookAt t l i = run (start t) (pieces 6 i l)
 unfoldable pub repliesAt : Term → List ℕ → ℕ → List Reply
 repliesAt t l i = replies (start t) (pieces 6 i l)
 
--- What a night asks: a known table of n records in the first buffer, a list of at most 10,000 moves, and room for the replies.
-pub record Opens (moves x y ends : List ℕ) (n : ℕ) (slots : List ℕ) : Type 0 where
-  pub known : Known (held n x) ends
-  pub inside : 16 * n ≤ length x
-  pub first-room : length x ≡ 32768
-  pub second-room : length y ≡ 32768
-  pub ends-room : 2049 < length ends
+-- Move i of a list.
+abbrev pub moveAt : List ℕ → ℕ → List ℕ
+moveAt l i = take 6 (drop (6 * i) l)
+
+-- What move i of a list of at most 10,000 asks: a kept table, and room for the replies.
+pub record Ready (moves : List ℕ) (i : ℕ) (k : Kept) (x y ends slots : List ℕ) : Type 0 where
+  pub going : Going x y ends k
+  pub inside : i < length moves / 6
   pub short : length moves ≤ 60000
   pub slots-room : 6 * (length moves / 6) ≤ length slots
 
--- The state after i moves: the run of these is kept, and their replies are the book's.
-pub record Playing (moves x₀ y₀ ends₀ : List ℕ) (n : ℕ) (slots x y ends replied : List ℕ) (k : Kept) (i : ℕ) : Type 0 where
+-- What it gives: the run goes on by the move, its reply stands in its place, and what it counts, added to the tally, is the run's then.
+pub record Made (moves : List ℕ) (i : ℕ) (k : Kept) (x y ends slots x′ y′ ends′ slots′ : List ℕ) (r : Moved) : Type 0 where
+  pub keeps : (q : Run) → Keeps q x y ends k → Keeps (turn q (moveAt moves i)) x′ y′ ends′ (r .kept)
+  pub replies : (q : Run) → Keeps q x y ends k → slots′ ≡ put slots (6 * i) (replySix (kept q (judgement q (moveAt moves i))))
+  pub counted : (q : Run) → Keeps q x y ends k → sumOf (tallyOf (q .tally)) (r .tally) ≡ tallyOf (turn q (moveAt moves i) .tally)
+  pub few : Small (r .tally) 1
+
+-- The same, and what the move counts is added to the tally c that is lent.
+pub record Recorded (moves : List ℕ) (i : ℕ) (k : Kept) (x y ends slots : List ℕ) (c : Tally) (x′ y′ ends′ slots′ : List ℕ) (c′ : Tally) (k′ : Kept) : Type 0 where
+  pub counts : Tally
+  pub made : Made moves i k x y ends slots x′ y′ ends′ slots′ (record { kept = k′; tally = counts })
+  pub added : c′ ≡ sumOf c counts
+
+-- What a night of n moves asks: a kept table, the whole of a list of at most 10,000 moves, and room for the replies.
+pub record Opens (moves : List ℕ) (n : ℕ) (first : Kept) (x y ends slots : List ℕ) : Type 0 where
+  pub term : Term
+  pub keeps : Keeps (start term) x y ends first
+  pub all : n ≡ length moves / 6
+  pub short : length moves ≤ 60000
+  pub slots-room : 6 * (length moves / 6) ≤ length slots
+
+-- The state after i moves: the run of these is kept, their replies are the book's, and c is the tally.
+pub record Playing (moves : List ℕ) (first : Kept) (x₀ y₀ ends₀ slots : List ℕ) (i : ℕ) (k : Kept) (x y ends replied : List ℕ) (c : Tally) : Type 0 where
   pub inside : i ≤ length moves / 6
-  pub keeps : (t : Term) → Table (held n x₀) ends₀ t → Keeps (bookAt t moves i) x y ends k
-  pub replies-are : (t : Term) → Table (held n x₀) ends₀ t → replied ≡ replyBytes (repliesAt t moves i) ++ drop (6 * i) slots
-  pub small : Small (k .tally) i
+  pub keeps : (t : Term) → Keeps (start t) x₀ y₀ ends₀ first → Keeps (bookAt t moves i) x y ends k
+  pub replies-are : (t : Term) → Keeps (start t) x₀ y₀ ends₀ first → replied ≡ replyBytes (repliesAt t moves i) ++ drop (6 * i) slots
+  pub tallied : (t : Term) → Keeps (start t) x₀ y₀ ends₀ first → c ≡ tallyOf (bookAt t moves i .tally)
+  pub small : Small c i
   pub same-first : length x ≡ length x₀
   pub same-second : length y ≡ length y₀
   pub same-ends : length ends ≡ length ends₀
   pub same-slots : length replied ≡ length slots
 
--- What it gives: the run of the whole list is kept, and the replies are the book's.
-pub record Ends (t : Term) (moves x y ends slots after : List ℕ) (k : Kept) : Type 0 where
-  pub keeps : Keeps (run (start t) (movesOf moves)) x y ends k
+-- What it gives: the run of the whole list is kept, and replies and tally are the book's.
+pub record Ends (t : Term) (moves x y ends slots after : List ℕ) (r : Moved) : Type 0 where
+  pub keeps : Keeps (run (start t) (movesOf moves)) x y ends (r .kept)
   pub replied : after ≡ replyBytes (replies (start t) (movesOf moves)) ++ drop (6 * (length moves / 6)) slots
+  pub tallied : r .tally ≡ tallyOf (run (start t) (movesOf moves) .tally)
 
 -- What playing on a known table asks: room for all that play writes.
 pub record Clear (table ends moves out slots : List ℕ) : Type 0 where

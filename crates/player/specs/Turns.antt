@@ -1,10 +1,10 @@
--- One move of a list: what is asked and given by its judgement, by its count, and by keeping the successor in the other of two buffers.
+-- One move of a list: what is asked and given by its judgement, and by keeping the successor in the other of two buffers.
 use mathlib.Core.Path.{_≡_}
 use mathlib.Core.Logic.{_≢_}
 use mathlib.Core.Bool.{Bool, not, cond}
 use mathlib.Core.List.{List}
 use mathlib.Core.Option.{some}
-use Prim.Native.Nat.{ℕ, _+_, _*_, _≤_, _<_}
+use Prim.Native.Nat.{ℕ, _*_, _≤_, _<_}
 use lib.Dec.{eqb}
 use lib.ListN.{length, take}
 use Rattle.cows.specs.Basics.{accept}
@@ -15,8 +15,7 @@ use Rattle.cows.specs.Load.{copies}
 use Rattle.cows.specs.Run.{Run, judgement, turn, kept}
 use Rattle.passes.specs.Known.{Table, Known}
 use Rattle.stepper.specs.Replies.{replyOf, Answers}
-use Rattle.tally.specs.declared.Tally.{Tally}
-use Rattle.tally.specs.Counted.{tallyOf, Room, Small}
+use Rattle.tally.specs.Counted.{tallyOf, sumOf, Small}
 use Rattle.player.specs.declared.turns.Kept.{Kept}
 use Rattle.player.specs.declared.turns.Tried.{Tried}
 use Rattle.player.specs.declared.turns.Next.{Next}
@@ -33,59 +32,57 @@ pub record Copied (s ends m : List ℕ) (r : ℕ) : Type 0 where
   pub is : (t : Term) → Table s ends t → (v : Move) → readMove m ≡ some v → r ≡ copies t v
   pub few : r ≤ 2048
 
--- What the judgement of a move asks: a known table, six bytes, a buffer for any successor, and a tally that can be counted on.
-pub record Asks (s ends m to : List ℕ) (c : Tally) : Type 0 where
+-- What the judgement of a move asks: a known table, six bytes, and a buffer for any successor.
+pub record Asks (s ends m to : List ℕ) : Type 0 where
   pub known : Known s ends
   pub six : length m ≡ 6
   pub room : length to ≡ 32768
-  pub counts : Room c 2048
 
--- What it gives in the run q: the step's reply and output, and the tally.
-pub record Judged (q : Run) (m : List ℕ) (c : Tally) (to after : List ℕ) (r : Tried) : Type 0 where
+-- What it gives in the run q: the step's reply and output; and what the move counts, added to the tally, is the tally of the run's next turn.
+pub record Judged (q : Run) (m to after : List ℕ) (r : Tried) : Type 0 where
   pub answers : Answers (judgement q m) to after (r .reply)
-  pub tallied : c ≡ tallyOf (q .tally) → r .tally ≡ tallyOf (turn q m .tally)
-  pub grows : (i : ℕ) → Small c i → Small (r .tally) (i + 1)
+  pub counted : sumOf (tallyOf (q .tally)) (r .counts) ≡ tallyOf (turn q m .tally)
+  pub few : Small (r .counts) 1
 
 -- The table of n records that lies in a buffer.
 abbrev pub held : ℕ → List ℕ → List ℕ
 held n x = take (16 * n) x
 
 -- What a turn asks: as the judgement, of the table in the first of two buffers.
-pub record Begins (n : ℕ) (from ends m to : List ℕ) (c : Tally) : Type 0 where
-  pub asks : Asks (held n from) ends m to c
+pub record Begins (n : ℕ) (from ends m to : List ℕ) : Type 0 where
+  pub asks : Asks (held n from) ends m to
   pub inside : 16 * n ≤ length from
   pub ends-room : 2049 < length ends
 
--- What it gives in the run q: the book's reply, the tally, and the next table with its ends, in the second buffer if the move was accepted.
+-- What it gives in the run q: the book's reply, what the move counts, and the next table with its ends, in the second buffer if it was accepted.
 pub record Turned (q : Run) (n : ℕ) (from m after next : List ℕ) (r : Tried) : Type 0 where
   pub replies : r .reply ≡ replyOf (kept q (judgement q m))
-  pub tallied : r .tally ≡ tallyOf (turn q m .tally)
+  pub counted : sumOf (tallyOf (q .tally)) (r .counts) ≡ tallyOf (turn q m .tally)
+  pub few : Small (r .counts) 1
   pub length-is : length after ≡ 32768
   pub stays : r .reply .answer ≢ 0 → Table (held (r .reply .records) from) next (turn q m .table)
   pub goes : r .reply .answer ≡ 0 → Table (held (r .reply .records) after) next (turn q m .table)
 
--- The run q is in this state: its table in one of the buffers, with its ends, its number of records, and its tally.
+-- The table of the run q is kept: in one of the buffers, with its ends and its number of records.
 pub record Keeps (q : Run) (x y ends : List ℕ) (k : Kept) : Type 0 where
   pub table : Table (held (k .records) (cond (k .second) y x)) ends (q .table)
   pub count : k .records ≡ size (q .table)
-  pub tallied : k .tally ≡ tallyOf (q .tally)
   pub first-room : length x ≡ 32768
   pub second-room : length y ≡ 32768
   pub ends-room : 2049 < length ends
 
--- Some run is, after i moves of at most 10,000.
-pub record Going (x y ends : List ℕ) (k : Kept) (i : ℕ) : Type 0 where
+-- That of some run is.
+pub record Going (x y ends : List ℕ) (k : Kept) : Type 0 where
   pub run : Run
   pub keeps : Keeps run x y ends k
-  pub small : Small (k .tally) i
-  pub early : i < 10000
 
 -- What is kept after a move on the table in the second buffer, or in the first: the other one if it was accepted.
 unfoldable pub keptAfter : Bool → Tried → Next
-keptAfter second r = record { reply = r .reply; kept = record { second = cond (eqb (r .reply .answer) 0) (not second) second; records = r .reply .records; tally = r .tally } }
+keptAfter second r = record { reply = r .reply; kept = record { second = cond (eqb (r .reply .answer) 0) (not second) second; records = r .reply .records }; counts = r .counts }
 
--- What a move on the kept table gives: the run goes on by it, and the reply is the book's.
+-- What a move on the kept table gives: the run goes on by it, and reply and counts are the book's.
 pub record Goes (m : List ℕ) (k : Kept) (x y ends x′ y′ ends′ : List ℕ) (r : Next) : Type 0 where
   pub keeps : (q : Run) → Keeps q x y ends k → Keeps (turn q m) x′ y′ ends′ (r .kept)
   pub replies : (q : Run) → Keeps q x y ends k → r .reply ≡ replyOf (kept q (judgement q m))
-  pub grows : (i : ℕ) → Small (k .tally) i → Small (r .kept .tally) (i + 1)
+  pub counted : (q : Run) → Keeps q x y ends k → sumOf (tallyOf (q .tally)) (r .counts) ≡ tallyOf (turn q m .tally)
+  pub few : Small (r .counts) 1

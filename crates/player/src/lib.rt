@@ -4,14 +4,17 @@ mod loads;
 mod nights;
 mod turns;
 
+use crate::turns::Kept;
 use tables::Reply;
 use tally::Tally;
 ghost use mathlib.Core.Path.{_≡_};
+ghost use Rattle.cows.specs.Basics.{accept};
 ghost use Rattle.cows.specs.Terms.{Term};
 ghost use Rattle.cows.specs.Tables.{judge};
 ghost use Rattle.passes.specs.Known.{Table};
 ghost use Rattle.player.specs.Loads.{loadReply};
 ghost use Rattle.player.specs.Nights.{Clear, refusedWith, Plays, PlaysTerm};
+ghost use Rattle.player.specs.Demand.{Demand3};
 
 // Play's own reply, and the tally of its accepted moves.
 pub struct Played {
@@ -47,16 +50,21 @@ fn play_known(
     let mut first = [0u8; 32768];
     let mut second = [0u8; 32768];
     records::copying::copy(table, 0, table.len(), &mut first, 0);
-    let kept = nights::night(
+    let night = nights::night(
+        Kept {
+            second: false,
+            records: table.len() / 16,
+        },
         moves,
         &mut first,
         &mut second,
         ends,
-        table.len() / 16,
         replies,
+        moves.len() / 6,
     );
+    let kept = night.kept;
     let records = kept.records;
-    let tally = kept.tally;
+    let tally = night.tally;
     if kept.second {
         buffers::put_table(&second, records, out);
     } else {
@@ -74,8 +82,9 @@ fn play_known(
 
 // A list of moves on a table, any bytes for both: 0, 0 and the records of the last table, which the output then begins with, zeros behind it up to byte
 // 32,768, and in `replies` answer, place and records kept for each move; or the refusal of 1 to 7, 19 or 21, its place and 0, with nothing written.
+// On a well-formed table that is demand 3.
 pub fn play(table: &[u8], moves: &[u8], out: &mut [u8], replies: &mut [u8]) -> Played
-    ensures { λ r. ⌜ Plays (now (table .entry)) (now (moves .entry)) (now (out .entry)) (now (out .exit)) (now (replies .entry)) (now (replies .exit)) r ⌝ }
+    ensures { λ r. ⌜ Plays (now (table .entry)) (now (moves .entry)) (now (out .entry)) (now (out .exit)) (now (replies .entry)) (now (replies .exit)) r × ((t : Term) → judge (now (table .entry)) ≡ accept t → Demand3 t (now (moves .entry)) (now (out .entry)) (now (out .exit)) (now (replies .entry)) (now (replies .exit)) r) ⌝ }
 {
     let mut ends = [0u16; 2050];
     let checked = tables::check_ends(table, &mut ends);

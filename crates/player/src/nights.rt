@@ -1,42 +1,91 @@
-// A night: every move of a list, one after the other, and the reply to each.
+// A night: every move of a list, one after the other, the reply to each, and the tally of all. The loop owns the tally and lends it to each move,
+// which lends it on to be counted in. Functions that hold or lend a tally are proved by hand, so these do nothing else: all other work is in `move_at`.
 use crate::buffers;
 use crate::turns;
 use crate::turns::Kept;
-ghost use mathlib.Core.Path.{_≡_};
-ghost use Prim.Native.Nat.{_*_, _/_, _≤_};
-ghost use lib.ListN.{length};
+use tally::Tally;
 ghost use Rattle.cows.specs.Terms.{Term};
-ghost use Rattle.passes.specs.Known.{Table, Known};
-ghost use Rattle.player.specs.Turns.{held};
-ghost use Rattle.player.specs.Nights.{Opens, Ends};
+ghost use Rattle.cows.specs.Run.{start};
+ghost use Rattle.tally.specs.Counted.{Small};
+ghost use Rattle.player.specs.Turns.{Keeps};
+ghost use Rattle.player.specs.Nights.{Ready, Made, Recorded, Opens, Ends};
 
-// Plays the moves on the table of n records in the first buffer; what is kept at the end.
-pub fn night(
+// A move made, or a night of them: what is kept then, and the tally.
+pub struct Moved {
+    pub kept: Kept,
+    pub tally: Tally,
+}
+
+// Move i of a list, all but the counting: made on the table that is kept, and its reply written.
+fn move_at(
+    kept: Kept,
     moves: &[u8],
     x: &mut [u8],
     y: &mut [u8],
     ends: &mut [u16],
-    n: usize,
     replies: &mut [u8],
-) -> Kept
-    requires { ⌜ Opens (now moves) (now x) (now y) (now ends) n (now replies) ⌝ }
-    ensures { λ r. ⌜ ((t : Term) → Table (held n (now (x .entry))) (now (ends .entry)) t → Ends t (now (moves .entry)) (now (x .exit)) (now (y .exit)) (now (ends .exit)) (now (replies .entry)) (now (replies .exit)) r) ⌝ }
+    i: usize,
+) -> Moved
+    requires { ⌜ Ready (now moves) i kept (now x) (now y) (now ends) (now replies) ⌝ }
+    ensures { λ r. ⌜ Made (now (moves .entry)) i kept (now (x .entry)) (now (y .entry)) (now (ends .entry)) (now (replies .entry)) (now (x .exit)) (now (y .exit)) (now (ends .exit)) (now (replies .exit)) r ⌝ }
 {
-    let count = moves.len() / 6;
-    let mut kept = Kept {
-        second: false,
-        records: n,
-        tally: tally::zeros(),
-    };
-    let mut i = 0;
-    while i < count {
-        let at = 6 * i;
-        let to = at + 6;
-        let next = turns::move_on(kept, x, y, ends, &moves[at..to]);
-        let reply = next.reply;
-        buffers::put_reply(reply, replies, at);
-        kept = next.kept;
+    let at = 6 * i;
+    let to = at + 6;
+    let next = turns::move_on(kept, x, y, ends, &moves[at..to]);
+    let reply = next.reply;
+    let after = next.kept;
+    let tally = next.counts;
+    buffers::put_reply(reply, replies, at);
+    Moved { kept: after, tally }
+}
+
+// Move i, and the tally that is lent, lent on.
+fn record_move(
+    t: &mut Tally,
+    kept: Kept,
+    moves: &[u8],
+    x: &mut [u8],
+    y: &mut [u8],
+    ends: &mut [u16],
+    replies: &mut [u8],
+    i: usize,
+) -> Kept
+    requires { ⌜ Ready (now moves) i kept (now x) (now y) (now ends) (now replies) × Small (now t) i ⌝ }
+    ensures { λ r. ⌜ Recorded (now (moves .entry)) i kept (now (x .entry)) (now (y .entry)) (now (ends .entry)) (now (replies .entry)) (now (t .entry)) (now (x .exit)) (now (y .exit)) (now (ends .exit)) (now (replies .exit)) (now (t .exit)) r ⌝ }
+{
+    let next = move_at(kept, moves, x, y, ends, replies, i);
+    tally::count(&mut *t, next.tally);
+    next.kept
+}
+
+// Plays the n moves of a list on the table that is kept at first: owns the tally, and lends it to each.
+pub fn night(
+    first: Kept,
+    moves: &[u8],
+    x: &mut [u8],
+    y: &mut [u8],
+    ends: &mut [u16],
+    replies: &mut [u8],
+    n: usize,
+) -> Moved
+    requires { ⌜ Opens (now moves) n first (now x) (now y) (now ends) (now replies) ⌝ }
+    ensures { λ r. ⌜ ((t : Term) → Keeps (start t) (now (x .entry)) (now (y .entry)) (now (ends .entry)) first → Ends t (now (moves .entry)) (now (x .exit)) (now (y .exit)) (now (ends .exit)) (now (replies .entry)) (now (replies .exit)) r) ⌝ }
+{
+    let mut t = tally::zeros();
+    let mut kept = first;
+    let mut i: usize = 0;
+    while i < n {
+        kept = record_move(
+            &mut t,
+            kept,
+            moves,
+            &mut *x,
+            &mut *y,
+            &mut *ends,
+            &mut *replies,
+            i,
+        );
         i += 1;
     }
-    kept
+    Moved { kept, tally: t }
 }

@@ -1,34 +1,32 @@
-// One move of a list: judged on the table that is kept, counted, and its successor kept if it is accepted. Two buffers take the tables by turns.
+// One move of a list: judged on the table that is kept, and its successor kept if it is accepted. Two buffers take the tables by turns.
 use crate::loads;
 use records::wide16;
 use records::word_at;
 use tables::Reply;
 use tally::Tally;
 ghost use mathlib.Core.Path.{_≡_};
-ghost use Prim.Native.Nat.{ℕ, _+_};
 ghost use lib.ListN.{length};
 ghost use Rattle.cows.specs.Run.{Run};
 ghost use Rattle.passes.specs.Known.{Table};
-ghost use Rattle.tally.specs.Counted.{tallyOf, Small};
 ghost use Rattle.player.specs.Turns.{held, Accepted, Copied, Asks, Judged, Begins, Turned, Keeps, Going, Goes, keptAfter};
 
-// What is kept from move to move: which buffer the table is in, its records, and the tally.
+// What is kept from move to move: which buffer the table is in, and its records.
 pub struct Kept {
     pub second: bool,
     pub records: usize,
-    pub tally: Tally,
 }
 
-// A judged move: the reply to it, and the tally afterwards.
+// A judged move: the reply to it, and what it counts.
 pub struct Tried {
     pub reply: Reply,
-    pub tally: Tally,
+    pub counts: Tally,
 }
 
-// A move's end: the reply to it, with the records then kept, and what is kept.
+// A move's end: the reply to it, with the records then kept; what is kept; and what it counts.
 pub struct Next {
     pub reply: Reply,
     pub kept: Kept,
+    pub counts: Tally,
 }
 
 // The load that an accepted move copies: of a body, by an unfolding.
@@ -43,34 +41,34 @@ fn copied(s: &[u8], ends: &[u16], m: &[u8]) -> u32
     loads::load_between(s, a + 1, wide16(ends[a]))
 }
 
-// A move on a known table, counted if it is accepted.
-fn judged(s: &[u8], ends: &[u16], m: &[u8], to: &mut [u8], c: Tally) -> Tried
-    requires { ⌜ Asks (now s) (now ends) (now m) (now to) c ⌝ }
-    ensures { λ r. ⌜ ((q : Run) → Table (now (s .entry)) (now (ends .entry)) (q .table) → Judged q (now (m .entry)) c (now (to .entry)) (now (to .exit)) r) ⌝ }
+// A move on a known table, and what it counts: nothing, if it is refused.
+fn judged(s: &[u8], ends: &[u16], m: &[u8], to: &mut [u8]) -> Tried
+    requires { ⌜ Asks (now s) (now ends) (now m) (now to) ⌝ }
+    ensures { λ r. ⌜ ((q : Run) → Table (now (s .entry)) (now (ends .entry)) (q .table) → Judged q (now (m .entry)) (now (to .entry)) (now (to .exit)) r) ⌝ }
 {
     let step = stepper::step_known(s, ends, m, to);
     if step.answer != 0 {
         return Tried {
             reply: step,
-            tally: c,
+            counts: tally::zeros(),
         };
     }
     Tried {
         reply: step,
-        tally: tally::after(c, m[0], copied(s, ends, m)),
+        counts: tally::counts(m[0], copied(s, ends, m)),
     }
 }
 
 // A move on the table of n records in `from`; its successor goes to `to`, and `ends` takes the ends of the table then kept. The reply's records are
 // those of that table.
-fn turn(from: &[u8], n: usize, ends: &mut [u16], m: &[u8], to: &mut [u8], c: Tally) -> Tried
-    requires { ⌜ Begins n (now from) (now ends) (now m) (now to) c ⌝ }
-    ensures { λ r. ⌜ ((q : Run) → Table (held n (now (from .entry))) (now (ends .entry)) (q .table) → c ≡ tallyOf (q .tally) → Turned q n (now (from .entry)) (now (m .entry)) (now (to .exit)) (now (ends .exit)) r) × ((i : ℕ) → Small c i → Small (r .tally) (i + 1)) ⌝ }
+fn turn(from: &[u8], n: usize, ends: &mut [u16], m: &[u8], to: &mut [u8]) -> Tried
+    requires { ⌜ Begins n (now from) (now ends) (now m) (now to) ⌝ }
+    ensures { λ r. ⌜ ((q : Run) → Table (held n (now (from .entry))) (now (ends .entry)) (q .table) → Turned q n (now (from .entry)) (now (m .entry)) (now (to .exit)) (now (ends .exit)) r) ⌝ }
 {
     let size = 16 * n;
-    let tried = judged(&from[..size], ends, m, to, c);
+    let tried = judged(&from[..size], ends, m, to);
     let reply = tried.reply;
-    let tally = tried.tally;
+    let counts = tried.counts;
     if reply.answer != 0 {
         return Tried {
             reply: Reply {
@@ -78,12 +76,12 @@ fn turn(from: &[u8], n: usize, ends: &mut [u16], m: &[u8], to: &mut [u8], c: Tal
                 place: reply.place,
                 records: n,
             },
-            tally,
+            counts,
         };
     }
     let after = 16 * reply.records;
     records::ends::ends(&to[..after], ends);
-    Tried { reply, tally }
+    Tried { reply, counts }
 }
 
 // What is kept after a move on the table in the second buffer, or in the first.
@@ -91,15 +89,15 @@ fn kept_after(second: bool, tried: Tried) -> Next
     ensures { λ r. ⌜ r ≡ keptAfter second tried ⌝ }
 {
     let reply = tried.reply;
-    let tally = tried.tally;
+    let counts = tried.counts;
     if reply.answer == 0 {
         return Next {
             reply,
             kept: Kept {
                 second: !second,
                 records: reply.records,
-                tally,
             },
+            counts,
         };
     }
     Next {
@@ -107,20 +105,19 @@ fn kept_after(second: bool, tried: Tried) -> Next
         kept: Kept {
             second,
             records: reply.records,
-            tally,
         },
+        counts,
     }
 }
 
 // A move on the table that is kept in one of the buffers.
 pub fn move_on(kept: Kept, x: &mut [u8], y: &mut [u8], ends: &mut [u16], m: &[u8]) -> Next
-    requires { ⌜ ((i : ℕ) × Going (now x) (now y) (now ends) kept i) × (length (now m) ≡ 6) ⌝ }
+    requires { ⌜ Going (now x) (now y) (now ends) kept × (length (now m) ≡ 6) ⌝ }
     ensures { λ r. ⌜ Goes (now (m .entry)) kept (now (x .entry)) (now (y .entry)) (now (ends .entry)) (now (x .exit)) (now (y .exit)) (now (ends .exit)) r ⌝ }
 {
     let n = kept.records;
-    let tally = kept.tally;
     if kept.second {
-        return kept_after(true, turn(y, n, ends, m, x, tally));
+        return kept_after(true, turn(y, n, ends, m, x));
     }
-    kept_after(false, turn(x, n, ends, m, y, tally))
+    kept_after(false, turn(x, n, ends, m, y))
 }

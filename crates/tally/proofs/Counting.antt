@@ -1,5 +1,5 @@
 -- The tally by kinds is the definition's by moves, and its sums fit in a list of at most 10,000 moves.
-use mathlib.Core.Path.{_≡_, refl}
+use mathlib.Core.Path.{_≡_, ap, _∙_}
 use mathlib.Core.List.{List}
 use mathlib.Core.Option.{some}
 use Prim.Native.Nat.{ℕ, _+_, _*_, _<_, _≤_}
@@ -15,33 +15,50 @@ use Rattle.cows.specs.Run as meaning
 use Rattle.cows.proofs.Basics.{cond-case}
 use Rattle.cows.proofs.Step.{read-case}
 use Rattle.tally.specs.declared.Tally.{Tally}
-use Rattle.tally.specs.Counted.{tallyOf, countedBy, Room, Small}
+use Rattle.tally.specs.Counted.{tallyOf, countsOf, sumOf, Room, Small}
 
--- A move that is read counts as its first byte says.
+-- tallies are the same by their counts
+tally-is : {c d : Tally} → c .communications ≡ d .communications → c .kills ≡ d .kills → c .timeouts ≡ d .timeouts → c .copied ≡ d .copied → c ≡ d
+tally-is {c} {d} e f g h =
+    ap (λ (n : ℕ). record { communications = n; kills = c .kills; timeouts = c .timeouts; copied = c .copied }) e
+    ∙ (ap (λ (n : ℕ). record { communications = d .communications; kills = n; timeouts = c .timeouts; copied = c .copied }) f
+    ∙ (ap (λ (n : ℕ). record { communications = d .communications; kills = d .kills; timeouts = n; copied = c .copied }) g
+    ∙ ap (λ (n : ℕ). record { communications = d .communications; kills = d .kills; timeouts = d .timeouts; copied = n }) h))
+
+-- A refused move counts nothing; one that is read counts as its first byte says.
+pub sum-zeros : (c : Tally) → sumOf c (tallyOf noTally) ≡ c
+unfolding sumOf noTally
+sum-zeros c = tally-is (omega arith) (omega arith) (omega arith) (omega arith)
+
 pub counted-reads : (c : meaning.Tally) (t : Term) (m : List ℕ) (v : Move) → readMove m ≡ some v
-    → countedBy (tallyOf c) (byte m 0) (copies t v) ≡ tallyOf (count c t v)
-unfolding countedBy count copies
-counted-reads c t m v e = read-case (λ kind v. countedBy (tallyOf c) kind (copies t v) ≡ tallyOf (count c t v)) m refl refl refl refl refl refl v e
+    → sumOf (tallyOf c) (countsOf (byte m 0) (copies t v)) ≡ tallyOf (count c t v)
+unfolding sumOf countsOf count copies noTally
+counted-reads c t m v e =
+    read-case (λ kind v. sumOf (tallyOf c) (countsOf kind (copies t v)) ≡ tallyOf (count c t v)) m (tally-is (omega arith) (omega arith) (omega arith) (omega arith))
+    (tally-is (omega arith) (omega arith) (omega arith) (omega arith)) (tally-is (omega arith) (omega arith) (omega arith) (omega arith)) (sum-zeros (tallyOf c))
+    (tally-is (omega arith) (omega arith) (omega arith) (omega arith)) (sum-zeros (tallyOf c)) v e
 
--- The bounds: they hold of zeros and behind one move more, counted or refused; and before each of 10,000 moves there is room.
-pub zeros-small : Small (tallyOf noTally) 0
+-- The bounds: they hold of zeros, of what one move counts, and behind one move more; and before each of 10,000 moves there is room.
+pub zeros-small : (i : ℕ) → Small (tallyOf noTally) i
 unfolding noTally
-zeros-small = record { communications-small = omega arith; kills-small = omega arith; timeouts-small = omega arith; copied-small = omega arith }
+zeros-small i = record { communications-small = omega arith; kills-small = omega arith; timeouts-small = omega arith; copied-small = omega arith }
 
-pub small-later : (c : Tally) (i : ℕ) → Small c i → Small c (i + 1)
-small-later c i s = record { communications-small = omega arith; kills-small = omega arith; timeouts-small = omega arith; copied-small = omega arith }
-
-pub counted-small : (c : Tally) (i kind load : ℕ) → Small c i → load ≤ 2048 → Small (countedBy c kind load) (i + 1)
-unfolding countedBy
-counted-small c i kind load s h =
-    cond-case (λ r. Small r (i + 1)) (eqb kind 0) (λ _. small (omega arith) (omega arith) (omega arith) (omega arith))
-    (λ _. cond-case (λ r. Small r (i + 1)) (eqb kind 1) (λ _. small (omega arith) (omega arith) (omega arith) (omega arith))
-    (λ _. cond-case (λ r. Small r (i + 1)) (eqb kind 2) (λ _. small (omega arith) (omega arith) (omega arith) (omega arith))
-    (λ _. cond-case (λ r. Small r (i + 1)) (eqb kind 4) (λ _. small (omega arith) (omega arith) (omega arith) (omega arith))
-    (λ _. small (omega arith) (omega arith) (omega arith) (omega arith)))))
+pub counts-small : (kind load : ℕ) → load ≤ 2048 → Small (countsOf kind load) 1
+unfolding countsOf
+counts-small kind load h =
+    cond-case (λ r. Small r 1) (eqb kind 0) (λ _. small (omega arith) (omega arith) (omega arith) (omega arith))
+    (λ _. cond-case (λ r. Small r 1) (eqb kind 1) (λ _. small (omega arith) (omega arith) (omega arith) (omega arith))
+    (λ _. cond-case (λ r. Small r 1) (eqb kind 2) (λ _. small (omega arith) (omega arith) (omega arith) (omega arith))
+    (λ _. cond-case (λ r. Small r 1) (eqb kind 4) (λ _. small (omega arith) (omega arith) (omega arith) (omega arith))
+    (λ _. zeros-small 1))))
   where
-    small : {r : Tally} → r .communications ≤ i + 1 → r .kills ≤ i + 1 → r .timeouts ≤ i + 1 → r .copied ≤ 2048 * (i + 1) → Small r (i + 1)
+    small : {r : Tally} → r .communications ≤ 1 → r .kills ≤ 1 → r .timeouts ≤ 1 → r .copied ≤ 2048 * 1 → Small r 1
     small a b d e = record { communications-small = a; kills-small = b; timeouts-small = d; copied-small = e }
 
-pub small-room : (c : Tally) (i load : ℕ) → Small c i → i < 10000 → load ≤ 2048 → Room c load
-small-room c i load s h k = record { communications-fit = omega arith; kills-fit = omega arith; timeouts-fit = omega arith; copied-fits = omega arith }
+module _ (c d : Tally) (i : ℕ) (s : Small c i) (one : Small d 1) where
+  pub sum-small : Small (sumOf c d) (i + 1)
+  unfolding sumOf
+  sum-small = record { communications-small = omega arith; kills-small = omega arith; timeouts-small = omega arith; copied-small = omega arith }
+
+  pub small-room : i < 10000 → Room c d
+  small-room h = record { communications-fit = omega arith; kills-fit = omega arith; timeouts-fit = omega arith; copied-fits = omega arith }

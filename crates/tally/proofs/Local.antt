@@ -33,5 +33,6 @@ module _ {M : Type 1} (𝓤 : URA M) (H : Heap 𝓤) (A : Atoms 𝓤) (W : Given
     pub lies-out : ent 𝓤 (sem 𝓤 H A (mem T.the-row .lies r b o)) (sep 𝓤 (H .at fullShare T′.mir b o (T′.lowered r)) (sem 𝓤 H A (T.the-row .own r (T′.lowered r ∷ []))))
     unfolding partOf
     lies-out =
-        qed W (‵ (mem T.the-row .lies r b o) ∷ []) ∵ fpick ! (λ vs. fsplit ! $ spelt ! T.the-row (Is T.the-row) (shows 𝓤 H A T.the-row) (LL.vals T.the-type T′.the-laws) (LL.tells T.the-type T′.the-laws) fullShare r vs b o $
+        qed W (‵ (mem T.the-row .lies r b o) ∷ []) ∵ fpick !
+        (λ vs. fsplit ! $ spelt ! T.the-row (Is T.the-row) (shows 𝓤 H A T.the-row) (LL.vals T.the-type T′.the-laws) (LL.tells T.the-type T′.the-laws) fullShare r vs b o $
         use1 W (‵ (fat fullShare T′.mir b o (T′.lowered r))) (W .laws .raw-at fullShare T′.mir b o (T′.lowered r)) $ frame ! $ done !)

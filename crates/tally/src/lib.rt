@@ -1,7 +1,7 @@
-// Tally: the counts of a list of moves. The sums stand in `counted`, by value; `count` is the one function that is lent a tally and changes it.
+// Tally: the counts of a list of moves. What one move counts is a tally too, made in one place, `counts`; `count` is lent a tally and adds it there.
 ghost use mathlib.Core.Path.{_≡_};
 ghost use Rattle.cows.specs.Run.{noTally};
-ghost use Rattle.tally.specs.Counted.{tallyOf, countedBy, Room};
+ghost use Rattle.tally.specs.Counted.{tallyOf, countsOf, sumOf, Room};
 
 // Communications (meetings), kills (stops), timeouts (expiries), and the load copied by unfoldings.
 pub struct Tally {
@@ -11,7 +11,7 @@ pub struct Tally {
     pub copied: u32,
 }
 
-// Before the first move.
+// Before the first move, and of a refused one.
 pub fn zeros() -> Tally
     ensures { λ r. ⌜ r ≡ tallyOf noTally ⌝ }
 {
@@ -23,55 +23,57 @@ pub fn zeros() -> Tally
     }
 }
 
-// A tally with one move more, of the kind that its first byte says; load is that of the body, if it is an unfolding.
-pub fn counted(c: Tally, kind: u8, load: u32) -> Tally
-    requires { ⌜ Room c load ⌝ }
-    ensures { λ r. ⌜ r ≡ countedBy c kind load ⌝ }
+// What an accepted move counts, of the kind that its first byte says; load is that of the body, if it is an unfolding.
+pub fn counts(kind: u8, load: u32) -> Tally
+    ensures { λ r. ⌜ r ≡ countsOf kind load ⌝ }
 {
     match kind {
         0 => Tally {
-            communications: c.communications,
-            kills: c.kills + 1,
-            timeouts: c.timeouts,
-            copied: c.copied,
+            communications: 0,
+            kills: 1,
+            timeouts: 0,
+            copied: 0,
         },
         1 => Tally {
-            communications: c.communications + 1,
-            kills: c.kills,
-            timeouts: c.timeouts,
-            copied: c.copied,
+            communications: 1,
+            kills: 0,
+            timeouts: 0,
+            copied: 0,
         },
         2 => Tally {
-            communications: c.communications,
-            kills: c.kills,
-            timeouts: c.timeouts + 1,
-            copied: c.copied,
+            communications: 0,
+            kills: 0,
+            timeouts: 1,
+            copied: 0,
         },
         4 => Tally {
-            communications: c.communications,
-            kills: c.kills,
-            timeouts: c.timeouts,
-            copied: c.copied + load,
+            communications: 0,
+            kills: 0,
+            timeouts: 0,
+            copied: load,
         },
-        _ => c,
+        _ => zeros(),
     }
 }
 
-// The tally rides along by `&mut`: one move is counted in it.
-pub fn count(t: &mut Tally, kind: u8, load: u32)
-    requires { ⌜ Room (now t) load ⌝ }
-    ensures { λ _. ⌜ now (t .exit) ≡ countedBy (now (t .entry)) kind load ⌝ }
+// Two tallies as one.
+fn sum(c: Tally, d: Tally) -> Tally
+    requires { ⌜ Room c d ⌝ }
+    ensures { λ r. ⌜ r ≡ sumOf c d ⌝ }
 {
-    let next = counted(*t, kind, load);
-    *t = next;
+    Tally {
+        communications: c.communications + d.communications,
+        kills: c.kills + d.kills,
+        timeouts: c.timeouts + d.timeouts,
+        copied: c.copied + d.copied,
+    }
 }
 
-// The owner of a tally lends it to `count` and hands it back, so that a loop can carry it round by value.
-pub fn after(c: Tally, kind: u8, load: u32) -> Tally
-    requires { ⌜ Room c load ⌝ }
-    ensures { λ r. ⌜ r ≡ countedBy c kind load ⌝ }
+// The tally rides along by `&mut`: what a move counts is added to it.
+pub fn count(t: &mut Tally, one: Tally)
+    requires { ⌜ Room (now t) one ⌝ }
+    ensures { λ _. ⌜ now (t .exit) ≡ sumOf (now (t .entry)) one ⌝ }
 {
-    let mut own = c;
-    count(&mut own, kind, load);
-    own
+    let next = sum(*t, one);
+    *t = next;
 }

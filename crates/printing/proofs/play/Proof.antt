@@ -16,6 +16,6 @@ play-spec =
     (λ c κs. search needs)
     (λ c κs. search needs)
     (λ c. search needs)
-    (λ c κs. last-fits (c .before .before .before .before .before .before .before .before .before .play .ensures))
+    (λ c κs. last-fits (c .before .before .before .before .before .before .before .before .before .play .ensures .0))
     (λ c κs. search needs)
     (λ c. search needs))

@@ -10,24 +10,27 @@ pub move-on-spec : {M : Type 1} → statement M
 move-on-spec =
     tie.close
     (tie.spec
-    (λ c κs. let z = c .before .before .before .before .before .before .before .before .before in
-    begins-second _ _ _ _ (z .args .kept) _ (z .pre .0 .1) (z .pre .1) (c .before .before .before .if1 .taken))
+    (λ c κs. let i = c .before .before .before in
+    let z = i .before .before .before .before .before in
+    begins-second _ _ _ _ (z .args .kept) (z .pre .0) (z .pre .1) (i .if1 .taken))
     (λ c κs. search needs)
     (λ c. search needs)
     (λ c. search needs)
     (λ c. search needs)
-    (λ c. let z = c .before .before .before .before .before .before .before .before .before .before .before .before .before .before .before in
-    let t = c .before .before .before .before .before .turn .ensures in
+    (λ c. let t = c .before .before .before .before .before in
+    let i = t .before .before .before .before in
+    let z = i .before .before .before .before .before in
     subst (Goes _ _ _ _ _ _ _ _) (sym (c .kept-after .ensures))
-    (goes-second _ _ _ _ (z .args .kept) _ _ _ (omega (arith, z .pre .0 .1 .keeps .ends-room, c .before .before .before .before .ends)) (t .1) (c .before .before .before .before .before .before .before .before .before .if1 .taken) (t .0)))
-    (λ c κs. let z = c .before .before .before .before .before .before .before .before .before in
-    begins-first _ _ _ _ (z .args .kept) _ (z .pre .0 .1) (z .pre .1) (c .before .before .before .if1 .left))
+    (goes-second _ _ _ _ (z .args .kept) (z .pre .0) _ _ _ (omega (arith, z .pre .0 .keeps .ends-room, c .before .before .before .before .ends)) (i .if1 .taken) (t .turn .ensures)))
+    (λ c κs. let i = c .before .before .before in
+    let z = i .before .before .before .before .before in
+    begins-first _ _ _ _ (z .args .kept) (z .pre .0) (z .pre .1) (i .if1 .left))
     (λ c κs. search needs)
     (λ c. search needs)
     (λ c. search needs)
     (λ c. search needs)
-    (λ c. let z = c .before .before .before .before .before .before .before .before .before .before .before .before .before .before .before in
-    let t = c .before .before .before .before .before .turn2 .ensures in
+    (λ c. let t = c .before .before .before .before .before in
+    let i = t .before .before .before .before in
+    let z = i .before .before .before .before .before in
     subst (Goes _ _ _ _ _ _ _ _) (sym (c .kept-after2 .ensures))
-    (goes-first _ _ _ _ (z .args .kept) _ _ _ (omega (arith, z .pre .0 .1 .keeps .ends-room, c .before .before .before .before .ends2)) (t .1) (c .before .before .before .before .before .before .before .before .before .if1 .left) (t .0)))
-    )
+    (goes-first _ _ _ _ (z .args .kept) (z .pre .0) _ _ _ (omega (arith, z .pre .0 .keeps .ends-room, c .before .before .before .before .ends2)) (i .if1 .left) (t .turn2 .ensures))))

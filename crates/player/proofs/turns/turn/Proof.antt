@@ -15,19 +15,32 @@ turn-spec =
     (λ c κs. search needs)
     (λ c. search needs)
     (λ c. search needs)
-    (λ c. (
-      (λ q h e. turned-refused q _ _ _ _ _ _ _ _ (c .before .before .before .before .before .before .before .before .before .before .before .before .before .before .pre .inside) (c .before .before .before .before .before .before .before .before .before .before .before .before .before .before .pre .asks .room) h e (c .before .before .before .before .before .before .judged .ensures q h) (c .if1 .taken)),
-      λ i s. (c .before .before .before .before .before .before .judged .ensures (runOf (c .before .before .before .before .before .before .before .before .before .before .before .before .before .before .pre .asks .known)) (c .before .before .before .before .before .before .before .before .before .before .before .before .before .before .pre .asks .known .table)) .grows i s,
-    ))
-    (λ c. let (few, long) = successor-places (runOf (c .before .before .before .before .before .before .before .before .before .before .before .before .before .before .before .pre .asks .known)) _ _ _ _ _ (c .before .before .before .before .before .before .before .before .before .before .before .before .before .before .before .pre .asks .room) (c .before .before .before .before .before .before .before .before .before .before .before .before .before .before .before .pre .asks .known .table .within) (c .before .before .before .before .before .before .before .judged .ensures (runOf (c .before .before .before .before .before .before .before .before .before .before .before .before .before .before .before .pre .asks .known)) (c .before .before .before .before .before .before .before .before .before .before .before .before .before .before .before .pre .asks .known .table)) (c .before .if1 .left) in omega (arith, few))
-    (λ c. let (few, long) = successor-places (runOf (c .before .before .before .before .before .before .before .before .before .before .before .before .before .before .before .pre .asks .known)) _ _ _ _ _ (c .before .before .before .before .before .before .before .before .before .before .before .before .before .before .before .pre .asks .room) (c .before .before .before .before .before .before .before .before .before .before .before .before .before .before .before .pre .asks .known .table .within) (c .before .before .before .before .before .before .before .judged .ensures (runOf (c .before .before .before .before .before .before .before .before .before .before .before .before .before .before .before .pre .asks .known)) (c .before .before .before .before .before .before .before .before .before .before .before .before .before .before .before .pre .asks .known .table)) (c .before .if1 .left) in omega (arith, few, long))
-    (λ c. let (few, long) = successor-places (runOf (c .before .before .before .before .before .before .before .before .before .before .before .before .before .before .before .before .pre .asks .known)) _ _ _ _ _ (c .before .before .before .before .before .before .before .before .before .before .before .before .before .before .before .before .pre .asks .room) (c .before .before .before .before .before .before .before .before .before .before .before .before .before .before .before .before .pre .asks .known .table .within) (c .before .before .before .before .before .before .before .before .judged .ensures (runOf (c .before .before .before .before .before .before .before .before .before .before .before .before .before .before .before .before .pre .asks .known)) (c .before .before .before .before .before .before .before .before .before .before .before .before .before .before .before .before .pre .asks .known .table)) (c .before .before .if1 .left) in sym (length-take-le _ _ (omega (arith, few, long))))
-    (λ c κs. let (few, long) = successor-places (runOf (c .before .before .before .before .before .before .before .before .before .before .before .before .before .before .before .before .before .pre .asks .known)) _ _ _ _ _ (c .before .before .before .before .before .before .before .before .before .before .before .before .before .before .before .before .before .pre .asks .room) (c .before .before .before .before .before .before .before .before .before .before .before .before .before .before .before .before .before .pre .asks .known .table .within) (c .before .before .before .before .before .before .before .before .before .judged .ensures (runOf (c .before .before .before .before .before .before .before .before .before .before .before .before .before .before .before .before .before .pre .asks .known)) (c .before .before .before .before .before .before .before .before .before .before .before .before .before .before .before .before .before .pre .asks .known .table)) (c .before .before .before .if1 .left) in
-    held-few _ _ (c .before .before .before .before .before .before .before .before .before .before .before .before .before .before .before .before .before .args .ends .now) few long (c .before .before .before .before .before .before .before .before .before .before .before .before .before .before .before .before .before .pre .ends-room))
+    (λ c q h. let j = c .before .before .before .before .before .before in
+    let z = j .before .before .before .before .before .before .before .before in
+    turned-refused q _ _ _ _ _ _ _ (z .pre .inside) (z .pre .asks .room) h (j .judged .ensures q h) (c .if1 .taken))
+    (λ c. let j = c .before .before .before .before .before .before .before in
+    let z = j .before .before .before .before .before .before .before .before in
+    let k = z .pre .asks .known in
+    let (few, long) = successor-places (runOf k) _ _ _ _ (z .pre .asks .room) (k .table .within) (j .judged .ensures (runOf k) (k .table)) (c .before .if1 .left) in
+    omega (arith, few))
+    (λ c. let j = c .before .before .before .before .before .before .before in
+    let z = j .before .before .before .before .before .before .before .before in
+    let k = z .pre .asks .known in
+    let (few, long) = successor-places (runOf k) _ _ _ _ (z .pre .asks .room) (k .table .within) (j .judged .ensures (runOf k) (k .table)) (c .before .if1 .left) in
+    omega (arith, few, long))
+    (λ c. let j = c .before .before .before .before .before .before .before .before in
+    let z = j .before .before .before .before .before .before .before .before in
+    let k = z .pre .asks .known in
+    let (few, long) = successor-places (runOf k) _ _ _ _ (z .pre .asks .room) (k .table .within) (j .judged .ensures (runOf k) (k .table)) (c .before .before .if1 .left) in
+    sym (length-take-le _ _ (omega (arith, few, long))))
+    (λ c κs. let j = c .before .before .before .before .before .before .before .before .before in
+    let z = j .before .before .before .before .before .before .before .before in
+    let k = z .pre .asks .known in
+    let (few, long) = successor-places (runOf k) _ _ _ _ (z .pre .asks .room) (k .table .within) (j .judged .ensures (runOf k) (k .table)) (c .before .before .before .if1 .left) in
+    held-few _ _ (z .args .ends .now) few long (z .pre .ends-room))
     (λ c. search needs)
     (λ c. search needs)
-    (λ c. (
-      (λ q h e. turned-accepted q _ _ _ _ _ (c .before .before .before .before .before .before .before .before .before .before .before .before .before .before .before .before .before .before .before .before .pre .asks .room) (h .within) (c .before .before .before .before .before .before .before .before .before .before .before .before .judged .ensures q h) _ _ _ e (c .before .before .before .before .before .before .if1 .left) (c .before .before .ends .ensures)),
-      λ i s. (c .before .before .before .before .before .before .before .before .before .before .before .before .judged .ensures (runOf (c .before .before .before .before .before .before .before .before .before .before .before .before .before .before .before .before .before .before .before .before .pre .asks .known)) (c .before .before .before .before .before .before .before .before .before .before .before .before .before .before .before .before .before .before .before .before .pre .asks .known .table)) .grows i s,
-    ))
-    )
+    (λ c q h. let i = c .before .before .before .before .before .before in
+    let j = i .before .before .before .before .before .before in
+    let z = j .before .before .before .before .before .before .before .before in
+    turned-accepted q _ _ _ _ (z .pre .asks .room) (h .within) (j .judged .ensures q h) _ _ _ (i .if1 .left) (c .before .before .ends .ensures)))
