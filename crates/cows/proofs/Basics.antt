@@ -84,11 +84,6 @@ pub or-case : (P : Type 0) (a b : Bool) → (a || b) ≡ true → (a ≡ true �
 or-case P true b h f g = f refl
 or-case P false b h f g = g h
 
--- what implies a false test is false
-pub implies-false : {a b : Bool} → (a ≡ true → b ≡ true) → b ≡ false → a ≡ false
-implies-false {a = true} f e = sym (f refl) ∙ e
-implies-false {a = false} f e = refl
-
 pub and-not : {a b : Bool} → (a && not b) ≡ false → a ≡ true → b ≡ true
 and-not {a = true} {b = true} e h = refl
 and-not {a = true} {b = false} e h = sym e
@@ -139,10 +134,6 @@ unfolding _>>_ forbid
 forbid-accept n none k b e = (refl, e)
 forbid-accept n (some p) k b e = (cc, cc)
 
-pub forbid-none : {B : Type 0} (n : ℕ) (o : Option ℕ) (k : Result B) → o ≡ none → (forbid n o >> k) ≡ k
-unfolding _>>_ forbid
-forbid-none n o k e = rw e
-
 -- values and places that may be missing
 pub only-some : {A : Type 0} (b : Bool) (o : Option A) (x : A) → only b o ≡ some x → (b ≡ true) × (o ≡ some x)
 unfolding only
@@ -162,10 +153,6 @@ pub placeIf-none : (b : Bool) (n : ℕ) → placeIf b n ≡ none → b ≡ false
 unfolding placeIf
 placeIf-none true n e = cc
 placeIf-none false n e = refl
-
-pub none-placeIf : (b : Bool) (n : ℕ) → b ≡ false → placeIf b n ≡ none
-unfolding placeIf
-none-placeIf b n e = rw e
 
 pub found-none : {A : Type 0} (o : Option A) → found o ≡ false → o ≡ none
 unfolding found

@@ -8,12 +8,11 @@ use native.Mathlib.Omega.{arith}
 use native.Mathlib.Nat.{suc-add}
 use native.Mathlib.Numerals.{add-one}
 use lib.Dec.{eqb}
-use lib.ListN.{length, getD, take, drop, List·getD-eq-default}
+use lib.ListN.{length, getD, take, drop}
 use lib.Seq.{take-at, drop-at, drop-nil, drop-drop, getD-take, getD-drop}
 use Rattle.cows.specs.Terms.{Basic, nil, kill, invoke, Prefix, receive, wait, protection, delimitation, replication, choice, parallel, Term, leaf, under, both, size, below, guard}
 use Rattle.cows.specs.Places.{Spot, spot, sub}
 use Rattle.cows.specs.Format.{bytes2, byte, word, Node, nodes, root, layout, record16, kindOf, bytes, encode}
-use Rattle.cows.proofs.Basics.{lt-case}
 use Rattle.cows.proofs.Places.{inherited-spot}
 use Rattle.cows.proofs.Records.{length-record16}
 use Rattle.cows.proofs.Format.{length-nodes}
@@ -137,9 +136,6 @@ kind-parallel = kind-is 6
 
 pub kind-delimitation : (s : Term) → kindOf s ≡ 8 → (d : ℕ) × (s ≡ under (delimitation d) (below s))
 kind-delimitation = kind-is 8
-
-pub kind-bound : (s : Term) → kindOf s < 10
-kind-bound s = lt-case (kindOf s < 10) (kindOf s) 10 (λ h. h) (λ h. absurd (subst (λ A. A) (List·getD-eq-default (byKind s) ⊥ h) (of-kind s)))
 
 -- by the number of children
 pub kind-leaf : (s : Term) → kindOf s < 3 → (x : Basic) × (s ≡ leaf x)

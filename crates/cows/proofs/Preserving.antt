@@ -3,21 +3,21 @@ use mathlib.Core.Path.{_≡_, refl, subst, _∙_}
 use mathlib.Core.Bool.{true, not, _||_}
 use mathlib.Core.Option.{Option, none, some}
 use mathlib.Core.List.{List}
-use Prim.Native.Nat.{ℕ, _*_, _≤_}
+use Prim.Native.Nat.{ℕ, _≤_}
 use lib.Dec.{eqb}
 use lib.ListN.{length}
 use borrow.Author.Tests.{not-false}
 use Rattle.cows.specs.Basics.{every, placeIf, accept, _>>_, forbid}
-use Rattle.cows.specs.Terms.{Prefix, receive, wait, protection, delimitation, replication, Term, leaf, under, both, Ends, label, size, depth, kills, invokes, prefixed, receives, waits, delimits, replicates}
+use Rattle.cows.specs.Terms.{Prefix, receive, wait, protection, delimitation, replication, Term, leaf, under, both, Ends, label, size, kills, invokes, prefixed, receives, waits, delimits, replicates}
 use Rattle.cows.specs.Places.{wayTo, sub, first}
 use Rattle.cows.specs.Active.{wanted}
 use Rattle.cows.specs.Within.{Right, Formed, Within}
 use Rattle.cows.specs.Moves.{Substitution, binds, fit, matched, inScope, heldBack, tighter, silence, continue, bind, shorter, fitting, killAt, communicateAt, timeoutAt, elapseBy, unfoldAt, extrudeAt, Move, Kill, Communicate, Timeout, Elapse, Unfold, Extrude, successor}
-use Rattle.cows.specs.Step.{allowed, stepTerm}
+use Rattle.cows.specs.Step.{stepTerm}
 use Rattle.cows.proofs.Basics.{or-false, bind-accept, same-accept, forbid-accept, placeIf-none}
 use Rattle.cows.proofs.Parts.{Sound, part-sound, part-kill, part-silence, part-elapse, part-continue}
 use Rattle.cows.proofs.Stands.{right-at, wanted-is, invokeOf, invokes-is, replicates-is, prefixed-is}
-use Rattle.cows.proofs.Step.{Accepted, allowed-accepted, step-accepted}
+use Rattle.cows.proofs.Step.{Accepted, step-accepted}
 use Rattle.cows.proofs.Extrusion.{part-extrude}
 use Rattle.cows.proofs.Binding.{AllBind, sound-bind, part-bind, all-in-scope, values-fit, matched-binds, invokes-data}
 use Rattle.cows.proofs.Silence.{silence-prefix}
@@ -113,9 +113,6 @@ accepted-within : (t s : Term) (m : List ℕ) (room : ℕ) → Within t → Acce
 accepted-within t s m room w a =
     let (r, f) = successor-kept t s (a .move) w (a .moves) in
     record { right = r; formed = f; small = a .small; shallow = a .shallow }
-
-pub allowed-within : (t s : Term) (m : List ℕ) → Within t → allowed t m ≡ accept s → Within s
-allowed-within t s m w e = accepted-within t s m (16 * size s) w (allowed-accepted t s m e)
 
 pub step-within : (t s : Term) (m : List ℕ) (room : ℕ) → Within t → stepTerm t m room ≡ accept s → Within s
 step-within t s m room w e = accepted-within t s m room w (step-accepted t s m room e)

@@ -136,9 +136,6 @@ member-cons : (a b : ℕ) (l : List ℕ) → member a l ≡ true → member a (b
 unfolding member any
 member-cons a b l h = or-right (eqb a b) (any (eqb a) l) h
 
-member-eq : (a b : ℕ) (l : List ℕ) → eqb a b ≡ true → member a l ≡ member b l
-member-eq a b l e = ap (λ c. member c l) (eqb-true a b e)
-
 -- an atom in use is not renamed to one just fresh
 image-not : (taken ds : List ℕ) (f b : ℕ) → member f taken ≡ false → member b taken ≡ true → eqb f (image (renaming (f ∷ taken) ds) b) ≡ false
 unfolding member any

@@ -1,18 +1,16 @@
 -- Scans: a walk over the places that a way may pass, for the rules on live and ready records (specs/Active). From an active place the walk goes
 -- to the next one, or, where the record lets nothing through, to the end of what stands below it.
 use mathlib.Core.Path.{_≡_, refl, sym, ap, _∙_}
-use mathlib.Core.Bool.{Bool, true, false, _&&_}
-use mathlib.Core.List.{[], _∷_, _++_}
-use mathlib.Core.Option.{none}
-use Prim.Native.Nat.{ℕ, suc, _+_, _-_, _≤_, _<_}
+use mathlib.Core.Bool.{Bool, true, false}
+use mathlib.Core.List.{[], _∷_}
+use Prim.Native.Nat.{ℕ, suc, _+_, _-_, _<_}
 use native.Mathlib.Omega.{arith}
-use native.Mathlib.Numerals.{add-one}
-use Rattle.cows.specs.Basics.{every, firstFrom}
+use Rattle.cows.specs.Basics.{every}
 use Rattle.cows.specs.Terms.{Prefix, Term, leaf, under, both, size}
-use Rattle.cows.specs.Places.{inside, leftOf, rightOf, Way, Spot, descend, spot, wayTo, sub, first}
+use Rattle.cows.specs.Places.{inside, rightOf, Way, Spot, descend, spot, wayTo, sub}
 use Rattle.cows.specs.Active.{onPrefix}
 use Rattle.cows.proofs.Basics.{clash, and-true, true-and, every-append, and-none}
-use Rattle.cows.proofs.Places.{size-pos, descend-way, Inherited, inherited-spot, PartOf, part-inherited, part-first, spot-part, spot-fits, spot-under, spot-left}
+use Rattle.cows.proofs.Places.{descend-way, Inherited, inherited-spot, PartOf, part-inherited, part-first, spot-part, spot-under, spot-left}
 use Rattle.cows.proofs.Ways.{part-at}
 
 module _ (P : Prefix → Bool) where

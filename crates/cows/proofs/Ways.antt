@@ -1,17 +1,16 @@
 -- Ways and records: what stands ahead of a place and behind it in the table; a table with another term at a place; the record above a place; size and
 -- depth of a term with another part.
 use mathlib.Core.Path.{_≡_, refl, sym, ap, subst, _∙_}
-use mathlib.Core.Bool.{Bool, true, false}
 use mathlib.Core.List.{List, [], _∷_, _++_, append-assoc, append-nil}
-use Prim.Native.Nat.{ℕ, zero, suc, _+_, _*_, _-_, _≤_, _<_, max}
+use Prim.Native.Nat.{ℕ, suc, _+_, _*_, _-_, _≤_, _<_}
 use native.Mathlib.Omega.{arith}
 use lib.ListN.{length, take, drop, length-append}
 use lib.Seq.{take-at, drop-at, drop-drop}
-use Rattle.cows.specs.Terms.{Prefix, Join, Term, leaf, under, both, size, depth}
+use Rattle.cows.specs.Terms.{Term, leaf, under, both, size, depth}
 use Rattle.cows.specs.Places.{Frame, inside, leftOf, rightOf, plug, Way, fill, Spot, descend, spot, wayTo, sub}
 use Rattle.cows.specs.Format.{Node, prefix, join, nodes, bytes, encode}
 use Rattle.cows.proofs.Basics.{lt-case}
-use Rattle.cows.proofs.Places.{size-pos, fill-spot, fill-ind, descend-here, descend-first, Inherited, inherited-spot, PartOf, part-inherited, part-first, spot-part, spot-fits, part-here, At}
+use Rattle.cows.proofs.Places.{size-pos, fill-spot, fill-ind, descend-here, descend-first, Inherited, inherited-spot, PartOf, part-inherited, part-first, spot-fits, At}
 use Rattle.cows.proofs.Format.{length-nodes, length-bytes, length-encode}
 use Rattle.cows.proofs.Fields.{append-bytes}
 
@@ -48,13 +47,6 @@ nodes-fill (f ∷ w) s = rw (nodes-fill w (plug f s), nodes-plug f s) (simp appe
 pub encode-plug : (f : Frame) (s : Term) → encode (plug f s) ≡ bytes (opens f) ++ (encode s ++ bytes (closes f))
 unfolding encode
 encode-plug f s = rw (nodes-plug f s, append-bytes (opens f) (nodes s ++ closes f), append-bytes (nodes s) (closes f))
-
--- as many records stand ahead of a place as its number says
-length-opens : (f : Frame) (s : Term) → length (opens f) + size s + length (closes f) ≡ size (plug f s)
-unfolding opens closes plug size
-length-opens (inside u) s = omega arith
-length-opens (leftOf j t) s = omega (arith, length-nodes t)
-length-opens (rightOf j t) s = omega (arith, length-nodes t)
 
 pub length-ahead : (t : Term) (n : ℕ) → n < size t → length (ahead (wayTo t n)) ≡ n
 unfolding wayTo ahead opens

@@ -20,7 +20,7 @@ use Rattle.passes.specs.Known.{Table, Known}
 use Rattle.moves.specs.declared.Judgement.{Judgement}
 use Rattle.moves.specs.declared.Judgement.the-variants.{Allowed, Unread, Absent, Differs, Apart, Held, Looser, Unripe, Early, Stuck, Large}
 use Rattle.moves.specs.declared.Plan.{Plan}
-use Rattle.moves.specs.Plans.{resultOf, limited, Planned, Asks, Gives}
+use Rattle.moves.specs.Plans.{resultOf, limited, Planned, Asks}
 use Rattle.tables.specs.declared.Reply.{Reply}
 use Rattle.stepper.specs.Replies.{replyOf, refusal, replyIn, finished, Moved}
 

@@ -1,29 +1,28 @@
 -- From the check of the table and the move that is read to the step on bytes (specs/Replies): one law for each answer.
 use mathlib.Core.Path.{_≡_, refl, sym, ap, _∙_}
 use mathlib.Core.Logic.{_≢_}
-use mathlib.Core.Bool.{Bool, true, false}
 use mathlib.Core.Option.{Option, none, some}
 use mathlib.Core.List.{List, []}
-use Prim.Native.Nat.{ℕ, suc, _+_, _*_, _/_, _≤_, _<_}
+use Prim.Native.Nat.{ℕ, _*_}
 use native.Mathlib.Omega.{arith}
 use lib.Dec.{ltb}
 use lib.ListN.{length}
 use Rattle.cows.specs.Basics.{placeIf, Result, refuse, accept, _>>=_, _>>_, forbid, need}
 use Rattle.cows.specs.Terms.{Term, size}
-use Rattle.cows.specs.Format.{Bytes, encode}
+use Rattle.cows.specs.Format.{Bytes}
 use Rattle.cows.specs.Tables.{judge}
 use Rattle.cows.specs.Moves as moves
 use Rattle.cows.specs.Step.{readMove, overLimits, allowed, stepTerm, judgeStep, reply, written, stepReply, stepOutput}
 use Rattle.cows.proofs.Basics.{bool-case, accept-bind}
 use Rattle.cows.proofs.Format.{length-encode}
 use Rattle.cows.proofs.Tables.{judge-encode, judge-within}
-use Rattle.cows.proofs.Step.{Numbered, step-numbered}
+use Rattle.cows.proofs.Step.{step-numbered}
 use Rattle.passes.specs.Known.{Table, Known}
 use Rattle.moves.specs.declared.Move.{Move}
 use Rattle.moves.specs.Proposals.{moveOf, proposed}
 use Rattle.tables.specs.declared.Reply.{Reply}
-use Rattle.tables.specs.Verdict.{checkReply, Checked}
-use Rattle.stepper.specs.Replies.{replyOf, refusal, finished, Answers, Moved, Stepped}
+use Rattle.tables.specs.Verdict.{Checked}
+use Rattle.stepper.specs.Replies.{finished, Answers, Moved, Stepped}
 
 -- the move that is read, or none, and the limits behind it
 step-read : (t : Term) (m : List ℕ) (room : ℕ) (v : Move) → moveOf v ≡ readMove m → finished room (proposed v t) ≡ stepTerm t m room

@@ -7,7 +7,6 @@ use lib.ListN.{length}
 use Rattle.cows.specs.Basics.{Result, refuse, accept}
 use Rattle.cows.specs.Terms.{Term}
 use Rattle.cows.specs.Format.{Bytes}
-use Rattle.cows.specs.Within.{Within}
 use Rattle.cows.specs.Step.{judgeStep, reply, written, stepReply, stepOutput}
 use Rattle.cows.specs.Accepts.{Accepts}
 use Rattle.cows.proofs.Theorems.{step-accepted, answer-zero, one-accepted, accepted-within, refused-untouched}
