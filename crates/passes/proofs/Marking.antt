@@ -140,7 +140,8 @@ module _ (s ends : List ℕ) (t : Term) (h : Table s ends t) (i : ℕ) (l : i < 
 
 -- an atom that the code has told to be no label
 pub no-label : (w : ℕ) → OneOf (0 ∷ 1 ∷ 2 ∷ []) (tagOf the-type (classOf w)) → w < 49152
-no-label w = class-case (λ a. OneOf (0 ∷ 1 ∷ 2 ∷ []) (tagOf the-type a) → w < 49152) w (λ z e. omega arith) (λ h e. omega (arith, value-range w h)) (λ h e. omega (arith, variable-range w h)) (λ l e. absurd (miss (0 ∷ 1 ∷ 2 ∷ []) 3 tt e))
+no-label w =
+    class-case (λ a. OneOf (0 ∷ 1 ∷ 2 ∷ []) (tagOf the-type a) → w < 49152) w (λ z e. omega arith) (λ h e. omega (arith, value-range w h)) (λ h e. omega (arith, variable-range w h)) (λ l e. absurd (miss (0 ∷ 1 ∷ 2 ∷ []) 3 tt e))
 
 and-one : (a : Bool) → a ≡ (a && true)
 and-one true = refl

@@ -49,7 +49,12 @@ module _ (s : List ℕ) (k m : ℕ) (w x y z : SlotFit)
   agree-slots : (agrees w && (agrees x && (agrees y && agrees z))) ≡ agreeAt s k m
   unfolding agreeAt
   agree-slots =
-      rw (ap agrees ew ∙ slot-agrees (word s (k + 6)) (word s (m + 6)), ap agrees ex ∙ slot-agrees (word s (k + 8)) (word s (m + 8)), ap agrees ey ∙ slot-agrees (word s (k + 10)) (word s (m + 10)), ap agrees ez ∙ slot-agrees (word s (k + 12)) (word s (m + 12)))
+      rw (
+        ap agrees ew ∙ slot-agrees (word s (k + 6)) (word s (m + 6)),
+        ap agrees ex ∙ slot-agrees (word s (k + 8)) (word s (m + 8)),
+        ap agrees ey ∙ slot-agrees (word s (k + 10)) (word s (m + 10)),
+        ap agrees ez ∙ slot-agrees (word s (k + 12)) (word s (m + 12)),
+      )
 
   pub slots-differ : (agrees w && (agrees x && (agrees y && agrees z))) ≡ false → Differs ≡ slotsAt s k m
   unfolding slotsAt
@@ -58,7 +63,13 @@ module _ (s : List ℕ) (k m : ℕ) (w x y z : SlotFit)
   pub slots-bind : (agrees w && (agrees x && (agrees y && agrees z))) ≡ true → (i j l n : ℕ) → i ≡ boundIn w → j ≡ boundIn x → l ≡ boundIn y → n ≡ boundIn z → Binds (i + j + l + n) ≡ slotsAt s k m
   unfolding slotsAt variablesAt
   slots-bind e i j l n ei ej el en =
-      rw (sym agree-slots ∙ e, ei ∙ (ap boundIn ew ∙ slot-bound (word s (k + 6)) (word s (m + 6))), ej ∙ (ap boundIn ex ∙ slot-bound (word s (k + 8)) (word s (m + 8))), el ∙ (ap boundIn ey ∙ slot-bound (word s (k + 10)) (word s (m + 10))), en ∙ (ap boundIn ez ∙ slot-bound (word s (k + 12)) (word s (m + 12))))
+      rw (
+        sym agree-slots ∙ e,
+        ei ∙ (ap boundIn ew ∙ slot-bound (word s (k + 6)) (word s (m + 6))),
+        ej ∙ (ap boundIn ex ∙ slot-bound (word s (k + 8)) (word s (m + 8))),
+        el ∙ (ap boundIn ey ∙ slot-bound (word s (k + 10)) (word s (m + 10))),
+        en ∙ (ap boundIn ez ∙ slot-bound (word s (k + 12)) (word s (m + 12))),
+      )
 
 -- tuples of one length: g holds in all slots, and the pattern has so many variables
 pub alls : (ℕ → ℕ → Bool) → List ℕ → List ℕ → Bool
@@ -160,7 +171,8 @@ module _ (s : List ℕ) (a b : ℕ) (q m : Ends) (h : EndsAt s a q) (k : EndsAt 
   slots-same : length (q .tuple) ≡ length (m .tuple) → slotsAt s (16 * a) (16 * b) ≡ fitOf (match (q .tuple) (m .tuple))
   unfolding slotsAt agreeAt variablesAt variable
   slots-same e =
-      rw (h .slot0, h .slot1, h .slot2, h .slot3, k .slot0, k .slot1, k .slot2, k .slot3, ← alls-four agree refl (q .tuple) (m .tuple) (h .few) e, ← vars-four (q .tuple) (h .few)) (sym (match-agrees (q .tuple) (m .tuple) e))
+      rw (h .slot0, h .slot1, h .slot2, h .slot3, k .slot0, k .slot1, k .slot2, k .slot3, ← alls-four agree refl (q .tuple) (m .tuple) (h .few) e, ← vars-four (q .tuple) (h .few))
+      (sym (match-agrees (q .tuple) (m .tuple) e))
 
   -- a message that holds no variable: by the endpoints, the counts, and the slots
   module _ (c : closedEnds m ≡ true) where

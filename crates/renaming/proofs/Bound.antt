@@ -36,7 +36,10 @@ module _ (t₀ t₁ t₂ t₃ : Takes) where
 
   -- a record without one stays
   module _ (s : List ℕ) (k : ℕ) (c : closedAt s k ≡ true) where
-    none-of-six : (variable (word s (k + 2)) ≡ false) × (variable (word s (k + 4)) ≡ false) × (variable (word s (k + 6)) ≡ false) × (variable (word s (k + 8)) ≡ false) × (variable (word s (k + 10)) ≡ false) × (variable (word s (k + 12)) ≡ false)
+    abbrev none-at : ℕ → Type 0
+    none-at i = variable (word s (k + i)) ≡ false
+
+    none-of-six : none-at 2 × none-at 4 × none-at 6 × none-at 8 × none-at 10 × none-at 12
     unfolding closedAt
     none-of-six =
         let (a, p) = or-false (variable (word s (k + 2))) _ (not-true _ c) in

@@ -18,11 +18,18 @@ fits-closed-spec =
     (λ c κs. search needs)
     (λ c. search needs)
     (λ c κs. search needs)
-    (λ c q m h k z. other-endpoint _ _ _ q m h k z (rw (← c .before .before .before .before .word-at .ensures, ← c .before .before .before .word-at2 .ensures, ← c .before .before .word-at3 .ensures, ← c .before .word-at4 .ensures) (c .if1 .taken)))
+    (λ c q m h k z.
+    let o = c .before in
+    other-endpoint _ _ _ q m h k z (rw (← o .before .before .before .word-at .ensures, ← o .before .before .word-at2 .ensures, ← o .before .word-at3 .ensures, ← o .word-at4 .ensures) (c .if1 .taken)))
     (λ c. search needs)
     (λ c. search needs)
     (λ c. search needs)
     (λ c. search needs)
     (λ c q m h k z. other-count _ _ _ q m h k z (c .if2 .taken))
     (λ c κs. search needs)
-    (λ c q m h k z. c .slots-fit .ensures ∙ slots-so _ _ _ q m h k z (rw (← c .before .before .before .before .before .before .before .before .word-at .ensures, ← c .before .before .before .before .before .before .before .word-at2 .ensures, ← c .before .before .before .before .before .before .word-at3 .ensures, ← c .before .before .before .before .before .word-at4 .ensures) (c .before .before .before .before .if1 .left)) (c .before .if2 .left)))
+    (λ c q m h k z.
+    let i = c .before .before .before .before in
+    let o = i .before in
+    c .slots-fit .ensures
+    ∙ slots-so _ _ _ q m h k z
+    (rw (← o .before .before .before .word-at .ensures, ← o .before .before .word-at2 .ensures, ← o .before .word-at3 .ensures, ← o .word-at4 .ensures) (i .if1 .left)) (c .before .if2 .left)))

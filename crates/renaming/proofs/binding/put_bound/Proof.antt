@@ -25,13 +25,16 @@ put-bound-spec =
     let p = c .before .before .before .before .before .before .pre in
     (p .0, room-kept _ _ _ _ _ _ _ _ _ (p .0) (c .before .before .before .if1 .left) (closed-goes _ _ _ _ _ _ (sym (c .before .before .closed .ensures) ∙ c .before .if2 .taken)) (p .1)))
     (λ c.
-    let p = c .before .before .before .before .before .before .before .before .before .pre in
-    let l = room-kept _ _ _ _ _ _ _ _ _ (p .0) (c .before .before .before .before .before .before .if1 .left) (closed-goes _ _ _ _ _ _ (sym (c .before .before .before .before .before .closed .ensures) ∙ c .before .before .before .before .if2 .taken)) (p .1) in
+    let i = c .before .before .before .before in
+    let p = i .before .before .before .before .before .pre in
+    let l = room-kept _ _ _ _ _ _ _ _ _ (p .0) (i .before .before .if1 .left) (closed-goes _ _ _ _ _ _ (sym (i .before .closed .ensures) ∙ i .if2 .taken)) (p .1) in
     omega arith)
     (λ c. search needs)
     (λ c.
-    let z = (sym (c .before .before .before .before .before .closed .ensures) ∙ c .before .before .before .before .if2 .taken) in
-    rw (bound-kept _ _ _ _ _ _ _ (c .before .before .before .before .before .before .if1 .left) (closed-goes _ _ _ _ _ _ z), ← closed-stays _ _ _ _ _ _ z) (c .before .before .put-same .ensures, rw (length-mapRecord _ _ _ (c .before .before .before .before .before .before .before .before .before .pre .0))))
+    let i = c .before .before .before .before in
+    let z = sym (i .before .closed .ensures) ∙ i .if2 .taken in
+    rw (bound-kept _ _ _ _ _ _ _ (i .before .before .if1 .left) (closed-goes _ _ _ _ _ _ z), ← closed-stays _ _ _ _ _ _ z)
+    (c .before .before .put-same .ensures, rw (length-mapRecord _ _ _ (i .before .before .before .before .before .pre .0))))
     (λ c κs. search needs)
     (λ c. rw (bound-gone _ _ _ _ _ _ _ (c .before .before .before .before .if1 .left) (sym (c .before .delimits-taken .ensures) ∙ c .if3 .taken)) (refl, omega arith))
     (λ c κs.
@@ -39,9 +42,11 @@ put-bound-spec =
     (p .0, room-kept _ _ _ _ _ _ _ _ _ (p .0) (c .before .before .before .before .before .if1 .left) (sym (c .before .before .delimits-taken .ensures) ∙ c .before .if3 .left) (p .1)))
     (λ c.
     let p = c .before .before .before .before .before .before .before .before .before .before .before .pre in
-    let l = room-kept _ _ _ _ _ _ _ _ _ (p .0) (c .before .before .before .before .before .before .before .before .if1 .left) (sym (c .before .before .before .before .before .delimits-taken .ensures) ∙ c .before .before .before .before .if3 .left) (p .1) in
+    let g = sym (c .before .before .before .before .before .delimits-taken .ensures) ∙ c .before .before .before .before .if3 .left in
+    let l = room-kept _ _ _ _ _ _ _ _ _ (p .0) (c .before .before .before .before .before .before .before .before .if1 .left) g (p .1) in
     omega arith)
     (λ c. search needs)
     (λ c.
-    rw (bound-kept _ _ _ _ _ _ _ (c .before .before .before .before .before .before .before .before .if1 .left) (sym (c .before .before .before .before .before .delimits-taken .ensures) ∙ c .before .before .before .before .if3 .left))
-    (c .before .before .put-images .ensures, rw (length-mapRecord _ _ _ (c .before .before .before .before .before .before .before .before .before .before .before .pre .0)))))
+    let i = c .before .before .before .before in
+    rw (bound-kept _ _ _ _ _ _ _ (i .before .before .before .before .if1 .left) (sym (i .before .delimits-taken .ensures) ∙ i .if3 .left))
+    (c .before .before .put-images .ensures, rw (length-mapRecord _ _ _ (i .before .before .before .before .before .before .before .pre .0)))))

@@ -25,5 +25,12 @@ put-images-spec =
     (λ c κs. search needs)
     (λ c. search needs)
     (λ c.
-    rw (← record-read _ _ _ (ap numberOf (c .before .before .before .before .before .before .before .before .before .image-at .ensures)) (ap numberOf (c .before .before .before .before .before .before .before .before .image-at2 .ensures)) (ap numberOf (c .before .before .before .before .before .before .before .image-at3 .ensures)) (ap numberOf (c .before .before .before .before .before .before .image-at4 .ensures)) (ap numberOf (c .before .before .before .before .before .image-at5 .ensures)) (ap numberOf (c .before .before .before .before .image-at6 .ensures)))
+    let o = c .before .before .before .before in
+    rw (← record-read _ _ _
+    (ap numberOf (o .before .before .before .before .before .image-at .ensures))
+    (ap numberOf (o .before .before .before .before .image-at2 .ensures))
+    (ap numberOf (o .before .before .before .image-at3 .ensures))
+    (ap numberOf (o .before .before .image-at4 .ensures))
+    (ap numberOf (o .before .image-at5 .ensures))
+    (ap numberOf (o .image-at6 .ensures)))
     (c .before .before .put-record .ensures)))

@@ -26,4 +26,13 @@ put-same-spec =
     (λ c κs. search needs)
     (λ c κs. search needs)
     (λ c. search needs)
-    (λ c. rw (← record-read (λ (n : ℕ). n) _ _ (ap numberOf (c .before .before .before .before .before .before .before .before .before .atom-at .ensures) ∙ number-class _) (ap numberOf (c .before .before .before .before .before .before .before .before .atom-at2 .ensures) ∙ number-class _) (ap numberOf (c .before .before .before .before .before .before .before .atom-at3 .ensures) ∙ number-class _) (ap numberOf (c .before .before .before .before .before .before .atom-at4 .ensures) ∙ number-class _) (ap numberOf (c .before .before .before .before .before .atom-at5 .ensures) ∙ number-class _) (ap numberOf (c .before .before .before .before .atom-at6 .ensures) ∙ number-class _)) (c .before .before .put-record .ensures)))
+    (λ c.
+    let o = c .before .before .before .before in
+    rw (← record-read (λ (n : ℕ). n) _ _
+    (ap numberOf (o .before .before .before .before .before .atom-at .ensures) ∙ number-class _)
+    (ap numberOf (o .before .before .before .before .atom-at2 .ensures) ∙ number-class _)
+    (ap numberOf (o .before .before .before .atom-at3 .ensures) ∙ number-class _)
+    (ap numberOf (o .before .before .atom-at4 .ensures) ∙ number-class _)
+    (ap numberOf (o .before .atom-at5 .ensures) ∙ number-class _)
+    (ap numberOf (o .atom-at6 .ensures) ∙ number-class _))
+    (c .before .before .put-record .ensures)))

@@ -26,5 +26,12 @@ put-named-spec =
     (λ c κs. search needs)
     (λ c. search needs)
     (λ c.
-    rw (← record-read _ _ _ (ap numberOf (c .before .before .before .before .before .before .before .before .before .named-at .ensures) ∙ number-class _) (ap numberOf (c .before .before .before .before .before .before .before .before .named-at2 .ensures) ∙ number-class _) (ap numberOf (c .before .before .before .before .before .before .before .named-at3 .ensures) ∙ number-class _) (ap numberOf (c .before .before .before .before .before .before .named-at4 .ensures) ∙ number-class _) (ap numberOf (c .before .before .before .before .before .named-at5 .ensures) ∙ number-class _) (ap numberOf (c .before .before .before .before .named-at6 .ensures) ∙ number-class _))
+    let o = c .before .before .before .before in
+    rw (← record-read _ _ _
+    (ap numberOf (o .before .before .before .before .before .named-at .ensures) ∙ number-class _)
+    (ap numberOf (o .before .before .before .before .named-at2 .ensures) ∙ number-class _)
+    (ap numberOf (o .before .before .before .named-at3 .ensures) ∙ number-class _)
+    (ap numberOf (o .before .before .named-at4 .ensures) ∙ number-class _)
+    (ap numberOf (o .before .named-at5 .ensures) ∙ number-class _)
+    (ap numberOf (o .named-at6 .ensures) ∙ number-class _))
     (c .before .before .put-record .ensures)))
