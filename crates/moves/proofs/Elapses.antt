@@ -25,10 +25,10 @@ use Rattle.rewriting.specs.Placed.{Placed}
 use Rattle.records.proofs.Laws.{found-at, found-nothing}
 use Rattle.passes.specs.Known.{Table}
 use Rattle.passes.proofs.Tables.{table-size}
-use Rattle.moves.specs.declared.Judgement.the-variants.{Allowed}
-use Rattle.moves.specs.declared.Plan.{Plan}
-use Rattle.moves.specs.Plans.{Planned, Asks}
-use Rattle.moves.proofs.Planning.{within-limits, planned-allowed}
+use Rattle.plans.specs.declared.Judgement.the-variants.{Allowed}
+use Rattle.plans.specs.declared.Plan.{Plan}
+use Rattle.plans.specs.Plans.{Planned, Asks}
+use Rattle.plans.proofs.Planning.{within-limits, planned-allowed}
 
 -- time changes no record's place
 size-elapse : (d : ℕ) (t : Term) → size (elapse d t) ≡ size t

@@ -24,12 +24,12 @@ use Rattle.passes.specs.Known.{Table, Known}
 use Rattle.passes.specs.Ways.{startOf, LiveAt}
 use Rattle.passes.proofs.Tables.{table-size, table-ended, table-inside}
 use Rattle.cows.specs.Within.{Within}
-use Rattle.moves.specs.declared.Judgement.the-variants.{Allowed}
-use Rattle.moves.specs.declared.Plan.{Plan}
-use Rattle.moves.specs.Plans.{Planned, Asks}
-use Rattle.moves.specs.Cutting.{Span, Room, cutOf}
-use Rattle.moves.proofs.Planning.{planned-allowed, absent}
-use Rattle.moves.proofs.Continuing.{continue-limits, span, left-size, cut-room, cut-bytes}
+use Rattle.plans.specs.declared.Judgement.the-variants.{Allowed}
+use Rattle.plans.specs.declared.Plan.{Plan}
+use Rattle.plans.specs.Plans.{Planned, Asks}
+use Rattle.plans.specs.Cutting.{Span, Room, cutOf}
+use Rattle.plans.proofs.Planning.{planned-allowed, absent}
+use Rattle.plans.proofs.Continuing.{continue-limits, span, left-size, cut-room, cut-bytes}
 
 kind-of-wait : (s : Term) (n : ℕ) → prefixed waits s ≡ some n → kindOf s ≡ 4
 unfolding kindOf root record16 layout byte

@@ -1,14 +1,14 @@
 // Elapse (time): every live wait falls by d, which none of them may be below.
-use crate::Judgement;
-use crate::Plan;
-use crate::refused;
 use passes::scans::first_shorter;
+use plans::Judgement;
+use plans::Plan;
+use plans::refused;
 use records::Found;
 use rewriting::elapsing::elapse_at;
 ghost use Rattle.cows.specs.Terms.{Term};
 ghost use Rattle.cows.specs.Moves.{elapseBy};
 ghost use Rattle.passes.specs.Known.{Table, Known};
-ghost use Rattle.moves.specs.Plans.{Planned, Asks, Gives};
+ghost use Rattle.plans.specs.Plans.{Planned, Asks, Gives};
 
 // The move by the time d; the place of its plan is the root.
 pub fn judge(s: &[u8], ends: &[u16], d: u16) -> Plan

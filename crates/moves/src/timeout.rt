@@ -1,9 +1,9 @@
 // Timeout (expiry): a live wait with interval 0 becomes its continuation, with the whole choice around it.
-use crate::Judgement;
-use crate::Plan;
-use crate::cutting::cut;
-use crate::cutting::left;
-use crate::refused;
+use plans::Judgement;
+use plans::Plan;
+use plans::cutting::cut;
+use plans::cutting::left;
+use plans::refused;
 use records::Found;
 use records::word_at;
 ghost use mathlib.Core.Path.{_≡_};
@@ -12,7 +12,7 @@ ghost use Rattle.cows.specs.Places.{wayTo};
 ghost use Rattle.cows.specs.Moves.{timeoutAt};
 ghost use Rattle.passes.specs.Known.{Table, Known};
 ghost use Rattle.passes.specs.Ways.{startOf};
-ghost use Rattle.moves.specs.Plans.{Planned, Asks, Gives};
+ghost use Rattle.plans.specs.Plans.{Planned, Asks, Gives};
 
 // The move on the wait at place a; the place of its plan is where the whole choice begins.
 pub fn judge(s: &[u8], ends: &[u16], a: usize) -> Plan

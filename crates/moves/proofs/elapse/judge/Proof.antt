@@ -1,7 +1,7 @@
 use borrow.Author.Needs.{needs}
 use mathlib.Core.Path.{refl, ap}
-use Rattle.moves.specs.Plans.{resultOf}
-use Rattle.moves.proofs.Planning.{planned-refused}
+use Rattle.plans.specs.Plans.{resultOf}
+use Rattle.plans.proofs.Planning.{planned-refused}
 use Rattle.moves.proofs.Elapses.{no-time, early, elapse-planned}
 use Rattle.moves.proofs.elapse.judge.Statement.{statement}
 use Rattle.moves.proofs.elapse.judge.Tie as tie

@@ -1,5 +1,5 @@
 use borrow.Author.Needs.{needs}
-use Rattle.moves.proofs.Planning.{gives}
+use Rattle.plans.proofs.Planning.{gives}
 use Rattle.moves.proofs.Elapses.{elapse-asks, gives-elapsed}
 use Rattle.moves.proofs.elapse.write.Statement.{statement}
 use Rattle.moves.proofs.elapse.write.Tie as tie

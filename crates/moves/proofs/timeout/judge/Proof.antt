@@ -3,8 +3,8 @@ use mathlib.Core.Path.{_≡_, refl, sym, ap, _∙_}
 use Prim.Native.Nat.{_/_, _<_}
 use native.Mathlib.Omega.{arith}
 use Rattle.passes.proofs.Tables.{live-inside, walk-known}
-use Rattle.moves.specs.Plans.{resultOf}
-use Rattle.moves.proofs.Planning.{planned-refused}
+use Rattle.plans.specs.Plans.{resultOf}
+use Rattle.plans.proofs.Planning.{planned-refused}
 use Rattle.moves.proofs.Timeouts.{no-wait, unripe, ripe-span, ripe-planned}
 use Rattle.moves.proofs.timeout.judge.Statement.{statement}
 use Rattle.moves.proofs.timeout.judge.Tie as tie

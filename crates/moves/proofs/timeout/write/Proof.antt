@@ -1,7 +1,7 @@
 use borrow.Author.Needs.{needs}
 use mathlib.Core.Path.{ap, _∙_}
 use Rattle.records.specs.Rewrites.{put}
-use Rattle.moves.proofs.Planning.{gives}
+use Rattle.plans.proofs.Planning.{gives}
 use Rattle.moves.proofs.Timeouts.{asks-cut, gives-cut}
 use Rattle.moves.proofs.timeout.write.Statement.{statement}
 use Rattle.moves.proofs.timeout.write.Tie as tie
