@@ -17,13 +17,13 @@ use Rattle.cows.specs.Step.{overLimits}
 use Rattle.cows.proofs.Fields.{kind-receive, kind-invoke}
 use Rattle.cows.proofs.Meeting.{fit-fits}
 use Rattle.cows.proofs.Stands.{receiveOf, invokeOf, receives-is, invokes-is, prefixed-is, live-wanted}
-use Rattle.passes.specs.Known.{Table}
-use Rattle.passes.specs.Ways.{startOf, LiveAt}
-use Rattle.passes.specs.Matching.{fitOf, EndsAt}
-use Rattle.passes.specs.declared.matching.Fit.the-variants.{Binds}
-use Rattle.passes.specs.declared.matching.Fit.the-variants as Fits
-use Rattle.passes.proofs.Tables.{table-size, table-ended}
-use Rattle.passes.proofs.Parties.{receive-ends, invoke-ends}
+use Rattle.ways.specs.Known.{Table}
+use Rattle.ways.specs.Ways.{startOf, LiveAt}
+use Rattle.matching.specs.Matching.{fitOf, EndsAt}
+use Rattle.matching.specs.declared.Fit.the-variants.{Binds}
+use Rattle.matching.specs.declared.Fit.the-variants as Fits
+use Rattle.ways.proofs.Tables.{table-size, table-ended}
+use Rattle.matching.proofs.Parties.{receive-ends, invoke-ends}
 use Rattle.plans.specs.declared.Judgement.the-variants.{Allowed}
 use Rattle.plans.specs.declared.Plan.{Plan}
 use Rattle.plans.specs.Plans.{Planned}

@@ -17,8 +17,8 @@ use Rattle.cows.proofs.Stands.{invokeOf, receiveOf}
 use Rattle.records.specs.declared.Takes.{Takes}
 use Rattle.records.specs.Rewrites.{put}
 use Rattle.records.proofs.Put.{and-then}
-use Rattle.passes.specs.Ways.{startOf}
-use Rattle.passes.proofs.Tables.{table-size, table-ended}
+use Rattle.ways.specs.Ways.{startOf}
+use Rattle.ways.proofs.Tables.{table-size, table-ended}
 use Rattle.renaming.specs.Bound.{bound}
 use Rattle.plans.specs.Plans.{Asks}
 use Rattle.plans.specs.Cutting.{Span}

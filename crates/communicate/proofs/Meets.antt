@@ -25,7 +25,7 @@ use Rattle.cows.proofs.Binds.{boundNodes, bound-append, bind-nodes, bind-depth,
 use Rattle.cows.proofs.Meeting.{fit-fits, inScope-reaches}
 use Rattle.cows.proofs.Preserving.{meeting-binds, scopes-passed}
 use Rattle.cows.proofs.Stands.{right-at, receiveOf, invokes-is, receives-is, prefixed-is, wanted-live}
-use Rattle.passes.specs.Ways.{startOf}
+use Rattle.ways.specs.Ways.{startOf}
 use Rattle.communicate.specs.Binding.{Matched, Left, Met}
 use Rattle.plans.proofs.Planning.{within-limits}
 use Rattle.plans.proofs.Continuing.{cuts}

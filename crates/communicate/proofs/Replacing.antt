@@ -28,8 +28,8 @@ use Rattle.records.specs.declared.Takes.{Takes}
 use Rattle.records.specs.Holds.{Holds}
 use Rattle.records.specs.Rewrites.{Has}
 use Rattle.records.proofs.Put.{has-left, has-right, has-take}
-use Rattle.passes.specs.Matching.{EndsAt}
-use Rattle.passes.proofs.Parties.{receive-ends, invoke-ends}
+use Rattle.matching.specs.Matching.{EndsAt}
+use Rattle.matching.proofs.Parties.{receive-ends, invoke-ends}
 use Rattle.renaming.specs.Mapped.{mapNode, mapRecord, along}
 use Rattle.renaming.specs.Bound.{takesOne, imageOfAll, goes, boundRecord, bound}
 use Rattle.renaming.proofs.Mapped.{record-mapped}

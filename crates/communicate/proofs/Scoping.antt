@@ -17,10 +17,10 @@ use Rattle.cows.proofs.Basics.{never, clash, lt-case, and-true, or-left, or-rig
 use Rattle.cows.proofs.Sets.{variable-range}
 use Rattle.cows.proofs.Stands.{right-at}
 use Rattle.cows.proofs.Meeting.{Fits, fit-fits, matches-match}
-use Rattle.passes.proofs.Matches.{slotTest, alls-four, match-lengths, match-every}
-use Rattle.passes.proofs.Parties.{receive-ends, invoke-ends}
-use Rattle.passes.specs.Matching.{EndsAt}
-use Rattle.passes.specs.Scopes.{Sends}
+use Rattle.matching.proofs.Matches.{slotTest, alls-four, match-lengths, match-every}
+use Rattle.matching.proofs.Parties.{receive-ends, invoke-ends}
+use Rattle.matching.specs.Matching.{EndsAt}
+use Rattle.holding.specs.Scopes.{Sends}
 use Rattle.communicate.specs.Meeting.{Meets, Slot}
 
 member-slot : (vs : List ℕ) (i : ℕ) → i < length vs → member (getD vs i 0) vs ≡ true

@@ -12,7 +12,7 @@ use Rattle.cows.proofs.Places.{fill-spot}
 use Rattle.cows.proofs.Ways.{ahead, length-ahead, depth-fill, depth-pos}
 use Rattle.cows.proofs.Silence.{alike-at, alike-enclosed, silence-size}
 use Rattle.cows.proofs.Remains.{met-nodes, silence-part, silence-under, silence-from}
-use Rattle.passes.specs.Ways.{startOf}
+use Rattle.ways.specs.Ways.{startOf}
 use Rattle.plans.proofs.Continuing.{continue-size, continue-depth, start}
 
 -- where a choice begins, by its way

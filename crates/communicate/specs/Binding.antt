@@ -12,7 +12,7 @@ use Rattle.cows.specs.Active.{live}
 use Rattle.cows.specs.Moves.{Substitution, binds, fit, inScope, silence, continue, bind}
 use Rattle.cows.proofs.Stands.{invokeOf, receiveOf}
 use Rattle.cows.proofs.Binds.{boundNodes}
-use Rattle.passes.specs.Ways.{startOf}
+use Rattle.ways.specs.Ways.{startOf}
 
 -- The receive q at place a fits the invoke m at place b, and each variable that it binds is in scope.
 pub record Matched (t : Term) (a b : ℕ) (q m : Ends) (σ : Substitution) : Type 0 where

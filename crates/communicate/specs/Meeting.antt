@@ -9,10 +9,10 @@ use Rattle.cows.specs.Places.{sub}
 use Rattle.cows.specs.Within.{Within}
 use Rattle.cows.specs.Moves.{Substitution, binds, fit}
 use Rattle.cows.proofs.Stands.{receiveOf, invokeOf}
-use Rattle.passes.specs.Ways.{Walks}
-use Rattle.passes.specs.declared.matching.Fit.{Fit}
-use Rattle.passes.specs.declared.matching.Fit.the-variants.{Binds}
-use Rattle.passes.specs.declared.matching.Fit.the-variants as Fits
+use Rattle.ways.specs.Ways.{Walks}
+use Rattle.matching.specs.declared.Fit.{Fit}
+use Rattle.matching.specs.declared.Fit.the-variants.{Binds}
+use Rattle.matching.specs.declared.Fit.the-variants as Fits
 use Rattle.plans.specs.declared.Judgement.{Judgement}
 use Rattle.plans.specs.declared.Judgement.the-variants.{Allowed, Differs}
 

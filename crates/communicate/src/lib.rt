@@ -1,8 +1,8 @@
 // Communicate (meeting): a live receive and a live invoke that fits it. The invoke becomes nil, the receive, with the whole choice around it, its
 // continuation, and each variable that is bound takes its value throughout its delimitation, which goes.
-use passes::matching::Fit;
-use passes::matching::fits;
-use passes::scoping::in_scope;
+use holding::scoping::in_scope;
+use matching::Fit;
+use matching::fits;
 use plans::Judgement;
 use plans::Plan;
 use plans::cutting::left;
@@ -21,9 +21,9 @@ ghost use Rattle.cows.specs.Basics.{every};
 ghost use Rattle.cows.specs.Terms.{Term};
 ghost use Rattle.cows.specs.Places.{wayTo};
 ghost use Rattle.cows.specs.Moves.{Substitution, inScope, communicateAt};
-ghost use Rattle.passes.specs.Known.{Table, Known};
-ghost use Rattle.passes.specs.Ways.{Walk, startOf};
-ghost use Rattle.passes.proofs.Matches.{slotTest};
+ghost use Rattle.ways.specs.Known.{Table, Known};
+ghost use Rattle.ways.specs.Ways.{Walk, startOf};
+ghost use Rattle.matching.proofs.Matches.{slotTest};
 ghost use Rattle.plans.specs.Plans.{Planned, Asks, Gives};
 ghost use Rattle.communicate.specs.Meeting.{Meets, Slot, mismatchOf};
 ghost use Rattle.cows.specs.Format.{word};
@@ -117,11 +117,11 @@ pub fn judge(s: &[u8], ends: &[u16], a: usize, b: usize) -> Plan
     ensures { λ r. ⌜ ((t : Term) → Table (now (s .entry)) (now (ends .entry)) t → Planned (communicateAt t a b) (startOf a (wayTo t a)) r) ⌝ }
 {
     let mut receiver = [0u16; 256];
-    let Found::At(k) = passes::ways::live_at(s, ends, a, 3, &mut receiver) else {
+    let Found::At(k) = ways::live_at(s, ends, a, 3, &mut receiver) else {
         return refused(Judgement::Absent(a));
     };
     let mut sender = [0u16; 256];
-    let Found::At(n) = passes::ways::live_at(s, ends, b, 2, &mut sender) else {
+    let Found::At(n) = ways::live_at(s, ends, b, 2, &mut sender) else {
         return refused(Judgement::Absent(b));
     };
     let matching = fits(s, a, b);
@@ -131,15 +131,15 @@ pub fn judge(s: &[u8], ends: &[u16], a: usize, b: usize) -> Plan
     if !all_in_scope(s, a, b, &receiver, k, &sender, n) {
         return refused(Judgement::Apart(a));
     }
-    let held = passes::holding::first_held(s, ends, a, b);
+    let held = holding::first_held(s, ends, a, b);
     if let Found::At(p) = held {
         return refused(Judgement::Held(p));
     }
-    let looser = passes::conflicts::first_tighter(s, ends, b, l);
+    let looser = holding::conflicts::first_tighter(s, ends, b, l);
     if let Found::At(p) = looser {
         return refused(Judgement::Looser(p));
     }
-    let from = passes::ways::choice_start(s, &receiver, k, a);
+    let from = ways::choice_start(s, &receiver, k, a);
     Plan {
         judgement: Judgement::Allowed(left(ends, s.len() / 16, a, from) - l),
         from,

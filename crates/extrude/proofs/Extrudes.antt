@@ -27,11 +27,11 @@ use Rattle.cows.proofs.Stands.{right-at, delimits-is, prefixed-is, wanted-is, w
 use Rattle.cows.proofs.Ways.{opens, closes, ahead, behind, length-ahead, take-ahead, drop-here, encode-plug, encode-fill, above-at, depth-part, depth-most, size-frame, size-swap}
 use Rattle.records.specs.Rewrites.{Stands}
 use Rattle.records.proofs.Stands.{encode-under, holds-kind, holds-word, holds-stands}
-use Rattle.passes.specs.Known.{Table, Known}
-use Rattle.passes.specs.Ways.{OnWay, LiveAt}
-use Rattle.passes.specs.Depths.{Standing}
-use Rattle.passes.proofs.Tables.{table-size, table-ended}
-use Rattle.passes.proofs.Deep.{standing}
+use Rattle.ways.specs.Known.{Table, Known}
+use Rattle.ways.specs.Ways.{OnWay, LiveAt}
+use Rattle.ways.specs.Depths.{Standing}
+use Rattle.ways.proofs.Tables.{table-size, table-ended}
+use Rattle.ways.proofs.Deep.{standing}
 use Rattle.plans.specs.declared.Judgement.the-variants.{Allowed, Stuck, Large}
 use Rattle.cows.specs.Within.{Right}
 use Rattle.cows.proofs.Sets.{in-values, in-variables, in-labels, value-range, variable-range, label-range, set-case}

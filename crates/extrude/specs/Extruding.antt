@@ -10,8 +10,8 @@ use Rattle.cows.specs.Terms.{delimitation, Term, under, size, below}
 use Rattle.cows.specs.Places.{Way, wayTo, sub}
 use Rattle.cows.specs.Moves.{fitting, afterExtrude}
 use Rattle.cows.proofs.Ways.{ahead}
-use Rattle.passes.specs.Known.{Table}
-use Rattle.passes.specs.Ways.{OnWay}
+use Rattle.ways.specs.Known.{Table}
+use Rattle.ways.specs.Ways.{OnWay}
 use Rattle.records.specs.declared.Atom.{Atom}
 use Rattle.records.specs.declared.Atom.the-variants.{None, Value, Variable, Label}
 

@@ -1,5 +1,4 @@
 // Extrude (floating): a live delimitation of a value or a variable changes places with the record above it, a parallel, a protection or a delimitation.
-use passes::depths::depth_at;
 use plans::Judgement;
 use plans::Plan;
 use plans::refused;
@@ -8,6 +7,7 @@ use records::Found;
 use records::atom_at;
 use records::copying::copy;
 use records::wide16;
+use ways::depths::depth_at;
 ghost use mathlib.Core.Path.{_≡_};
 ghost use Prim.Native.Nat.{ℕ, _<_};
 ghost use lib.ListN.{length};
@@ -15,7 +15,7 @@ ghost use Rattle.cows.specs.Terms.{Term};
 ghost use Rattle.cows.specs.Places.{wayTo};
 ghost use Rattle.cows.specs.Moves.{extrudeAt};
 ghost use Rattle.records.specs.Rewrites.{put};
-ghost use Rattle.passes.specs.Known.{Table, Known};
+ghost use Rattle.ways.specs.Known.{Table, Known};
 ghost use Rattle.plans.specs.Plans.{resultOf, limited, Planned, Asks, Gives};
 ghost use Rattle.extrude.specs.Extruding.{isLabel, parentOf, fittingKind, besideOf, liftAt, Lifting, Below, Lifts, lifted};
 
@@ -70,7 +70,7 @@ pub fn judge(s: &[u8], ends: &[u16], a: usize) -> Plan
     ensures { λ r. ⌜ ((t : Term) → Table (now (s .entry)) (now (ends .entry)) t → Planned (extrudeAt t a) (parentOf (wayTo t a)) r) ⌝ }
 {
     let mut way = [0u16; 256];
-    let found = passes::ways::live_at(s, ends, a, 8, &mut way);
+    let found = ways::live_at(s, ends, a, 8, &mut way);
     let Found::At(k) = found else {
         return refused(Judgement::Absent(a));
     };

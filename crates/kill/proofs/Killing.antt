@@ -24,9 +24,9 @@ use Rattle.cows.proofs.Ways.{encode-replaced, depth-fill, size-swap}
 use Rattle.cows.proofs.Stands.{right-at, scoped-at}
 use Rattle.rewriting.specs.Halting.{haltAside}
 use Rattle.rewriting.proofs.Kills.{live-behind, no-under, no-both, guard-kill, guarded-at, live-kill, after-kill}
-use Rattle.passes.specs.Losses.{left}
-use Rattle.passes.specs.Ways.{scopeOf}
-use Rattle.passes.proofs.Starts.{Scope, scope-at, scope-found}
+use Rattle.kill.specs.Losses.{left}
+use Rattle.ways.specs.Ways.{scopeOf}
+use Rattle.ways.proofs.Starts.{Scope, scope-at, scope-found}
 use Rattle.kill.specs.Killing.{killScope}
 use Rattle.plans.proofs.Planning.{within-limits}
 

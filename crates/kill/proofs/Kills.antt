@@ -22,7 +22,7 @@ use Rattle.cows.proofs.Format.{length-encode}
 use Rattle.cows.proofs.Fields.{kind-kill, first-kill}
 use Rattle.cows.proofs.Stands.{kills-is, wanted-live, live-wanted}
 use Rattle.records.specs.Atoms.{classOf}
-use Rattle.records.specs.Rows.{foundOf}
+use Rattle.records.specs.Answers.{foundOf}
 use Rattle.records.specs.Rewrites.{put, Stands, Ready, Done, Rewrites}
 use Rattle.records.specs.declared.Label as labels
 use Rattle.records.specs.declared.Atom.the-variants.{Label}
@@ -34,10 +34,10 @@ use Rattle.records.proofs.Stands.{holds-word, holds-stands}
 use Rattle.records.proofs.Rewrites.{ready}
 use Rattle.rewriting.specs.Halting.{haltAside, placeIn, PlaceOf}
 use Rattle.rewriting.proofs.Placed.{place-of}
-use Rattle.passes.specs.Known.{Table}
-use Rattle.passes.specs.Losses.{left}
-use Rattle.passes.specs.Ways.{scopeOf, LiveAt}
-use Rattle.passes.proofs.Tables.{table-size}
+use Rattle.ways.specs.Known.{Table}
+use Rattle.kill.specs.Losses.{left}
+use Rattle.ways.specs.Ways.{scopeOf, LiveAt}
+use Rattle.ways.proofs.Tables.{table-size}
 use Rattle.plans.specs.declared.Judgement.the-variants.{Allowed}
 use Rattle.plans.specs.declared.Plan.{Plan}
 use Rattle.plans.specs.Plans.{Planned, Asks}

@@ -3,7 +3,7 @@ use mathlib.Core.Option.{Option, none, some}
 use Prim.Native.Nat.{ℕ}
 use Rattle.cows.specs.Terms.{Term, kills}
 use Rattle.cows.specs.Places.{wayTo, sub}
-use Rattle.passes.specs.Ways.{scopeOf}
+use Rattle.ways.specs.Ways.{scopeOf}
 
 -- a number that may be missing, 0 where it is
 abbrev pub orZero : Option ℕ → ℕ

@@ -1,6 +1,7 @@
 // Kill (stop fires): a live kill of k becomes nil, and what is parallel to it inside [k] is halted.
-use passes::losses::lost;
-use passes::ways::scope;
+mod losses;
+
+use crate::losses::lost;
 use plans::Judgement;
 use plans::Plan;
 use plans::refused;
@@ -9,9 +10,10 @@ use records::Found;
 use records::atom_at;
 use records::copying::copy;
 use rewriting::halting::aside_at;
+use ways::scope;
 ghost use Rattle.cows.specs.Terms.{Term};
 ghost use Rattle.cows.specs.Moves.{killAt};
-ghost use Rattle.passes.specs.Known.{Table, Known};
+ghost use Rattle.ways.specs.Known.{Table, Known};
 ghost use Rattle.plans.specs.Plans.{Planned, Asks, Gives};
 ghost use Rattle.kill.specs.Killing.{killScope};
 
@@ -21,7 +23,7 @@ pub fn judge(s: &[u8], ends: &[u16], a: usize) -> Plan
     ensures { λ r. ⌜ ((t : Term) → Table (now (s .entry)) (now (ends .entry)) t → Planned (killAt t a) (killScope t a) r) ⌝ }
 {
     let mut way = [0u16; 256];
-    let found = passes::ways::live_at(s, ends, a, 1, &mut way);
+    let found = ways::live_at(s, ends, a, 1, &mut way);
     let Found::At(n) = found else {
         return refused(Judgement::Absent(a));
     };

@@ -1,3 +1,1 @@
 pub mod Proposing
-pub mod Timeouts
-pub mod Elapses

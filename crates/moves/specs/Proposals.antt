@@ -6,7 +6,7 @@ use Rattle.cows.specs.Terms.{Term}
 use Rattle.cows.specs.Places.{wayTo}
 use Rattle.cows.specs.Moves.{successor}
 use Rattle.cows.specs.Moves as moves
-use Rattle.passes.specs.Ways.{startOf}
+use Rattle.ways.specs.Ways.{startOf}
 use Rattle.moves.specs.declared.Move.{Move}
 use Rattle.moves.specs.declared.Move.the-variants.{Kill, Communicate, Timeout, Elapse, Unfold, Extrude, None}
 use Rattle.kill.specs.Killing.{killScope}

@@ -1,12 +1,9 @@
-// Moves: the six moves on a well-formed table. A move is judged first, which writes nothing, and then its successor is written.
-mod elapse;
-mod timeout;
-
+// Moves: the six moves on a well-formed table, of a crate each. A move is judged first, which writes nothing, and then its successor is written.
 use plans::Judgement;
 use plans::Plan;
 use plans::refused;
 ghost use Rattle.cows.specs.Terms.{Term};
-ghost use Rattle.passes.specs.Known.{Table, Known};
+ghost use Rattle.ways.specs.Known.{Table, Known};
 ghost use Rattle.plans.specs.Plans.{Planned, Asks, Gives};
 ghost use Rattle.moves.specs.Proposals.{proposed, placeIn};
 

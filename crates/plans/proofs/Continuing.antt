@@ -18,10 +18,10 @@ use Rattle.cows.proofs.Ways.{encode-replaced, depth-part, depth-fill, size-swap
 use Rattle.records.specs.Rewrites.{Stands}
 use Rattle.records.proofs.Put.{has-take}
 use Rattle.records.proofs.Stands.{part-stands}
-use Rattle.passes.specs.Known.{Table}
-use Rattle.passes.specs.Ways.{startOf}
-use Rattle.passes.proofs.Tables.{table-size, table-ended}
-use Rattle.passes.proofs.Starts.{Start, start-at}
+use Rattle.ways.specs.Known.{Table}
+use Rattle.ways.specs.Ways.{startOf}
+use Rattle.ways.proofs.Tables.{table-size, table-ended}
+use Rattle.ways.proofs.Starts.{Start, start-at}
 use Rattle.plans.specs.Cutting.{Span, Room, cutOf}
 use Rattle.plans.proofs.Planning.{within-limits}
 

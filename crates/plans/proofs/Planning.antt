@@ -16,8 +16,8 @@ use Rattle.cows.specs.Active.{live, wanted}
 use Rattle.cows.specs.Step.{overLimits}
 use Rattle.cows.proofs.Basics.{clash, same-accept}
 use Rattle.records.specs.Rewrites.{put}
-use Rattle.passes.specs.Known.{Table, Known}
-use Rattle.passes.proofs.Tables.{one-table}
+use Rattle.ways.specs.Known.{Table, Known}
+use Rattle.ways.proofs.Tables.{one-table}
 use Rattle.plans.specs.declared.Judgement.{Judgement}
 use Rattle.plans.specs.declared.Plan.{Plan}
 use Rattle.plans.specs.declared.Judgement.the-variants.{Allowed, Large}

@@ -8,7 +8,7 @@ use Rattle.cows.specs.Terms.{Term, size}
 use Rattle.cows.specs.Format.{encode}
 use Rattle.cows.specs.Step.{overLimits}
 use Rattle.records.specs.Rewrites.{put}
-use Rattle.passes.specs.Known.{Table, Known}
+use Rattle.ways.specs.Known.{Table, Known}
 use Rattle.plans.specs.declared.Judgement.{Judgement}
 use Rattle.plans.specs.declared.Judgement.the-variants.{Allowed, Unread, Absent, Differs, Apart, Held, Looser, Unripe, Early, Stuck, Large}
 use Rattle.plans.specs.declared.Plan.{Plan}

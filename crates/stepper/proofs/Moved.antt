@@ -16,7 +16,7 @@ use Rattle.cows.specs.Step.{overLimits, reply, written}
 use Rattle.cows.proofs.Basics.{bool-case, bind-accept, forbid-accept, placeIf-none, same-accept}
 use Rattle.cows.proofs.Format.{length-encode}
 use Rattle.records.specs.Rewrites.{put}
-use Rattle.passes.specs.Known.{Table, Known}
+use Rattle.ways.specs.Known.{Table, Known}
 use Rattle.plans.specs.declared.Judgement.{Judgement}
 use Rattle.plans.specs.declared.Judgement.the-variants.{Allowed, Unread, Absent, Differs, Apart, Held, Looser, Unripe, Early, Stuck, Large}
 use Rattle.plans.specs.declared.Plan.{Plan}

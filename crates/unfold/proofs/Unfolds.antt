@@ -28,12 +28,12 @@ use Rattle.cows.proofs.Stands.{replicates-is, prefixed-is, wanted-is, wanted-li
 use Rattle.records.specs.Rewrites.{put, Stands}
 use Rattle.records.proofs.Put.{and-then}
 use Rattle.records.proofs.Stands.{encode-both, holds-stands}
-use Rattle.passes.specs.Known.{Table, Known}
-use Rattle.passes.specs.Depths.{Standing}
-use Rattle.passes.specs.Ways.{LiveAt}
-use Rattle.passes.proofs.Tables.{table-size, table-ended}
-use Rattle.passes.proofs.Climbing.{way-short}
-use Rattle.passes.proofs.Deep.{standing}
+use Rattle.ways.specs.Known.{Table, Known}
+use Rattle.ways.specs.Depths.{Standing}
+use Rattle.ways.specs.Ways.{LiveAt}
+use Rattle.ways.proofs.Tables.{table-size, table-ended}
+use Rattle.ways.proofs.Climbing.{way-short}
+use Rattle.ways.proofs.Deep.{standing}
 use Rattle.renaming.specs.Names.{Body}
 use Rattle.renaming.proofs.Copies.{within-body}
 use Rattle.plans.specs.declared.Judgement.the-variants.{Allowed, Large}

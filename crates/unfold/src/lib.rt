@@ -12,7 +12,7 @@ ghost use Rattle.cows.specs.Terms.{parallel, Term};
 ghost use Rattle.cows.specs.Format.{join, record16};
 ghost use Rattle.cows.specs.Moves.{unfoldAt};
 ghost use Rattle.records.specs.Rewrites.{put};
-ghost use Rattle.passes.specs.Known.{Table, Known};
+ghost use Rattle.ways.specs.Known.{Table, Known};
 ghost use Rattle.plans.specs.Plans.{Planned, Asks, Gives};
 
 // The move on the replication at place a, which is the place of its plan. The k records on the way to it and the parallel stand above it.
@@ -21,12 +21,12 @@ pub fn judge(s: &[u8], ends: &[u16], a: usize) -> Plan
     ensures { λ r. ⌜ ((t : Term) → Table (now (s .entry)) (now (ends .entry)) t → Planned (unfoldAt t a) a r) ⌝ }
 {
     let mut way = [0u16; 256];
-    let found = passes::ways::live_at(s, ends, a, 9, &mut way);
+    let found = ways::live_at(s, ends, a, 9, &mut way);
     let Found::At(k) = found else {
         return refused(Judgement::Absent(a));
     };
     let size = s.len() / 16 + (wide16(ends[a]) - a);
-    let depth = k + 1 + passes::depths::depth_at(s, ends, a);
+    let depth = k + 1 + ways::depths::depth_at(s, ends, a);
     if (2048 < size) | (256 < depth) {
         return Plan {
             judgement: Judgement::Large,

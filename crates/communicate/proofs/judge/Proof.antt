@@ -3,7 +3,7 @@ use borrow.Author.Tests.{not-true, not-false}
 use mathlib.Core.Path.{_≡_, refl, sym, ap, _∙_}
 use native.Mathlib.Omega.{arith}
 use Rattle.records.proofs.Laws.{found-at, found-nothing}
-use Rattle.passes.proofs.Tables.{live-inside, walk-known}
+use Rattle.ways.proofs.Tables.{live-inside, walk-known}
 use Rattle.plans.specs.Plans.{resultOf}
 use Rattle.communicate.specs.Meeting.{mismatchOf}
 use Rattle.plans.proofs.Planning.{planned-refused}

@@ -3,7 +3,7 @@ use mathlib.Core.Path.{_≡_, refl, sym, ap, _∙_}
 use mathlib.Core.Bool.{_||_}
 use native.Mathlib.Omega.{arith}
 use lib.Dec.{eqb}
-use Rattle.passes.proofs.Tables.{live-inside, walk-known}
+use Rattle.ways.proofs.Tables.{live-inside, walk-known}
 use Rattle.plans.specs.Plans.{resultOf}
 use Rattle.extrude.specs.Extruding.{isLabel}
 use Rattle.plans.proofs.Planning.{planned-refused}

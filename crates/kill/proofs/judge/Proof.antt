@@ -1,8 +1,8 @@
 use borrow.Author.Needs.{needs}
 use mathlib.Core.Path.{refl, sym, ap, _∙_}
 use native.Mathlib.Omega.{arith}
-use Rattle.passes.proofs.Tables.{live-inside, walk-known}
-use Rattle.passes.proofs.Marking.{no-label}
+use Rattle.ways.proofs.Tables.{live-inside, walk-known}
+use Rattle.records.proofs.Atoms.{no-label}
 use Rattle.plans.specs.Plans.{resultOf}
 use Rattle.plans.proofs.Planning.{planned-refused}
 use Rattle.kill.proofs.Kills.{no-kill, label-there, scope-there, body-inside, few-gone, kill-planned}

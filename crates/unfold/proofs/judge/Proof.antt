@@ -1,7 +1,7 @@
 use borrow.Author.Needs.{needs}
 use mathlib.Core.Path.{refl, ap}
 use native.Mathlib.Omega.{arith}
-use Rattle.passes.proofs.Deep.{depth-few}
+use Rattle.ways.proofs.Deep.{depth-few}
 use Rattle.plans.specs.Plans.{resultOf}
 use Rattle.plans.proofs.Planning.{planned-refused}
 use Rattle.unfold.proofs.Unfolds.{no-replication, judges, unfold-allowed, unfold-large}
