@@ -1,17 +1,1 @@
-pub mod Planning
 pub mod Proposing
-pub mod Joining
-pub mod Continuing
-pub mod Timeouts
-pub mod Killing
-pub mod Kills
-pub mod Elapses
-pub mod Extrudes
-pub mod Unfolds
-pub mod Silences
-pub mod Meets
-pub mod Scoping
-pub mod Communicates
-pub mod Taking
-pub mod Replacing
-pub mod Exchanges

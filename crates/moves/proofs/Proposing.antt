@@ -9,11 +9,11 @@ use Rattle.cows.specs.Format.{encode}
 use Rattle.records.specs.Rewrites.{put}
 use Rattle.moves.specs.declared.Move.{Move}
 use Rattle.moves.specs.declared.Move.the-variants.{None}
-use Rattle.moves.specs.declared.Judgement.the-variants.{Unread}
-use Rattle.moves.specs.declared.Plan.{Plan}
-use Rattle.moves.specs.Plans.{resultOf, Planned, Asks, Gives}
+use Rattle.plans.specs.declared.Judgement.the-variants.{Unread}
+use Rattle.plans.specs.declared.Plan.{Plan}
+use Rattle.plans.specs.Plans.{resultOf, Planned, Asks, Gives}
 use Rattle.moves.specs.Proposals.{proposed, placeIn}
-use Rattle.moves.proofs.Planning.{planned-refused}
+use Rattle.plans.proofs.Planning.{planned-refused}
 
 module _ {m v : Move} (same : m ≡ v) where
   pub plans : (t : Term) (r : Plan) → Planned (proposed v t) (placeIn v t) r → Planned (proposed m t) (placeIn m t) r

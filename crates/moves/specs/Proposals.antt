@@ -6,11 +6,11 @@ use Rattle.cows.specs.Terms.{Term}
 use Rattle.cows.specs.Places.{wayTo}
 use Rattle.cows.specs.Moves.{successor}
 use Rattle.cows.specs.Moves as moves
-use Rattle.passes.specs.Ways.{startOf}
+use Rattle.ways.specs.Ways.{startOf}
 use Rattle.moves.specs.declared.Move.{Move}
 use Rattle.moves.specs.declared.Move.the-variants.{Kill, Communicate, Timeout, Elapse, Unfold, Extrude, None}
-use Rattle.moves.specs.Killing.{killScope}
-use Rattle.moves.specs.Extruding.{parentOf}
+use Rattle.kill.specs.Killing.{killScope}
+use Rattle.extrude.specs.Extruding.{parentOf}
 
 -- the move that the code has read, if it is one
 abbrev pub moveOf : Move → Option moves.Move

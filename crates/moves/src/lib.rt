@@ -1,16 +1,10 @@
-// Moves: the six moves on a well-formed table, one module each. A move is judged first, which writes nothing, and then its successor is written.
-mod communicate;
-mod cutting;
-mod elapse;
-mod extrude;
-mod kill;
-mod timeout;
-mod unfold;
-
-ghost use mathlib.Core.Path.{_≡_};
+// Moves: the six moves on a well-formed table, of a crate each. A move is judged first, which writes nothing, and then its successor is written.
+use plans::Judgement;
+use plans::Plan;
+use plans::refused;
 ghost use Rattle.cows.specs.Terms.{Term};
-ghost use Rattle.passes.specs.Known.{Table, Known};
-ghost use Rattle.moves.specs.Plans.{Planned, Asks, Gives};
+ghost use Rattle.ways.specs.Known.{Table, Known};
+ghost use Rattle.plans.specs.Plans.{Planned, Asks, Gives};
 ghost use Rattle.moves.specs.Proposals.{proposed, placeIn};
 
 // A move as it is read off its six bytes, or none.
@@ -22,33 +16,6 @@ pub enum Move {
     Unfold(usize),
     Extrude(usize),
     None,
-}
-
-// What the proposer of a move is told: the number of the successor's records, or the refusal of 10 to 18, or 20, and its place.
-pub enum Judgement {
-    Allowed(usize),
-    Unread,
-    Absent(usize),
-    Differs(usize),
-    Apart(usize),
-    Held(usize),
-    Looser(usize),
-    Unripe(usize),
-    Early(usize),
-    Stuck(usize),
-    Large,
-}
-
-// A judgement, and the place from which the table changes.
-pub struct Plan {
-    pub judgement: Judgement,
-    pub from: usize,
-}
-
-fn refused(judgement: Judgement) -> Plan
-    ensures { λ r. ⌜ (r .judgement ≡ judgement) × (r .from ≡ 0) ⌝ }
-{
-    Plan { judgement, from: 0 }
 }
 
 // A move on a known table is judged: whether it is allowed, how many records its successor has, and from which place on the table changes.

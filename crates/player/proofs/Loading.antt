@@ -20,8 +20,8 @@ use Rattle.records.specs.Holds.{Holds}
 use Rattle.records.specs.Rewrites.{Stands}
 use Rattle.records.proofs.Stands.{stands-kind, stands-under, stands-left, stands-right, holds-stands, holds-size}
 use Rattle.records.proofs.Laws.{test-sum, test-small}
-use Rattle.passes.specs.Known.{Table, Known}
-use Rattle.passes.proofs.Tables.{table-size, table-ended}
+use Rattle.ways.specs.Known.{Table, Known}
+use Rattle.ways.proofs.Tables.{table-size, table-ended}
 use Rattle.tables.specs.declared.Reply.{Reply}
 use Rattle.tables.specs.Verdict.{checkReply, Checked}
 use Rattle.stepper.proofs.Stepping.{Read}

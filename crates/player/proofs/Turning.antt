@@ -28,8 +28,8 @@ use Rattle.cows.proofs.Step as steps
 use Rattle.cows.proofs.Step.{Below, below-step, read-case}
 use Rattle.cows.proofs.Preserving.{step-within}
 use Rattle.records.specs.Ends.{EndsFrom}
-use Rattle.passes.specs.Known.{Table, Known}
-use Rattle.passes.proofs.Tables.{one-table, table-size}
+use Rattle.ways.specs.Known.{Table, Known}
+use Rattle.ways.proofs.Tables.{one-table, table-size}
 use Rattle.tables.specs.declared.Reply.{Reply}
 use Rattle.stepper.specs.Replies.{replyOf, Answers}
 use Rattle.stepper.proofs.Stepping.{table-known}

@@ -19,8 +19,8 @@ use Rattle.cows.proofs.Basics.{or-false, accept-bind}
 use Rattle.cows.proofs.Lists.{length-pieces, length-replies}
 use Rattle.records.specs.Rewrites.{put}
 use Rattle.records.proofs.Put.{length-put}
-use Rattle.passes.specs.Known.{Table}
-use Rattle.passes.proofs.Tables.{table-size}
+use Rattle.ways.specs.Known.{Table}
+use Rattle.ways.proofs.Tables.{table-size}
 use Rattle.tables.specs.declared.Reply.{Reply}
 use Rattle.tables.specs.Verdict.{checkReply, Checked}
 use Rattle.stepper.proofs.Stepping.{Read, read-known}

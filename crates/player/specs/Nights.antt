@@ -10,7 +10,7 @@ use Rattle.cows.specs.Step.{Reply}
 use Rattle.cows.specs.Run.{noTally, Run, start, run, judgement, turn, kept, replies, replyBytes, movesOf, played, playedReply, playedTally, playedOutput, playedReplies}
 use Rattle.cows.specs.Run as meaning
 use Rattle.records.specs.Rewrites.{put}
-use Rattle.passes.specs.Known.{Known}
+use Rattle.ways.specs.Known.{Known}
 use Rattle.stepper.specs.Replies.{replyOf}
 use Rattle.tally.specs.declared.Tally.{Tally}
 use Rattle.tally.specs.Counted.{tallyOf, sumOf, Small}

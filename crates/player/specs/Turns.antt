@@ -13,7 +13,7 @@ use Rattle.cows.specs.Moves.{Move}
 use Rattle.cows.specs.Step.{readMove, stepTerm}
 use Rattle.cows.specs.Load.{copies}
 use Rattle.cows.specs.Run.{Run, judgement, turn, kept}
-use Rattle.passes.specs.Known.{Table, Known}
+use Rattle.ways.specs.Known.{Table, Known}
 use Rattle.stepper.specs.Replies.{replyOf, Answers}
 use Rattle.tally.specs.Counted.{tallyOf, sumOf, Small}
 use Rattle.player.specs.declared.turns.Kept.{Kept}

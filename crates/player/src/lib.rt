@@ -11,7 +11,7 @@ ghost use mathlib.Core.Path.{_≡_};
 ghost use Rattle.cows.specs.Basics.{accept};
 ghost use Rattle.cows.specs.Terms.{Term};
 ghost use Rattle.cows.specs.Tables.{judge};
-ghost use Rattle.passes.specs.Known.{Table};
+ghost use Rattle.ways.specs.Known.{Table};
 ghost use Rattle.player.specs.Loads.{loadReply};
 ghost use Rattle.player.specs.Nights.{Clear, refusedWith, Plays, PlaysTerm};
 ghost use Rattle.player.specs.Demand.{Demand3};

@@ -14,9 +14,10 @@ use Rattle.cows.specs.Terms.{label, datum, atom}
 use Rattle.cows.specs.Format.{byte, word, unused, interval, distinct, empty4, row, kinds, rowOf, rightRow, rightRecord, records}
 use Rattle.cows.specs.Tables.{firstWrong}
 use Rattle.cows.proofs.Basics.{and-true, true-and}
-use Rattle.records.specs.Rows.{slotRight, tupleRow}
-use Rattle.records.proofs.Checks.{datum-range, atom-range, tupleTest, invoke-code, receive-code}
-use Rattle.records.proofs.Pieces.{piece, byte-piece, word-piece, tuple-piece, slots-piece, first-piece, right-here, none-wrong}
+use Rattle.rows.specs.Rows.{slotRight, tupleRow}
+use Rattle.rows.proofs.Checks.{datum-range, atom-range, tupleTest, invoke-code, receive-code}
+use Rattle.records.proofs.Pieces.{piece, byte-piece, word-piece, first-piece}
+use Rattle.rows.proofs.Tested.{tuple-piece, slots-piece, right-here, none-wrong}
 use Rattle.ranges.specs.Ranges.{kindLowest, kindGreatest, countLowest, countGreatest, atLeast, atMost, ranged, patternRight}
 
 -- a field within its range; the eight fields of the record at byte k

@@ -11,7 +11,7 @@ use Rattle.cows.specs.Basics.{placeIf, orElse}
 use Rattle.cows.specs.Format.{rightRecord, records}
 use Rattle.cows.specs.Tables.{firstWrong}
 use Rattle.cows.proofs.Basics.{same-some}
-use Rattle.records.specs.Rows.{placeOr}
+use Rattle.records.specs.Answers.{placeOr}
 use Rattle.records.proofs.Laws.{place-tells}
 use Rattle.records.proofs.Pieces.{length-records}
 

@@ -3,10 +3,10 @@
 pub mod places;
 
 use places::places;
-use records::rows::distinct4;
-use records::rows::record_right;
 use records::wide16;
 use records::word_at;
+use rows::distinct4;
+use rows::record_right;
 ghost use mathlib.Core.Path.{_≡_};
 ghost use mathlib.Core.Bool.{true};
 ghost use mathlib.Core.Option.{none};
@@ -14,7 +14,7 @@ ghost use Prim.Native.Nat.{ℕ, _+_, _*_, _/_, _<_, _≤_};
 ghost use lib.ListN.{length, getD};
 ghost use Rattle.cows.specs.Format.{records};
 ghost use Rattle.cows.specs.Tables.{firstWrong};
-ghost use Rattle.records.specs.Rows.{placeOr};
+ghost use Rattle.records.specs.Answers.{placeOr};
 ghost use Rattle.ranges.specs.Lists.{Inside};
 ghost use Rattle.ranges.specs.Ranges.{atLeast, atMost, ranged, patternRight};
 

@@ -19,7 +19,7 @@ use Rattle.cows.proofs.Places.{size-pos}
 use Rattle.cows.proofs.Format.{length-encode}
 use Rattle.cows.proofs.Fields.{kind-leaf, kind-prefix, kind-choice, kind-parallel, guard-kind}
 use Rattle.records.specs.Ends.{childrenOf}
-use Rattle.records.specs.Rows.{placeOr}
+use Rattle.records.specs.Answers.{placeOr}
 use Rattle.records.specs.Rewrites.{Stands}
 use Rattle.records.specs.Holds.{Holds}
 use Rattle.records.proofs.Laws.{children-none, children-one, place-tells}

@@ -8,7 +8,7 @@ use lib.Dec.{ltb, eqb}
 use lib.ListN.{length, getD}
 use Rattle.cows.specs.Basics.{placeIf, orElse}
 use Rattle.cows.specs.Terms.{Join, choice, parallel, Term, leaf, under, both, size, guard}
-use Rattle.records.specs.Rows.{placeOr}
+use Rattle.records.specs.Answers.{placeOr}
 use Rattle.records.specs.Ends.{endAt}
 use Rattle.records.specs.Rewrites.{Stands}
 

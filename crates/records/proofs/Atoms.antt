@@ -1,9 +1,12 @@
 -- Laws of the classes of atoms (specs/Atoms): an atom that was read has the number that was read, and is of the set that its class says.
 use mathlib.Core.Path.{_≡_, refl, sym}
 use mathlib.Core.Bool.{true}
-use Prim.Native.Nat.{ℕ, _≤_}
+use mathlib.Core.List.{[], _∷_}
+use Prim.Native.Nat.{ℕ, _≤_, _<_}
 use native.Mathlib.Omega.{arith}
 use lib.Dec.{leb, ltb, eqb}
+use types.Run.{OneOf, miss}
+use denote.Enum.Declared.{tagOf}
 use borrow.Author.Tests.{eqb-true, eqb-false, ne-eqb, ltb-true, ltb-false, lt-ltb, le-ltb}
 use Rattle.cows.specs.Terms.{value, variable}
 use Rattle.cows.proofs.Basics.{cond-case, and-none}
@@ -11,6 +14,7 @@ use Rattle.cows.proofs.Sets.{in-values, in-variables, value-range, variable-ran
 use Rattle.records.specs.declared.Label as labels
 use Rattle.records.specs.declared.Atom.{Atom}
 use Rattle.records.specs.declared.Atom.the-variants.{None, Value, Variable, Label}
+use Rattle.records.proofs.Atom.{the-type}
 use Rattle.records.specs.Atoms.{classOf, numberOf, isVariable}
 
 -- the class of a number, by the set that it is of
@@ -46,3 +50,7 @@ pub variable-class : (n : ℕ) → isVariable (classOf n) ≡ variable n
 unfolding variable
 variable-class n =
     class-case (λ a. isVariable a ≡ variable n) n (λ z. rw z) (λ e. sym (in-values n (value-range n e .0) (value-range n e .1) .1)) sym (λ l. rw (le-ltb n 49152 l) (sym (and-none (leb 32768 n))))
+
+-- an atom that the code has told to be no label
+pub no-label : (w : ℕ) → OneOf (0 ∷ 1 ∷ 2 ∷ []) (tagOf the-type (classOf w)) → w < 49152
+no-label w = class-case (λ a. OneOf (0 ∷ 1 ∷ 2 ∷ []) (tagOf the-type a) → w < 49152) w (λ z e. omega arith) (λ h e. omega (arith, value-range w h)) (λ h e. omega (arith, variable-range w h)) (λ l e. absurd (miss (0 ∷ 1 ∷ 2 ∷ []) 3 tt e))

@@ -12,7 +12,7 @@ use mir.Val.{Fits, boolByte}
 use borrow.Author.Tests.{le-leb, lt-leb, ne-eqb, eqb-true}
 use mathlib.Core.Option.{Option, none, some}
 use Rattle.records.specs.declared.Found.the-variants.{At, Nothing}
-use Rattle.records.specs.Rows.{foundOf, placeOr}
+use Rattle.records.specs.Answers.{foundOf, placeOr}
 use Rattle.cows.proofs.Basics.{bool-case, lt-case}
 use Rattle.records.specs.Ends.{oneIf, childrenOf, pickEnd}
 

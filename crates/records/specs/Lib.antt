@@ -1,5 +1,5 @@
 pub mod Atoms
-pub mod Rows
 pub mod Ends
 pub mod Holds
 pub mod Rewrites
+pub mod Answers

@@ -1,7 +1,6 @@
 // Records: atoms and their three sets, the numbers in a record's bytes, and how many children a kind has.
 pub mod copying;
 pub mod ends;
-pub mod rows;
 
 ghost use mathlib.Core.Path.{_≡_};
 ghost use Prim.Native.Nat.{_+_, _-_, _<_, _≤_};

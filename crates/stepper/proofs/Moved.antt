@@ -16,11 +16,11 @@ use Rattle.cows.specs.Step.{overLimits, reply, written}
 use Rattle.cows.proofs.Basics.{bool-case, bind-accept, forbid-accept, placeIf-none, same-accept}
 use Rattle.cows.proofs.Format.{length-encode}
 use Rattle.records.specs.Rewrites.{put}
-use Rattle.passes.specs.Known.{Table, Known}
-use Rattle.moves.specs.declared.Judgement.{Judgement}
-use Rattle.moves.specs.declared.Judgement.the-variants.{Allowed, Unread, Absent, Differs, Apart, Held, Looser, Unripe, Early, Stuck, Large}
-use Rattle.moves.specs.declared.Plan.{Plan}
-use Rattle.moves.specs.Plans.{resultOf, limited, Planned, Asks}
+use Rattle.ways.specs.Known.{Table, Known}
+use Rattle.plans.specs.declared.Judgement.{Judgement}
+use Rattle.plans.specs.declared.Judgement.the-variants.{Allowed, Unread, Absent, Differs, Apart, Held, Looser, Unripe, Early, Stuck, Large}
+use Rattle.plans.specs.declared.Plan.{Plan}
+use Rattle.plans.specs.Plans.{resultOf, limited, Planned, Asks}
 use Rattle.tables.specs.declared.Reply.{Reply}
 use Rattle.stepper.specs.Replies.{replyOf, refusal, replyIn, finished, Moved}
 

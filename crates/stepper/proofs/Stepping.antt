@@ -17,7 +17,7 @@ use Rattle.cows.proofs.Basics.{bool-case, accept-bind}
 use Rattle.cows.proofs.Format.{length-encode}
 use Rattle.cows.proofs.Tables.{judge-encode, judge-within}
 use Rattle.cows.proofs.Step.{step-numbered}
-use Rattle.passes.specs.Known.{Table, Known}
+use Rattle.ways.specs.Known.{Table, Known}
 use Rattle.moves.specs.declared.Move.{Move}
 use Rattle.moves.specs.Proposals.{moveOf, proposed}
 use Rattle.tables.specs.declared.Reply.{Reply}

@@ -1,9 +1,9 @@
 // The reply to a move that was judged, as document 01 numbers refusals.
-use moves::Judgement;
+use plans::Judgement;
 use tables::Reply;
 ghost use mathlib.Core.Path.{_≡_};
 ghost use Rattle.cows.specs.Basics.{accept};
-ghost use Rattle.moves.specs.Plans.{resultOf};
+ghost use Rattle.plans.specs.Plans.{resultOf};
 ghost use Rattle.stepper.specs.Replies.{refusal, replyIn};
 
 // A refusal: its number, its place and no records.

@@ -6,7 +6,7 @@ use tables::Reply;
 ghost use lib.ListN.{length};
 ghost use Rattle.cows.specs.Terms.{Term};
 ghost use Rattle.cows.specs.Step.{stepTerm};
-ghost use Rattle.passes.specs.Known.{Table, Known};
+ghost use Rattle.ways.specs.Known.{Table, Known};
 ghost use Rattle.stepper.specs.Replies.{Answers, Stepped};
 ghost use Rattle.stepper.specs.Demand.{Demand2};
 

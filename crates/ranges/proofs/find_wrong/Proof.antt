@@ -6,8 +6,8 @@ use native.Mathlib.Omega.{arith}
 use lib.ListN.{length, drop}
 use Rattle.cows.specs.Format.{records}
 use Rattle.cows.specs.Tables.{firstWrong}
-use Rattle.records.proofs.Pieces.{wrong-here, right-here, none-wrong}
-use Rattle.records.specs.Rows.{placeOr}
+use Rattle.rows.proofs.Tested.{wrong-here, right-here, none-wrong}
+use Rattle.records.specs.Answers.{placeOr}
 
 abbrev Inv-loop : tie.InvT-loop
 Inv-loop s n i₀ i = (n ≡ length s / 16) × (firstWrong 0 (records s) ≡ firstWrong i (drop i (records s)))

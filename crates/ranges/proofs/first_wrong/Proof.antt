@@ -1,6 +1,6 @@
 use borrow.Author.Needs.{needs}
 use mathlib.Core.Path.{sym, ap}
-use Rattle.records.specs.Rows.{placeOr}
+use Rattle.records.specs.Answers.{placeOr}
 use Rattle.ranges.proofs.first_wrong.Statement.{statement}
 use Rattle.ranges.proofs.first_wrong.Tie as tie
 

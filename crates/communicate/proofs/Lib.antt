@@ -1,0 +1,7 @@
+pub mod Silences
+pub mod Meets
+pub mod Scoping
+pub mod Communicates
+pub mod Taking
+pub mod Replacing
+pub mod Exchanges

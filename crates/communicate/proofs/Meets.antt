@@ -1,0 +1,136 @@
+-- What a communication leaves (specs/Binding: Matched, Leaves): the table of the successor by the records of the term as it was, its size, and that it is within the limits.
+use mathlib.Core.Path.{_≡_, sym, ap, subst, _∙_}
+use mathlib.Core.Bool.{true, false, not, _&&_}
+use mathlib.Core.List.{List, [], _∷_, _++_}
+use Prim.Native.Nat.{ℕ, suc, _+_, _-_}
+use native.Mathlib.Omega.{arith}
+use lib.Dec.{eqb}
+use lib.ListN.{length, take, drop}
+use borrow.Author.Tests.{eqb-true, eq-eqb, not-true}
+use Rattle.cows.specs.Basics.{any, member, accept}
+use Rattle.cows.specs.Terms.{choice, parallel, Term, under, Ends, variable, size, invokes, prefixed, receives, below}
+use Rattle.cows.specs.Places.{inside, leftOf, rightOf, Way, wayTo, sub, frameDelimits, enclosed, frameChooses}
+use Rattle.cows.specs.Format.{Node, nodes, bytes, encode, distinct}
+use Rattle.cows.specs.Active.{wanted}
+use Rattle.cows.specs.Within.{Right, counts, Within}
+use Rattle.cows.specs.Allows.{Matches, empty, takes, equals, AllReach}
+use Rattle.cows.specs.Moves.{Substitution, fit, matched, silence, aroundChoice, continue, bind, communicateAt}
+use Rattle.cows.specs.Step.{overLimits}
+use Rattle.cows.proofs.Basics.{clash, and-true, true-and, or-both, or-right, not-so, bind-accept}
+use Rattle.cows.proofs.Scopes.{counts-enclosed}
+use Rattle.cows.proofs.Fields.{append-bytes}
+use Rattle.cows.proofs.Parts.{Sound}
+use Rattle.cows.proofs.Binding.{AllBind, matched-binds}
+use Rattle.cows.proofs.Binds.{boundNodes, bound-append, bind-nodes, bind-depth, Once, bind-size}
+use Rattle.cows.proofs.Meeting.{fit-fits, inScope-reaches}
+use Rattle.cows.proofs.Preserving.{meeting-binds, scopes-passed}
+use Rattle.cows.proofs.Stands.{right-at, receiveOf, invokes-is, receives-is, prefixed-is, wanted-live}
+use Rattle.ways.specs.Ways.{startOf}
+use Rattle.communicate.specs.Binding.{Matched, Left, Met}
+use Rattle.plans.proofs.Planning.{within-limits}
+use Rattle.plans.proofs.Continuing.{cuts}
+use Rattle.communicate.proofs.Silences.{silence-enclosed, left-nodes, left-size, left-depth}
+
+-- the variables bound are the pattern's, and those are distinct
+keys-member : {ws vs : List ℕ} {σ : Substitution} → Matches ws vs σ → (y : ℕ) → any (λ (p : ℕ × ℕ). eqb (p .0) y) σ ≡ true → member y ws ≡ true
+unfolding any member
+keys-member empty y h = h
+keys-member (takes {w = w} e m) y h = or-both {a = eqb w y} (λ k. eq-eqb y w (sym (eqb-true w y k))) (keys-member m y) h
+keys-member (equals {v = v} e m) y h = or-right (eqb y v) _ (keys-member m y h)
+
+once-met : (t r : Term) (a b : ℕ) → ((x : ℕ) → enclosed x (wayTo t a) ≡ true → counts x r ≡ 1)
+    → {ws vs : List ℕ} {σ : Substitution} → Matches ws vs σ → distinct ws ≡ true → AllReach t a b σ → Once r σ
+unfolding distinct
+once-met t r a b k empty d h = tt
+once-met t r a b k (takes {w = w} {ws = ws} e m) d h =
+    let (d₁, d₂) = and-true (not (variable w && member w ws)) (distinct ws) d in
+    (k w (h .0 .receiver), not-so (λ i. clash (true-and e (keys-member m w i)) (not-true _ d₁)), once-met t r a b k m d₂ (h .1))
+once-met t r a b k (equals {v = v} {ws = ws} e m) d h = once-met t r a b k m (and-true (not (variable v && member v ws)) (distinct ws) d .1) h
+
+-- a choice delimits nothing
+enclosed-around : (d : ℕ) (w : Way) → enclosed d w ≡ true → enclosed d (aroundChoice w) ≡ true
+unfolding enclosed any frameDelimits aroundChoice frameChooses
+enclosed-around d [] h = h
+enclosed-around d (inside u ∷ w) h = h
+enclosed-around d (leftOf choice t ∷ w) h = enclosed-around d w h
+enclosed-around d (leftOf parallel t ∷ w) h = h
+enclosed-around d (rightOf choice t ∷ w) h = enclosed-around d w h
+enclosed-around d (rightOf parallel t ∷ w) h = h
+
+-- The receive q at place a and the invoke m at place b match.
+module _ (t : Term) (a b : ℕ) (q m : Ends) (σ : Substitution) (w : Within t) (h : Matched t a b q m σ) where
+  abbrev c : ℕ
+  c = startOf a (wayTo t a)
+
+  abbrev N : List Node
+  N = nodes (silence t b)
+
+  abbrev s : Term
+  s = continue (silence t b) a
+
+  met-binds : Sound s × AllBind s σ
+  unfolding prefixed receives invokes
+  met-binds = meeting-binds t a b q m σ (ap (prefixed receives) (h .receives)) (ap invokes (h .invokes)) (h .fits) (h .scopes) (w .right, w .formed)
+
+  counts-met : (x : ℕ) → enclosed x (wayTo t a) ≡ true → counts x s ≡ 1
+  unfolding continue
+  counts-met x e =
+      let i = silence-enclosed t a b (h .receiver) (h .receives) (h .invokes) x ∙ e in
+      omega (arith, counts-enclosed (aroundChoice (wayTo (silence t b) a)) (below (sub (silence t b) a)) x (enclosed-around x (wayTo (silence t b) a) i), met-binds .0 .1 .unique x)
+
+  once : Once s σ
+  once =
+      let r : Right (under (receiveOf q) (below (sub t a))) = subst Right (h .receives) (right-at t a (w .right)) in
+      once-met t s a b counts-met (fit-fits q m σ (h .fits) .matches) (r .0 .3) (inScope-reaches t a b σ (h .scopes))
+
+  left-count : size (bind σ s) + length σ + size (sub t c) ≡ size t + (size (sub t a) - 1)
+  left-count =
+      omega (arith, bind-size σ s (met-binds .0) (met-binds .1) once, left-size t a b (h .receiver) (h .receives) (h .invokes))
+
+  left-table : encode (bind σ s) ≡ bytes (boundNodes σ (take c N)) ++ (bytes (boundNodes σ (take (size (sub t a) - 1) (drop (suc a) N))) ++ bytes (boundNodes σ (drop (c + size (sub t c)) N)))
+  unfolding encode
+  left-table =
+      rw (
+        bind-nodes σ s (met-binds .0) (met-binds .1),
+        left-nodes t a b (h .receiver) (h .receives) (h .invokes),
+        bound-append σ,
+        bound-append σ,
+        append-bytes,
+        append-bytes,
+      )
+
+  pub left : Left t a b σ (bind σ s)
+  left =
+      let k = cuts t a (receiveOf q) (h .receiver) (h .receives) in
+      record {
+        table = left-table;
+        count = left-count;
+        shallow = omega (arith, bind-depth σ s, left-depth t a b (h .receiver) (h .receives) (h .invokes), w .shallow);
+        small = omega (arith, left-count, k, w .small);
+      }
+
+  pub left-limits : overLimits (bind σ s) ≡ false
+  left-limits = within-limits (bind σ s) (left .small) (left .shallow)
+
+-- What is accepted has such parties.
+pub accepted-met : (t r : Term) (a b : ℕ) → Within t → communicateAt t a b ≡ accept r → Met t a b r
+unfolding communicateAt
+accepted-met t r a b w e =
+    let (q, eq, e₁) = bind-accept (wanted (prefixed receives) t a) _ r e in
+    let (m, em, e₂) = bind-accept (wanted invokes t b) _ r e₁ in
+    let (σ, eσ, e₃) = bind-accept (matched a (fit q m)) _ r e₂ in
+    let (es, is) = scopes-passed t a b m σ (bind σ (continue (silence t b) a)) r e₃ in
+    let x = wanted-live (prefixed receives) t a q (under (receiveOf q) (below (sub t a))) (prefixed-is receives receiveOf receives-is (sub t a) q) eq in
+    let y = wanted-live invokes t b m _ (invokes-is (sub t b) m) em in
+    let h : Matched t a b q m σ =
+    record { receiver = x .at .placed; receives = x .at .stands; sender = y .at .placed; invokes = y .at .stands; fits = matched-binds a (fit q m) σ eσ; scopes = es } in
+    record {
+      receive = q;
+      invoke = m;
+      pairs = σ;
+      matched = h;
+      live-receive = x .live;
+      live-invoke = y .live;
+      is = sym is;
+      leaves = subst (Left t a b σ) is (left t a b q m σ w h);
+    }

@@ -1,0 +1,19 @@
+use borrow.Author.Needs.{needs}
+use mathlib.Core.Path.{_≡_, sym, _∙_}
+use Rattle.communicate.proofs.Taking.{takes-pair, takes-nothing}
+use Rattle.communicate.proofs.Scoping.{slot-sends}
+use Rattle.communicate.proofs.slot_in_scope.Statement.{statement}
+use Rattle.communicate.proofs.slot_in_scope.Tie as tie
+
+pub slot-in-scope-spec : {M : Type 1} → statement M
+slot-in-scope-spec =
+    tie.close
+    (tie.spec
+    (λ c κs. search needs)
+    (λ c. search needs)
+    (λ c. search needs)
+    (λ c t a b h. rw (takes-nothing _ _ (sym (c .enum-told .given .1) ∙ c .before .before .takes-at .ensures) (λ z. h .sent z .0)))
+    (λ c κs. search needs)
+    (λ c t a b h.
+    let p = takes-pair _ _ _ _ (sym (c .before .before .x .given .1) ∙ c .before .before .before .before .takes-at .ensures) in
+    rw (p .2, ← p .0, ← p .1) (c .in-scope .ensures t a b (rw (← p .1) at (slot-sends _ _ _ _ _ _ _ t a b h (p .2))))))

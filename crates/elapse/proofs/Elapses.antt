@@ -1,0 +1,93 @@
+-- Elapse (specs/Moves, elapseBy) as it is judged and written.
+use mathlib.Core.Path.{_≡_, refl, sym, ap, _∙_}
+use mathlib.Core.Logic.{_≢_}
+use mathlib.Core.Bool.{Bool, true, false, cond}
+use mathlib.Core.Option.{Option, none, some}
+use mathlib.Core.List.{List, [], append-nil}
+use Prim.Native.Nat.{ℕ, suc, _/_}
+use native.Mathlib.Omega.{arith}
+use lib.ListN.{length}
+use borrow.Author.Tests.{ne-eqb}
+use Rattle.cows.specs.Basics.{placeIf, refuse, accept, _>>_, forbid}
+use Rattle.cows.specs.Terms.{Term, leaf, under, both, size, depth}
+use Rattle.cows.specs.Places.{first}
+use Rattle.cows.specs.Format.{encode}
+use Rattle.cows.specs.Active.{passesLive}
+use Rattle.cows.specs.Moves.{elapse, shorter, elapseBy}
+use Rattle.cows.proofs.Basics.{forbid-accept, same-accept}
+use Rattle.cows.proofs.Format.{length-encode}
+use Rattle.records.specs.Answers.{foundOf}
+use Rattle.records.specs.Rewrites.{put, Stands, Ready, Rewrites}
+use Rattle.records.specs.declared.Found.{Found}
+use Rattle.records.specs.declared.Found.the-variants.{At, Nothing}
+use Rattle.records.proofs.Rewrites.{ready}
+use Rattle.rewriting.specs.Placed.{Placed}
+use Rattle.records.proofs.Laws.{found-at, found-nothing}
+use Rattle.ways.specs.Known.{Table}
+use Rattle.ways.proofs.Tables.{table-size}
+use Rattle.plans.specs.declared.Judgement.the-variants.{Allowed}
+use Rattle.plans.specs.declared.Plan.{Plan}
+use Rattle.plans.specs.Plans.{Planned, Asks}
+use Rattle.plans.proofs.Planning.{within-limits, planned-allowed}
+
+-- time changes no record's place
+size-elapse : (d : ℕ) (t : Term) → size (elapse d t) ≡ size t
+unfolding elapse size
+size-elapse d (leaf x) = refl
+size-elapse d (under u t) = ap suc (go (passesLive u) (size-elapse d t))
+  where
+    go : (b : Bool) → size (elapse d t) ≡ size t → size (cond b (elapse d t) t) ≡ size t
+    go true e = e
+    go false e = refl
+size-elapse d (both j s t) = rw (size-elapse d s, size-elapse d t)
+
+depth-elapse : (d : ℕ) (t : Term) → depth (elapse d t) ≡ depth t
+unfolding elapse depth
+depth-elapse d (leaf x) = refl
+depth-elapse d (under u t) = ap suc (go (passesLive u) (depth-elapse d t))
+  where
+    go : (b : Bool) → depth (elapse d t) ≡ depth t → depth (cond b (elapse d t) t) ≡ depth t
+    go true e = e
+    go false e = refl
+depth-elapse d (both j s t) = rw (depth-elapse d s, depth-elapse d t)
+
+pub no-time : (t : Term) (d : ℕ) → d ≡ 0 → elapseBy t d ≡ refuse 17 0
+unfolding elapseBy _>>_ forbid placeIf
+no-time t d e = rw e
+
+-- some time, and what the walk over the live waits found
+module _ (t : Term) (d : ℕ) (some-time : d ≢ 0) (f : Found) (e : f ≡ foundOf (first (shorter d) t)) where
+  pub early : (p : ℕ) → f ≡ At p → elapseBy t d ≡ refuse 17 p
+  unfolding elapseBy _>>_ forbid placeIf
+  early p x = rw (ne-eqb d 0 some-time, found-at (first (shorter d) t) p (sym x ∙ e))
+
+  elapses : f ≡ Nothing → elapseBy t d ≡ accept (elapse d t)
+  unfolding elapseBy _>>_ forbid placeIf
+  elapses x = rw (ne-eqb d 0 some-time, found-nothing (first (shorter d) t) (sym x ∙ e))
+
+  pub elapse-planned : (s ends : List ℕ) → Table s ends t → f ≡ Nothing → (r : Plan) → r .judgement ≡ Allowed (length s / 16) → r .from ≡ 0 → Planned (elapseBy t d) 0 r
+  elapse-planned s ends h x r j q =
+      planned-allowed r (elapse d t) (length s / 16) j (elapses x)
+      (within-limits (elapse d t) (omega (arith, size-elapse d t, h .within .small)) (omega (arith, depth-elapse d t, h .within .shallow)))
+      (table-size s ends t h ∙ sym (size-elapse d t)) q
+
+-- what writing an allowed move asks and gives
+module _ (s ends : List ℕ) (d : ℕ) (out : List ℕ) (q : Asks (λ t. elapseBy t d) (λ t. 0) s ends 0 out) where
+  abbrev t : Term
+  t = q .known .term
+
+  elapsed : elapse d t ≡ q .successor
+  unfolding elapseBy
+  elapsed = same-accept (forbid-accept 17 _ _ _ (forbid-accept 17 _ _ _ (q .accepted) .1) .1)
+
+  root-stands : Stands s 0 t
+  root-stands = record { rest = []; is = q .known .table .holds .is ∙ sym (append-nil (encode t)) }
+
+  pub elapse-asks : Ready (elapse d) s 0 out 0 × Placed s ends 0
+  elapse-asks = (
+    ready t root-stands (omega (arith, length-encode (elapse d t), ap size elapsed, q .room)),
+    record { from = q .known .table .end; whole = omega arith },
+  )
+
+  pub gives-elapsed : {after : List ℕ} {p r : ℕ} → Rewrites (elapse d) s 0 out 0 after p r → after ≡ put out 0 (encode (q .successor))
+  gives-elapsed w = w .done t root-stands .bytes ∙ ap (λ x. put out 0 (encode x)) elapsed

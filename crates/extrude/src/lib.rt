@@ -1,0 +1,104 @@
+// Extrude (floating): a live delimitation of a value or a variable changes places with the record above it, a parallel, a protection or a delimitation.
+use plans::Judgement;
+use plans::Plan;
+use plans::refused;
+use records::Atom;
+use records::Found;
+use records::atom_at;
+use records::copying::copy;
+use records::wide16;
+use ways::depths::depth_at;
+ghost use mathlib.Core.Path.{_≡_};
+ghost use Prim.Native.Nat.{ℕ, _<_};
+ghost use lib.ListN.{length};
+ghost use Rattle.cows.specs.Terms.{Term};
+ghost use Rattle.cows.specs.Places.{wayTo};
+ghost use Rattle.cows.specs.Moves.{extrudeAt};
+ghost use Rattle.records.specs.Rewrites.{put};
+ghost use Rattle.ways.specs.Known.{Table, Known};
+ghost use Rattle.plans.specs.Plans.{resultOf, limited, Planned, Asks, Gives};
+ghost use Rattle.extrude.specs.Extruding.{isLabel, parentOf, fittingKind, besideOf, liftAt, Lifting, Below, Lifts, lifted};
+
+fn is_label(a: Atom) -> bool
+    ensures { λ r. ⌜ r ≡ isLabel a ⌝ }
+{
+    match a {
+        Atom::None => false,
+        Atom::Value(v) => false,
+        Atom::Variable(x) => false,
+        Atom::Label(k) => true,
+    }
+}
+
+// Whether a delimitation may change places with a record of this kind above it.
+fn fitting_kind(kind: u8) -> bool
+    ensures { λ r. ⌜ r ≡ fittingKind kind ⌝ }
+{
+    (6 <= kind) & (kind <= 8)
+}
+
+// Where the other side begins of the parallel at place p, one side of which is at place a and ends at place `end`.
+fn beside(p: usize, a: usize, end: usize) -> usize
+    requires { ⌜ p < 2048 ⌝ }
+    ensures { λ r. ⌜ r ≡ besideOf p a end ⌝ }
+{
+    if a == p + 1 { end } else { p + 1 }
+}
+
+// The delimitation at place a and the record above it at place p change places, if they may; k records are on the way to a.
+fn judge_above(s: &[u8], ends: &[u16], a: usize, p: usize, k: usize) -> Judgement
+    requires { ⌜ Below (now s) (now ends) a p k ⌝ }
+    ensures { λ r. ⌜ ((t : Term) (d : ℕ) → Lifting (now (s .entry)) (now (ends .entry)) a p k t d → resultOf r ≡ limited (liftAt d t a)) ⌝ }
+{
+    let kind = s[16 * p];
+    if !fitting_kind(kind) {
+        return Judgement::Stuck(a);
+    }
+    let n = s.len() / 16;
+    if kind != 6 {
+        return Judgement::Allowed(n);
+    }
+    if 256 <= k + depth_at(s, ends, beside(p, a, wide16(ends[a]))) {
+        return Judgement::Large;
+    }
+    Judgement::Allowed(n)
+}
+
+// The move on the delimitation at place a; the place of its plan is the record above.
+pub fn judge(s: &[u8], ends: &[u16], a: usize) -> Plan
+    requires { ⌜ Known (now s) (now ends) ⌝ }
+    ensures { λ r. ⌜ ((t : Term) → Table (now (s .entry)) (now (ends .entry)) t → Planned (extrudeAt t a) (parentOf (wayTo t a)) r) ⌝ }
+{
+    let mut way = [0u16; 256];
+    let found = ways::live_at(s, ends, a, 8, &mut way);
+    let Found::At(k) = found else {
+        return refused(Judgement::Absent(a));
+    };
+    if is_label(atom_at(s, 16 * a + 2)) | (k == 0) {
+        return refused(Judgement::Stuck(a));
+    }
+    let p = wide16(way[0]);
+    Plan {
+        judgement: judge_above(s, ends, a, p, k),
+        from: p,
+    }
+}
+
+// The record at place a goes before those from place p on.
+fn lift(s: &[u8], a: usize, p: usize, out: &mut [u8])
+    requires { ⌜ Lifts (length (now s)) a p (length (now out)) ⌝ }
+    ensures { λ _. ⌜ now (out .exit) ≡ put (now (out .entry)) 0 (lifted (now (s .entry)) a p) ⌝ }
+{
+    copy(s, 0, 16 * p, out, 0);
+    copy(s, 16 * a, 16, out, 16 * p);
+    copy(s, 16 * p, 16 * (a - p), out, 16 * p + 16);
+    copy(s, 16 * (a + 1), s.len() - 16 * (a + 1), out, 16 * (a + 1));
+}
+
+// Its successor.
+pub fn write(s: &[u8], ends: &[u16], a: usize, from: usize, out: &mut [u8])
+    requires { ⌜ Asks (λ t. extrudeAt t a) (λ t. parentOf (wayTo t a)) (now s) (now ends) from (now out) ⌝ }
+    ensures { λ _. ⌜ Gives (λ t. extrudeAt t a) (now (s .entry)) (now (ends .entry)) (now (out .entry)) (now (out .exit)) ⌝ }
+{
+    lift(s, a, from, out);
+}

@@ -1,0 +1,4 @@
+pub mod HeldBack
+pub mod Marking
+pub mod Conflicting
+pub mod InScope

@@ -1,0 +1,177 @@
+-- The marks of labels (specs/Holding): the walk that marks the ready kills of a table, and what the marks say of a delimitation.
+use mathlib.Core.Path.{_≡_, refl, sym, ap, _∙_}
+use mathlib.Core.Logic.{_≢_}
+use mathlib.Core.Bool.{Bool, true, false, not, _&&_, _||_}
+use mathlib.Core.List.{List, [], _∷_}
+use mathlib.Core.Option.{none, some}
+use Prim.Native.Nat.{ℕ, zero, suc, _+_, _*_, _-_, _/_, _≤_, _<_}
+use native.Mathlib.Omega.{arith}
+use lib.Dec.{ltb, eqb}
+use lib.ListN.{length, getD, set, replicate}
+use lib.Seq.{getD-set-same, getD-set-other}
+use borrow.Author.Tests.{eqb-true, eq-eqb, ne-eqb}
+use Rattle.cows.specs.Basics.{holds, found}
+use Rattle.cows.specs.Terms.{nil, kill, invoke, receive, wait, protection, delimitation, replication, choice, parallel, Term, leaf, under, both, size, label, kills, prefixed, delimits, replicates}
+use Rattle.cows.specs.Places.{spot, sub, first, encloses}
+use Rattle.cows.specs.Format.{byte, word, root, layout, record16, kindOf}
+use Rattle.cows.specs.Active.{passesLive, ready}
+use Rattle.cows.specs.Moves.{readyKill, heldBack}
+use Rattle.cows.proofs.Basics.{clash, bool-case, not-so, and-none, none-found}
+use Rattle.cows.proofs.Fields.{kind-kill, kind-delimitation, first-kill, first-delimitation}
+use Rattle.cows.proofs.Scans.{passing}
+use Rattle.cows.proofs.Sets.{in-labels, label-range}
+use Rattle.records.specs.Atoms.{classOf}
+use Rattle.records.proofs.Stands.{holds-kind, holds-word}
+use Rattle.ways.specs.Known.{Table}
+use Rattle.holding.specs.Holding.{readyKind, Blank, Marked, Parties, Sides}
+use Rattle.ways.proofs.Tables.{table-ended, table-inside}
+use Rattle.ways.proofs.Seeking.{Seeking, seeking-start, seeking-end, seeking-through, Tells}
+use Rattle.holding.proofs.HeldBack.{passesReady, is-kill, kill-label, kills-labelled, held-none, held-delimitation}
+
+-- the kinds tell what the way to a ready record may pass
+pub kind-ready : Tells passesReady readyKind
+unfolding passesLive replicates found kindOf root record16 layout byte size
+kind-ready (leaf x) = (λ e. refl, λ e n. absurd (n refl))
+kind-ready (under (receive p o ws) t) = (λ e. e, λ e n. refl)
+kind-ready (under (wait n) t) = (λ e. e, λ e n. refl)
+kind-ready (under protection t) = (λ e. refl, λ e n. e)
+kind-ready (under (delimitation d) t) = (λ e. refl, λ e n. e)
+kind-ready (under replication t) = (λ e. refl, λ e n. e)
+kind-ready (both choice l r) = (λ e. refl, λ e n. clash refl e)
+kind-ready (both parallel l r) = (λ e. refl, λ e n. clash refl e)
+
+-- a kill and a delimitation by their kinds
+kills-none : (s : Term) → kindOf s ≢ 1 → kills s ≡ none
+unfolding kindOf root record16 layout byte kills
+kills-none (leaf nil) e = refl
+kills-none (leaf (kill k)) e = absurd (e refl)
+kills-none (leaf (invoke p o ws)) e = refl
+kills-none (under u t) e = refl
+kills-none (both j l r) e = refl
+
+delimits-none : (s : Term) → kindOf s ≢ 8 → prefixed delimits s ≡ none
+unfolding kindOf root record16 layout byte prefixed delimits
+delimits-none (leaf x) e = refl
+delimits-none (under (receive p o ws) t) e = refl
+delimits-none (under (wait n) t) e = refl
+delimits-none (under protection t) e = refl
+delimits-none (under (delimitation d) t) e = absurd (e refl)
+delimits-none (under replication t) e = refl
+delimits-none (both j l r) e = refl
+
+-- the record is a kill of k
+abbrev pub killing : ℕ → Term → Bool
+killing k s = holds (eqb k) (kills s)
+
+-- The walk is at place i. Of a label that is not marked no ready kill stands before it; of one that is marked there is a ready kill.
+pub record Marking (marks : List ℕ) (t : Term) (i : ℕ) : Type 0 where
+  pub walk : Seeking passesReady (λ s. false) t i
+  pub ahead : (k : ℕ) → label k ≡ true → getD marks (k - 49152) 0 ≡ 0 → Seeking passesReady (killing k) t i
+  pub marked : (k : ℕ) → label k ≡ true → getD marks (k - 49152) 0 ≢ 0 → found (first (readyKill k) t) ≡ true
+
+-- new marks are blank
+pub blank : (n : ℕ) → Blank (replicate n 0)
+blank zero i = refl
+blank (suc n) zero = refl
+blank (suc n) (suc i) = blank n i
+
+module _ (marks : List ℕ) (t : Term) where
+  pub marking-start : Blank marks → Marking marks t 0
+  marking-start b = record {
+    walk = seeking-start _ _ t;
+    ahead = λ k e z. seeking-start _ _ t;
+    marked = λ k e z. absurd (z (b (k - 49152)));
+  }
+
+  pub marking-end : (i : ℕ) → Marking marks t i → size t ≤ i → Marked marks t
+  unfolding readyKill ready
+  marking-end i h l k e =
+      bool-case (not (eqb (getD marks (k - 49152) 0) 0) ≡ found (first (readyKill k) t)) (eqb (getD marks (k - 49152) 0) 0)
+      (λ z. rw z (sym (none-found _ (seeking-end _ _ t i (h .ahead k e (eqb-true _ _ z)) l))))
+      (λ z. rw z (sym (h .marked k e (λ y. clash (eq-eqb _ _ y) z))))
+
+module _ (s ends : List ℕ) (t : Term) (h : Table s ends t) (i : ℕ) (l : i < length s / 16) where
+  placed : i < size t
+  placed = table-inside s ends t h i l
+
+  -- past a record that is no kill
+  pub marking-step : (marks : List ℕ) (j : ℕ) → getD s (16 * i) 0 ≢ 1 → ((test : Term → Bool) → Seeking passesReady test t i → test (sub t i) ≡ false → Seeking passesReady test t j) → Marking marks t i → Marking marks t j
+  unfolding holds
+  marking-step marks j e step m = record {
+    walk = step _ (m .walk) refl;
+    ahead = λ k p z. step _ (m .ahead k p z) (rw (kills-none (sub t i) (λ q. e (holds-kind s t i (h .holds) placed ∙ q))));
+    marked = m .marked;
+  }
+
+  -- a kill, and its label
+  module _ (e : getD s (16 * i) 0 ≡ 1) (w : ℕ) (at : w ≡ word s (16 * i + 2)) where
+    kill-at : sub t i ≡ leaf (kill w)
+    kill-at =
+        let (k, q) = kind-kill (sub t i) (sym (holds-kind s t i (h .holds) placed) ∙ e) in
+        q ∙ ap (λ d. leaf (kill d)) (sym (at ∙ (holds-word s t i 2 (h .holds) placed (omega arith) ∙ (ap (λ r. word (record16 (root r)) 2) q ∙ first-kill k))))
+
+    pub kill-range : (49152 ≤ w) × (w < 65536)
+    kill-range = label-range w (kill-label t (h .within .right) w i kill-at)
+
+    module _ (marks : List ℕ) (room : length marks ≡ 16384) where
+      same-mark : getD (set marks (w - 49152) 1) (w - 49152) 0 ≡ 1
+      same-mark = getD-set-same marks (w - 49152) 1 0 (omega (arith, kill-range))
+
+      other-mark : (k : ℕ) → label k ≡ true → eqb k w ≡ false → getD (set marks (w - 49152) 1) (k - 49152) 0 ≡ getD marks (k - 49152) 0
+      other-mark k p n = getD-set-other marks (w - 49152) (k - 49152) 1 0 (λ z. clash (eq-eqb k w (omega (arith, label-range k p, kill-range))) n)
+
+      pub marking-kill : Marking marks t i → Marking (set marks (w - 49152) 1) t (i + 1)
+      unfolding holds kills ready
+      marking-kill m =
+          let p : passing passesReady (sub t i) ≡ true = ap (passing passesReady) kill-at in
+          record {
+            walk = seeking-through _ _ t i (m .walk) placed refl p;
+            ahead = λ k q z. bool-case (Seeking passesReady (killing k) t (i + 1)) (eqb k w)
+                (λ y. absurd (omega (arith, same-mark, ap (λ d. getD (set marks (w - 49152) 1) (d - 49152) 0) (eqb-true k w y))))
+                (λ n. seeking-through _ _ t i (m .ahead k q (sym (other-mark k q n) ∙ z)) placed (ap (killing k) kill-at ∙ n) p);
+            marked = λ k q z. bool-case (found (first (readyKill k) t) ≡ true) (eqb k w)
+                (λ y. is-kill k t i placed (m .walk .active placed) (kill-at ∙ ap (λ d. leaf (kill d)) (sym (eqb-true k w y))))
+                (λ n. m .marked k q (λ y. z (other-mark k q n ∙ y)));
+          }
+
+and-one : (a : Bool) → a ≡ (a && true)
+and-one true = refl
+and-one false = refl
+
+-- what the marks say of the record at place n
+module _ (s ends marks : List ℕ) (a b : ℕ) (d : Sides s ends marks a b) (n : ℕ) (l : n < length s / 16) (t : Term) (h : Parties s ends marks a b t) where
+  known : n < size t
+  known = table-inside s ends t (h .table) n l
+
+  pub held-other : getD s (16 * n) 0 ≢ 8 → heldBack a b n (spot t n) ≡ false
+  held-other e = held-none t a b n (delimits-none (sub t n) (λ q. e (holds-kind s t n (h .table .holds) known ∙ q)))
+
+  module _ (e : getD s (16 * n) 0 ≡ 8) (k : ℕ) (at : k ≡ word s (16 * n + 2)) where
+    delimited : prefixed delimits (sub t n) ≡ some k
+    unfolding prefixed delimits
+    delimited =
+        let (x, q) = kind-delimitation (sub t n) (sym (holds-kind s t n (h .table .holds) known) ∙ e) in
+        let y : k ≡ x = at ∙ (holds-word s t n 2 (h .table .holds) known (omega arith) ∙ (ap (λ r. word (record16 (root r)) 2) q ∙ first-delimitation x _)) in
+        ap (prefixed delimits) q ∙ ap some (sym y)
+
+    held-is : heldBack a b n (spot t n) ≡ ((encloses n (sub t n) a || encloses n (sub t n) b) && found (first (readyKill k) t))
+    held-is =
+        held-delimitation t (h .table .within) a b n k (table-inside s ends t (h .table) a (d .left)) (table-inside s ends t (h .table) b (d .right)) (h .left) (h .right) delimited
+
+    held-not : found (first (readyKill k) t) ≡ false → heldBack a b n (spot t n) ≡ false
+    held-not f = held-is ∙ rw f (and-none (encloses n (sub t n) a || encloses n (sub t n) b))
+
+    pub held-no-label : k < 49152 → heldBack a b n (spot t n) ≡ false
+    held-no-label u = held-not (not-so (λ f. let r = label-range k (kills-labelled t (h .table .within .right) k f) in omega arith))
+
+    module _ (u : 49152 ≤ k) (v : k < 65536) where
+      mark-is : not (eqb (getD marks (k - 49152) 0) 0) ≡ found (first (readyKill k) t)
+      mark-is = h .marked k (in-labels k u v .2)
+
+      pub held-unmarked : not (eqb (getD marks (k - 49152) 0) 0) ≡ false → heldBack a b n (spot t n) ≡ false
+      held-unmarked z = held-not (sym mark-is ∙ z)
+
+      pub held-marked : not (eqb (getD marks (k - 49152) 0) 0) ≡ true → (end : ℕ) → end ≡ getD ends n 0 → ((ltb n a && ltb a end) || (ltb n b && ltb b end)) ≡ heldBack a b n (spot t n)
+      unfolding encloses
+      held-marked z end q =
+          rw (held-is, sym mark-is ∙ z, q, table-ended s ends t (h .table) n known) (and-one _)

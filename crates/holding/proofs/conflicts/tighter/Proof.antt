@@ -1,0 +1,18 @@
+use borrow.Author.Needs.{needs}
+use mathlib.Core.Path.{_≡_, sym, _∙_}
+use Rattle.holding.proofs.Conflicting.{no-receive, receive-fits, receive-differs}
+use Rattle.holding.proofs.conflicts.tighter.Statement.{statement}
+use Rattle.holding.proofs.conflicts.tighter.Tie as tie
+
+pub tighter-spec : {M : Type 1} → statement M
+tighter-spec =
+    tie.close
+    (tie.spec
+    (λ c. search needs)
+    (λ c. search needs)
+    (λ c t m h p k z. no-receive _ t _ _ m h p (c .if1 .taken))
+    (λ c κs. search needs)
+    (λ c. search needs)
+    (λ c. search needs)
+    (λ c t m h p k z. receive-differs _ t _ _ m h p (c .before .before .before .if1 .left) (λ q x. sym (c .enum-told .given .1) ∙ c .before .before .fits-closed .ensures q m x k z))
+    (λ c t m h p k z. receive-fits _ t _ _ m h p (c .before .before .before .before .if1 .left) _ (λ q x. sym (c .before .n .given .1) ∙ c .before .before .before .fits-closed .ensures q m x k z)))

@@ -1,0 +1,88 @@
+use borrow.Author.Needs.{needs}
+use mathlib.Core.Path.{_≡_, refl, sym, _∙_}
+use Prim.Native.Nat.{_-_, _≤_}
+use native.Mathlib.Omega.{arith}
+use lib.ListN.{length}
+use Rattle.cows.specs.Terms.{Term}
+use Rattle.records.proofs.Atoms.{is-label}
+use Rattle.ways.specs.Known.{Table}
+use Rattle.holding.specs.Holding.{readyKind, Blank}
+use Rattle.ways.proofs.Tables.{table-size}
+use Rattle.ways.proofs.Seeking.{table-through, table-next, table-over}
+use Rattle.holding.proofs.HeldBack.{passesReady}
+use Rattle.records.proofs.Atoms.{no-label}
+use Rattle.holding.proofs.Marking.{kind-ready, Marking, marking-start, marking-end, marking-step, kill-range, marking-kill}
+use Rattle.holding.proofs.mark_kills.Statement.{statement}
+use Rattle.holding.proofs.mark_kills.Tie as tie
+
+abbrev Inv-loop : tie.InvT-loop
+Inv-loop s ends marks₀ n i₀ marks i = (i ≤ n) × (length marks ≡ 16384) × ((t : Term) → Table s ends t → Blank marks₀ → Marking marks t i)
+
+abbrev μ-loop : tie.MeasureT-loop
+μ-loop s ends marks₀ n i₀ marks i = n - i
+
+pub mark-kills-spec : {M : Type 1} → statement M
+mark-kills-spec =
+    tie.close
+    (tie.spec
+    Inv-loop
+    μ-loop
+    (λ c. (omega arith, c .before .before .before .pre .1, λ t h b. marking-start _ t b))
+    (λ c. search needs)
+    (λ c. search needs)
+    (λ c. search needs)
+    (λ c. search needs)
+    (λ c κs. search needs)
+    (λ c. search needs)
+    (λ c. search needs)
+    (λ c. omega arith)
+    (λ c.
+    let o = c .before .before .before .before .before in
+    let q = o .before .before .before .before .pre .0 in
+    let r = kill-range _ _ (q .term) (q .table) (o .loop .i) (omega arith) (c .before .before .if1 .taken) _ refl in
+    let l = no-label _ (rw (c .before .atom-at .ensures) at (c .match .keys2)) in
+    absurd (omega arith))
+    (λ c κs.
+    let k = is-label _ _ (sym (c .before .before .before .before .atom-at .ensures) ∙ c .before .before .atom .given .1) in
+    (omega arith, c .before .before .before .before .before .before .before .before .loop .inv .1))
+    (λ c. omega arith)
+    (λ c.
+    let i = c .before .before .before .before .before in
+    let a = i .before .before in
+    let o = a .before .before .before .before in
+    let k = is-label _ _ (sym (a .atom-at .ensures) ∙ i .atom .given .1) in (
+      omega arith,
+      search needs,
+      λ t h b. rw (c .before .before .mark .ensures) (marking-kill _ _ t h (o .loop .i) (omega arith) (a .before .if1 .taken) _ (k .0) _ (o .loop .inv .1) (o .loop .inv .2 t h b)),
+    ))
+    (λ c κs. search needs)
+    (λ c. search needs)
+    (λ c. omega arith)
+    (λ c.
+    let o = c .before .before .before .before .before in (
+      omega arith,
+      o .loop .inv .1,
+      λ t h b.
+          marking-step _ _ t h (o .loop .i) (omega arith) _ _ (c .before .before .if1 .left)
+          (λ test k no. table-through _ _ t h _ (omega arith) passesReady readyKind kind-ready test k no (sym (c .before .ready-kind .ensures) ∙ c .if2 .taken)) (o .loop .inv .2 t h b),
+    ))
+    (λ c. search needs)
+    (λ c. search needs)
+    (λ c κs. search needs)
+    (λ c.
+    let o = c .before .before .before .before .before .before .before in
+    let q = c .before .before .before .before .before .before .before .before .before .before .before .pre .0 in
+    let n = table-next _ _ (q .term) (q .table) (o .loop .i) (omega arith) _ (c .wide16 .ensures .0) in
+    omega arith)
+    (λ c.
+    let f = c .before .before in
+    let o = c .before .before .before .before .before .before .before in
+    let q = c .before .before .before .before .before .before .before .before .before .before .before .pre .0 in (
+      table-next _ _ (q .term) (q .table) (o .loop .i) (omega arith) _ (c .wide16 .ensures .0) .1,
+      o .loop .inv .1,
+      λ t h b.
+          marking-step _ _ t h (o .loop .i) (omega arith) _ _ (f .before .before .if1 .left)
+          (λ test k no. table-over _ _ t h _ (omega arith) passesReady readyKind kind-ready test k no (sym (f .before .ready-kind .ensures) ∙ f .if2 .left) _ (c .wide16 .ensures .0)) (o .loop .inv .2 t h b),
+    ))
+    (λ c. search needs)
+    (λ c t h b. marking-end _ t _ (c .before .loop .inv .2 t h b) (omega (arith, table-size _ _ t h))))

@@ -1,0 +1,28 @@
+use borrow.Author.Needs.{needs}
+use mathlib.Core.Path.{_≡_, sym, _∙_}
+use Rattle.records.proofs.Laws.{found-at, found-nothing}
+use Rattle.holding.proofs.InScope.{not-around-a, not-around-b, not-delimited, around-both}
+use Rattle.holding.proofs.scoping.in_scope.Statement.{statement}
+use Rattle.holding.proofs.scoping.in_scope.Tie as tie
+
+pub in-scope-spec : {M : Type 1} → statement M
+in-scope-spec =
+    tie.close
+    (tie.spec
+    (λ c κs. search needs)
+    (λ c. search needs)
+    (λ c. search needs)
+    (λ c t a b h. not-around-a _ _ _ _ _ _ _ t a b h (found-nothing _ (sym (c .enum-told .given .1) ∙ c .before .before .scope .ensures t a (h .left))))
+    (λ c κs. search needs)
+    (λ c. search needs)
+    (λ c. search needs)
+    (λ c t a b h. not-around-b _ _ _ _ _ _ _ t a b h (found-nothing _ (sym (c .enum-told2 .given .1) ∙ c .before .before .scope2 .ensures t b (h .right))))
+    (λ c κs. search needs)
+    (λ c. search needs)
+    (λ c. search needs)
+    (λ c t a b h.
+    not-delimited _ _ _ _ _ _ _ t a b h _ _ (found-at _ _ (sym (c .before .before .before .before .before .before .before .before .p .given .1) ∙ c .before .before .before .before .before .before .before .before .before .before .scope .ensures t a (h .left))) (found-at _ _ (sym (c .before .before .before .before .q .given .1) ∙ c .before .before .before .before .before .before .scope2 .ensures t b (h .right)))
+    (found-nothing _ (sym (c .enum-told3 .given .1) ∙ c .before .before .scope3 .ensures t b (h .right))))
+    (λ c t a b h.
+    around-both _ _ _ _ _ _ _ t a b h _ _ (found-at _ _ (sym (c .before .before .before .before .before .before .before .before .before .p .given .1) ∙ c .before .before .before .before .before .before .before .before .before .before .before .scope .ensures t a (h .left))) (found-at _ _ (sym (c .before .before .before .before .before .q .given .1) ∙ c .before .before .before .before .before .before .before .scope2 .ensures t b (h .right)))
+    _ (found-at _ _ (sym (c .before .e .given .1) ∙ c .before .before .before .scope3 .ensures t b (h .right)))))

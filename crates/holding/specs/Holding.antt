@@ -1,0 +1,39 @@
+-- Holding back (refusal 14): the kinds that the way to a ready record may pass, and the labels of which a ready kill stands in a term.
+use mathlib.Core.Path.{_≡_}
+use mathlib.Core.Bool.{Bool, true, not, _&&_}
+use mathlib.Core.List.{List}
+use Prim.Native.Nat.{ℕ, _-_, _/_, _<_}
+use lib.Dec.{leb, eqb}
+use lib.ListN.{length, getD}
+use Rattle.cows.specs.Basics.{found}
+use Rattle.cows.specs.Terms.{Term, label}
+use Rattle.cows.specs.Places.{wayTo, first}
+use Rattle.cows.specs.Active.{live}
+use Rattle.cows.specs.Moves.{readyKill}
+use Rattle.ways.specs.Known.{Table, Known}
+
+-- the kinds that the way to a ready record may pass: choice, parallel, protection, delimitation, replication
+abbrev pub readyKind : ℕ → Bool
+readyKind k = leb 5 k && leb k 9
+
+-- no label is marked
+abbrev pub Blank : List ℕ → Type 0
+Blank marks = (i : ℕ) → getD marks i 0 ≡ 0
+
+-- exactly the labels are marked of which a ready kill stands in the term
+abbrev pub Marked : List ℕ → Term → Type 0
+Marked marks t = (k : ℕ) → label k ≡ true → not (eqb (getD marks (k - 49152) 0) 0) ≡ found (first (readyKill k) t)
+
+-- Places a and b are live, and the ready kills of the table are marked.
+pub record Parties (s ends marks : List ℕ) (a b : ℕ) (t : Term) : Type 0 where
+  pub table : Table s ends t
+  pub left : live (wayTo t a) ≡ true
+  pub right : live (wayTo t b) ≡ true
+  pub marked : Marked marks t
+
+-- There is such a table, both places are in it, and there is a mark for each label.
+pub record Sides (s ends marks : List ℕ) (a b : ℕ) : Type 0 where
+  pub known : Known s ends
+  pub left : a < length s / 16
+  pub right : b < length s / 16
+  pub room : length marks ≡ 16384

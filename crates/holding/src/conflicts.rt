@@ -1,0 +1,52 @@
+// Conflicts: the first ready receive that fits an invoke and binds fewer variables.
+use crate::ready_kind;
+use matching::Fit;
+use matching::fits_closed;
+use records::Found;
+use records::wide16;
+ghost use mathlib.Core.Path.{_≡_};
+ghost use mathlib.Core.Bool.{true};
+ghost use Prim.Native.Nat.{_+_, _*_, _/_, _<_};
+ghost use lib.ListN.{length};
+ghost use Rattle.cows.specs.Basics.{holds};
+ghost use Rattle.cows.specs.Terms.{Term, Ends, size, prefixed, receives};
+ghost use Rattle.cows.specs.Places.{sub, first};
+ghost use Rattle.cows.specs.Moves.{closedEnds, fit, fewer, tighter};
+ghost use Rattle.records.specs.Holds.{Holds};
+ghost use Rattle.records.specs.Answers.{foundOf};
+ghost use Rattle.ways.specs.Known.{Table, Known};
+ghost use Rattle.matching.specs.Matching.{EndsAt};
+
+// Whether the record at place i is a receive that fits the invoke at place b, which holds no variable, and binds fewer than l variables.
+fn tighter(s: &[u8], i: usize, b: usize, l: usize) -> bool
+    requires { ⌜ (16 * i + 15 < length (now s)) × (16 * b + 15 < length (now s)) ⌝ }
+    ensures { λ r. ⌜ ((t : Term) (m : Ends) → Holds (now (s .entry)) t → i < size t → EndsAt (now (s .entry)) b m → closedEnds m ≡ true → r ≡ holds (λ q. fewer l (fit q m)) (prefixed receives (sub t i))) ⌝ }
+{
+    if s[16 * i] != 3 {
+        return false;
+    }
+    let Fit::Binds(n) = fits_closed(s, i, b) else {
+        return false;
+    };
+    n < l
+}
+
+// The first such receive among the ready records.
+pub fn first_tighter(s: &[u8], ends: &[u16], b: usize, l: usize) -> Found
+    requires { ⌜ Known (now s) (now ends) × (b < length (now s) / 16) ⌝ }
+    ensures { λ r. ⌜ ((t : Term) (m : Ends) → Table (now (s .entry)) (now (ends .entry)) t → EndsAt (now (s .entry)) b m → closedEnds m ≡ true → r ≡ foundOf (first (tighter m l) t)) ⌝ }
+{
+    let n = s.len() / 16;
+    let mut i = 0;
+    while i < n {
+        if tighter(s, i, b, l) {
+            return Found::At(i);
+        }
+        if ready_kind(s[16 * i]) {
+            i += 1;
+            continue;
+        }
+        i = wide16(ends[i]);
+    }
+    Found::Nothing
+}

@@ -1,0 +1,117 @@
+// What holds a meeting back whose parties match: scopes (refusal 13, scoping), ready kills (14, here), and tighter receives (15, conflicts).
+// 14: the first delimitation of a label that encloses a party of a meeting and holds a ready kill of the label.
+pub mod conflicts;
+pub mod scoping;
+
+use records::Atom;
+use records::Found;
+use records::Label;
+use records::atom_at;
+use records::label_index;
+use records::wide16;
+ghost use mathlib.Core.Path.{_≡_};
+ghost use mathlib.Core.Bool.{true, not};
+ghost use Prim.Native.Nat.{_-_, _/_, _<_, _≤_};
+ghost use lib.Dec.{eqb};
+ghost use lib.ListN.{length, getD, set};
+ghost use Rattle.cows.specs.Terms.{Term};
+ghost use Rattle.cows.specs.Places.{spot, wayTo, first};
+ghost use Rattle.cows.specs.Active.{live};
+ghost use Rattle.cows.specs.Moves.{heldBack};
+ghost use Rattle.records.specs.Answers.{foundOf};
+ghost use Rattle.ways.specs.Known.{Table, Known};
+ghost use Rattle.holding.specs.Holding.{readyKind, Blank, Marked, Parties, Sides};
+
+// Whether the way to a ready record may pass a record of this kind.
+pub fn ready_kind(kind: u8) -> bool
+    ensures { λ r. ⌜ r ≡ readyKind kind ⌝ }
+{
+    (5 <= kind) & (kind <= 9)
+}
+
+// Marks the label k.
+fn mark(k: Label, marks: &mut [u8])
+    requires { ⌜ (49152 ≤ k .0) × (length (now marks) ≡ 16384) ⌝ }
+    ensures { λ _. ⌜ now (marks .exit) ≡ set (now (marks .entry)) (k .0 - 49152) 1 ⌝ }
+{
+    marks[label_index(k)] = 1;
+}
+
+// Whether the label k is marked.
+fn marked(k: Label, marks: &[u8]) -> bool
+    requires { ⌜ (49152 ≤ k .0) × (length (now marks) ≡ 16384) ⌝ }
+    ensures { λ r. ⌜ r ≡ not (eqb (getD (now (marks .entry)) (k .0 - 49152) 0) 0) ⌝ }
+{
+    marks[label_index(k)] != 0
+}
+
+// Marks the label of each ready kill, in one walk over the ready records.
+fn mark_kills(s: &[u8], ends: &[u16], marks: &mut [u8])
+    requires { ⌜ Known (now s) (now ends) × (length (now marks) ≡ 16384) ⌝ }
+    ensures { λ _. ⌜ ((t : Term) → Table (now (s .entry)) (now (ends .entry)) t → Blank (now (marks .entry)) → Marked (now (marks .exit)) t) ⌝ }
+{
+    let n = s.len() / 16;
+    let mut i = 0;
+    while i < n {
+        let kind = s[16 * i];
+        if kind == 1 {
+            let atom = atom_at(s, 16 * i + 2);
+            i += 1;
+            let Atom::Label(k) = atom else {
+                continue;
+            };
+            mark(k, marks);
+            continue;
+        }
+        if ready_kind(kind) {
+            i += 1;
+            continue;
+        }
+        i = wide16(ends[i]);
+    }
+}
+
+// Whether the record at place n delimits a marked label and encloses place a or place b.
+fn held(s: &[u8], ends: &[u16], a: usize, b: usize, marks: &[u8], n: usize) -> bool
+    requires { ⌜ Sides (now s) (now ends) (now marks) a b × (n < length (now s) / 16) ⌝ }
+    ensures { λ r. ⌜ ((t : Term) → Parties (now (s .entry)) (now (ends .entry)) (now (marks .entry)) a b t → r ≡ heldBack a b n (spot t n)) ⌝ }
+{
+    if s[16 * n] != 8 {
+        return false;
+    }
+    let atom = atom_at(s, 16 * n + 2);
+    let Atom::Label(k) = atom else {
+        return false;
+    };
+    if !marked(k, marks) {
+        return false;
+    }
+    let end = wide16(ends[n]);
+    ((n < a) & (a < end)) | ((n < b) & (b < end))
+}
+
+// The first place that the marks hold back.
+fn first_marked(s: &[u8], ends: &[u16], a: usize, b: usize, marks: &[u8]) -> Found
+    requires { ⌜ Sides (now s) (now ends) (now marks) a b ⌝ }
+    ensures { λ r. ⌜ ((t : Term) → Parties (now (s .entry)) (now (ends .entry)) (now (marks .entry)) a b t → r ≡ foundOf (first (heldBack a b) t)) ⌝ }
+{
+    let count = s.len() / 16;
+    let mut n = 0;
+    while n < count {
+        if held(s, ends, a, b, marks, n) {
+            return Found::At(n);
+        }
+        n += 1;
+    }
+    Found::Nothing
+}
+
+// The first delimitation that holds back a meeting of the live places a and b.
+pub fn first_held(s: &[u8], ends: &[u16], a: usize, b: usize) -> Found
+    requires { ⌜ Known (now s) (now ends) × (a < length (now s) / 16) × (b < length (now s) / 16) ⌝ }
+    ensures { λ r. ⌜ ((t : Term) → Table (now (s .entry)) (now (ends .entry)) t → live (wayTo t a) ≡ true → live (wayTo t b) ≡ true → r ≡ foundOf (first (heldBack a b) t)) ⌝ }
+{
+    let mut marks = [0u8; 16384];
+    mark_kills(s, ends, &mut marks);
+    first_marked(s, ends, a, b, &marks)
+}

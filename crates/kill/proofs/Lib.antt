@@ -1,0 +1,3 @@
+pub mod Killing
+pub mod Kills
+pub mod Losing

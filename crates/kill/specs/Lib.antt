@@ -1,0 +1,2 @@
+pub mod Killing
+pub mod Losses

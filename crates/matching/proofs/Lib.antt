@@ -1,0 +1,2 @@
+pub mod Matches
+pub mod Parties

@@ -1,0 +1,44 @@
+-- The endpoint and the tuple of a receive and of an invoke, by the bytes of its record.
+use mathlib.Core.Path.{_≡_, refl, ap, subst, _∙_}
+use mathlib.Core.List.{List}
+use Prim.Native.Nat.{ℕ, _+_, _*_, _≤_, _<_}
+use native.Mathlib.Omega.{arith}
+use lib.ListN.{length, getD}
+use Rattle.cows.specs.Terms.{Term, leaf, under, Ends, size}
+use Rattle.cows.specs.Places.{sub}
+use Rattle.cows.specs.Format.{byte, word, root, layout, record16}
+use Rattle.cows.specs.Within.{Right}
+use Rattle.cows.proofs.Fields.{byte-at, layout-first, layout-second, layout-slot}
+use Rattle.cows.proofs.Stands.{right-at, receiveOf, invokeOf}
+use Rattle.records.specs.Holds.{Holds}
+use Rattle.records.proofs.Stands.{holds-word}
+use Rattle.matching.specs.Matching.{EndsAt}
+
+module _ (s : List ℕ) (t : Term) (j : ℕ) (h : Holds s t) (l : j < size t) (q : Ends) where
+  layout-ends : (k : ℕ) → record16 (root (sub t j)) ≡ layout k (q .partner) (q .operation) (q .tuple) 0 → length (q .tuple) ≤ 4 → EndsAt s j q
+  unfolding byte layout
+  layout-ends k e f =
+      record {
+        partner = field 2 (omega arith) ∙ layout-first k (q .partner) (q .operation) 0 (q .tuple);
+        operation = field 4 (omega arith) ∙ layout-second k (q .partner) (q .operation) 0 (q .tuple);
+        few = f;
+        count = ap (λ b. byte b (16 * j + 1)) (h .is) ∙ (byte-at t j 1 l (omega arith) ∙ ap (λ b. byte b 1) e);
+        slot0 = field 6 (omega arith) ∙ slot 0 (omega arith);
+        slot1 = field 8 (omega arith) ∙ slot 1 (omega arith);
+        slot2 = field 10 (omega arith) ∙ slot 2 (omega arith);
+        slot3 = field 12 (omega arith) ∙ slot 3 (omega arith);
+      }
+    where
+      field : (i : ℕ) → i < 15 → word s (16 * j + i) ≡ word (layout k (q .partner) (q .operation) (q .tuple) 0) i
+      field i x = holds-word s t j i h l x ∙ ap (λ b. word b i) e
+
+      slot : (m : ℕ) → m < 4 → word (layout k (q .partner) (q .operation) (q .tuple) 0) (6 + 2 * m) ≡ getD (q .tuple) m 0
+      slot m x = layout-slot k (q .partner) (q .operation) 0 (q .tuple) m x
+
+  pub receive-ends : (c : Term) → sub t j ≡ under (receiveOf q) c → EndsAt s j q
+  unfolding record16 root
+  receive-ends c e = layout-ends 3 (ap (λ x. record16 (root x)) e) (subst Right e (right-at t j (h .right)) .0 .2 .0)
+
+  pub invoke-ends : sub t j ≡ leaf (invokeOf q) → EndsAt s j q
+  unfolding record16 root
+  invoke-ends e = layout-ends 2 (ap (λ x. record16 (root x)) e) (subst Right e (right-at t j (h .right)) .2 .0)

@@ -1,0 +1,6 @@
+pub mod Climbing
+pub mod Frames
+pub mod Tables
+pub mod Starts
+pub mod Deep
+pub mod Seeking

@@ -1,0 +1,130 @@
+-- A walk for the first active record that passes a test (cows, proofs/Scans): what is found is what is found from the present place on.
+use mathlib.Core.Path.{_≡_, refl, sym, ap, _∙_}
+use mathlib.Core.Logic.{_≢_}
+use mathlib.Core.Bool.{Bool, true, false, _&&_}
+use mathlib.Core.List.{List, []}
+use mathlib.Core.Option.{Option, none, some}
+use Prim.Native.Nat.{ℕ, _+_, _*_, _-_, _/_, _≤_, _<_}
+use native.Mathlib.Omega.{arith}
+use native.Mathlib.Numerals.{add-one}
+use lib.Dec.{ltb, eqb}
+use lib.ListN.{length, getD}
+use Rattle.cows.specs.Basics.{every, holds, firstFrom, placeIf, orElse}
+use Rattle.cows.specs.Terms.{nil, kill, invoke, Prefix, receive, wait, protection, delimitation, replication, choice, parallel, Term, leaf, under, both, size, prefixed, waits}
+use Rattle.cows.specs.Format.{byte, word, root, layout, record16, kindOf}
+use Rattle.cows.specs.Active.{passesLive}
+use Rattle.cows.specs.Places.{Spot, spot, wayTo, sub, first}
+use Rattle.cows.proofs.Basics.{clash, from-next, from-end, from-skip}
+use Rattle.cows.proofs.Fields.{interval-wait}
+use Rattle.cows.proofs.Places.{size-pos, spot-fits, descend-first}
+use Rattle.cows.proofs.Scans.{active, passing, active-over, active-next, shut-below}
+use Rattle.records.specs.Holds.{Holds}
+use Rattle.records.proofs.Stands.{holds-kind, holds-word}
+use Rattle.ways.specs.Known.{Table}
+use Rattle.ways.specs.Ways.{liveKind}
+use Rattle.ways.proofs.Tables.{table-size, table-ended, table-inside}
+
+module _ (P : Prefix → Bool) (test : Term → Bool) where
+  -- an active record that passes
+  abbrev pub picks : ℕ → Spot → Bool
+  picks n z = active P (z .way) && test (z .here)
+
+  abbrev pub from : Term → ℕ → Option ℕ
+  from t i = firstFrom (λ n. picks n (spot t n)) i (size t - i)
+
+  -- The walk is at place i, which is active, or at the end.
+  pub record Seeking (t : Term) (i : ℕ) : Type 0 where
+    pub few : i ≤ size t
+    pub active : i < size t → active P (wayTo t i) ≡ true
+    pub rest : first picks t ≡ from t i
+
+  module _ (t : Term) where
+    pub seeking-start : Seeking t 0
+    unfolding first every wayTo spot
+    seeking-start = record {
+      few = omega arith;
+      active = λ l. ap (λ (z : Spot). active P (z .way)) (descend-first [] t);
+      rest = ap (firstFrom _ 0) (let z : size t ≡ size t - 0 = omega arith in z);
+    }
+
+    pub seeking-end : (i : ℕ) → Seeking t i → size t ≤ i → first picks t ≡ none
+    seeking-end i h l = h .rest ∙ from-end _ i (size t) l
+
+    module _ (i : ℕ) (h : Seeking t i) (l : i < size t) where
+      from-here : from t i ≡ orElse (placeIf (test (sub t i)) i) (from t (i + 1))
+      unfolding wayTo sub
+      from-here = from-next _ i (size t) l ∙ rw (h .active l)
+
+      pub seeking-found : test (sub t i) ≡ true → first picks t ≡ some i
+      unfolding placeIf orElse
+      seeking-found e = h .rest ∙ (from-here ∙ rw e)
+
+      pub seeking-through : test (sub t i) ≡ false → passing P (sub t i) ≡ true → Seeking t (i + 1)
+      unfolding placeIf orElse
+      seeking-through e p = record {
+        few = omega arith;
+        active = λ k. rw (add-one i) (active-next P t i l (h .active l) p (omega arith));
+        rest = h .rest ∙ (from-here ∙ rw e);
+      }
+
+      pub seeking-over : test (sub t i) ≡ false → (size (sub t i) ≢ 1 → passing P (sub t i) ≡ false) → Seeking t (i + size (sub t i))
+      unfolding placeIf orElse wayTo sub
+      seeking-over e p =
+          let n = i + size (sub t i) in
+          record {
+            few = spot-fits t i l;
+            active = λ k. active-over P t i l (h .active l) k;
+            rest = h .rest ∙ (from-here
+                ∙ rw e (from-skip _ (i + 1) n (size t) (omega (arith, size-pos (sub t i))) (spot-fits t i l) (λ m a b. rw (shut-below P t i l (p (λ z. omega arith)) m (omega arith) b))));
+          }
+
+-- The same on a table, when K tells by its kind whether a record lets the walk through.
+abbrev pub Tells : (Prefix → Bool) → (ℕ → Bool) → Type 0
+Tells P K = (s : Term) → (K (kindOf s) ≡ true → passing P s ≡ true) × (K (kindOf s) ≡ false → size s ≢ 1 → passing P s ≡ false)
+
+module _ (s ends : List ℕ) (t : Term) (h : Table s ends t) (i : ℕ) (l : i < length s / 16) where
+  inside : i < size t
+  inside = table-inside s ends t h i l
+
+  -- the end of the term at place i
+  pub table-next : (next : ℕ) → next ≡ getD ends i 0 → (i < next) × (next ≤ length s / 16)
+  table-next next at = omega (arith, at, table-ended s ends t h i inside, table-size s ends t h, spot-fits t i inside, size-pos (sub t i))
+
+  module _ (P : Prefix → Bool) (K : ℕ → Bool) (tells : Tells P K) (test : Term → Bool) (k : Seeking P test t i) (no : test (sub t i) ≡ false) where
+    kind-is : K (kindOf (sub t i)) ≡ K (getD s (16 * i) 0)
+    kind-is = ap K (sym (holds-kind s t i (h .holds) inside))
+
+    pub table-through : K (getD s (16 * i) 0) ≡ true → Seeking P test t (i + 1)
+    table-through e = seeking-through P test t i k inside no (tells (sub t i) .0 (kind-is ∙ e))
+
+    pub table-over : K (getD s (16 * i) 0) ≡ false → (next : ℕ) → next ≡ getD ends i 0 → Seeking P test t next
+    table-over e next at = rw (at, table-ended s ends t h i inside) (seeking-over P test t i k inside no (tells (sub t i) .1 (kind-is ∙ e)))
+
+-- so for the live records
+pub kind-live : Tells passesLive liveKind
+unfolding passesLive kindOf root record16 layout byte size
+kind-live (leaf x) = (λ e. refl, λ e n. absurd (n refl))
+kind-live (under (receive p o ws) t) = (λ e. e, λ e n. refl)
+kind-live (under (wait n) t) = (λ e. e, λ e n. refl)
+kind-live (under protection t) = (λ e. refl, λ e n. e)
+kind-live (under (delimitation d) t) = (λ e. refl, λ e n. e)
+kind-live (under replication t) = (λ e. e, λ e n. refl)
+kind-live (both choice l r) = (λ e. refl, λ e n. clash refl e)
+kind-live (both parallel l r) = (λ e. refl, λ e n. clash refl e)
+
+-- a wait that is shorter, by its bytes
+shorter-record : (s : Term) (d : ℕ) → (eqb (kindOf s) 4 && ltb (word (record16 (root s)) 14) d) ≡ holds (λ i. ltb i d) (prefixed waits s)
+unfolding kindOf root record16 layout byte prefixed waits holds
+shorter-record (leaf nil) d = refl
+shorter-record (leaf (kill k)) d = refl
+shorter-record (leaf (invoke p o ws)) d = refl
+shorter-record (under (receive p o ws) t) d = refl
+shorter-record (under (wait n) t) d = ap (λ i. ltb i d) (interval-wait n t)
+shorter-record (under protection t) d = refl
+shorter-record (under (delimitation c) t) d = refl
+shorter-record (under replication t) d = refl
+shorter-record (both choice l r) d = refl
+shorter-record (both parallel l r) d = refl
+
+pub shorter-bytes : (s : List ℕ) (t : Term) (p d : ℕ) → Holds s t → p < size t → (eqb (getD s (16 * p) 0) 4 && ltb (word s (16 * p + 14)) d) ≡ holds (λ i. ltb i d) (prefixed waits (sub t p))
+shorter-bytes s t p d h l = rw (holds-kind s t p h l, holds-word s t p 14 h l (omega arith)) (shorter-record (sub t p) d)
