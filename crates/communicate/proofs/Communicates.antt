@@ -1,22 +1,21 @@
 -- Communicate (specs/Moves, communicateAt) as it is judged: each refusal in its order, and the plan of a meeting that is allowed.
-use mathlib.Core.Path.{_≡_, refl, sym, ap, _∙_}
-use mathlib.Core.Bool.{Bool, true, false, not, _&&_}
+use mathlib.Core.Path.{_≡_, refl, ap, _∙_}
+use mathlib.Core.Bool.{true, false, _&&_}
 use mathlib.Core.Option.{none, some}
 use mathlib.Core.List.{List}
-use Prim.Native.Nat.{ℕ, _+_, _*_, _-_, _/_, _≤_, _<_}
+use Prim.Native.Nat.{ℕ, _+_, _-_, _/_}
 use native.Mathlib.Omega.{arith}
 use lib.Dec.{ltb, eqb}
 use lib.ListN.{length, getD}
-use Rattle.cows.specs.Basics.{every, placeIf, Result, refuse, accept, _>>=_, _>>_, forbid}
-use Rattle.cows.specs.Terms.{Term, leaf, under, Ends, size, prefixed, receives, invokes, below}
+use Rattle.cows.specs.Basics.{every, placeIf, refuse, accept, _>>=_, _>>_, forbid}
+use Rattle.cows.specs.Terms.{Term, leaf, under, Ends, size, prefixed, receives, invokes, below, receiveOf, invokeOf}
 use Rattle.cows.specs.Places.{wayTo, sub, first}
 use Rattle.cows.specs.Format.{byte, root, layout, record16, kindOf}
 use Rattle.cows.specs.Active.{live, wanted}
 use Rattle.cows.specs.Moves.{Substitution, Matching, binds, differs, closedEnds, fit, matched, inScope, heldBack, tighter, silence, continue, bind, communicateAt}
-use Rattle.cows.specs.Step.{overLimits}
 use Rattle.cows.proofs.Fields.{kind-receive, kind-invoke}
 use Rattle.cows.proofs.Meeting.{fit-fits}
-use Rattle.cows.proofs.Stands.{receiveOf, invokeOf, receives-is, invokes-is, prefixed-is, live-wanted}
+use Rattle.cows.proofs.Stands.{receives-is, invokes-is, prefixed-is, live-wanted}
 use Rattle.ways.specs.Known.{Table}
 use Rattle.ways.specs.Ways.{startOf, LiveAt}
 use Rattle.matching.specs.Matching.{fitOf, EndsAt}

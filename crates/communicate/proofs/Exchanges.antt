@@ -6,14 +6,13 @@ use native.Mathlib.Omega.{arith}
 use native.Mathlib.Numerals.{add-one}
 use lib.ListN.{length, getD, take, drop, length-append, length-drop}
 use lib.Seq.{take-all}
-use Rattle.cows.specs.Terms.{Term, size}
+use Rattle.cows.specs.Terms.{Term, size, invokeOf, receiveOf}
 use Rattle.cows.specs.Places.{wayTo, sub}
 use Rattle.cows.specs.Format.{word, Node, nodes, bytes, encode}
 use Rattle.cows.specs.Moves.{silence, communicateAt}
 use Rattle.cows.proofs.Format.{length-nodes, length-encode}
 use Rattle.cows.proofs.Silence.{silence-size}
-use Rattle.cows.proofs.Binds.{boundNodes}
-use Rattle.cows.proofs.Stands.{invokeOf, receiveOf}
+use Rattle.cows.specs.Records.{boundNodes}
 use Rattle.records.specs.declared.Takes.{Takes}
 use Rattle.records.specs.Rewrites.{put}
 use Rattle.records.proofs.Put.{and-then}

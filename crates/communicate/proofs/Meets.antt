@@ -8,7 +8,7 @@ use lib.Dec.{eqb}
 use lib.ListN.{length, take, drop}
 use borrow.Author.Tests.{eqb-true, eq-eqb, not-true}
 use Rattle.cows.specs.Basics.{any, member, accept}
-use Rattle.cows.specs.Terms.{choice, parallel, Term, under, Ends, variable, size, invokes, prefixed, receives, below}
+use Rattle.cows.specs.Terms.{choice, parallel, Term, under, Ends, variable, size, invokes, prefixed, receives, below, receiveOf}
 use Rattle.cows.specs.Places.{inside, leftOf, rightOf, Way, wayTo, sub, frameDelimits, enclosed, frameChooses}
 use Rattle.cows.specs.Format.{Node, nodes, bytes, encode, distinct}
 use Rattle.cows.specs.Active.{wanted}
@@ -21,10 +21,11 @@ use Rattle.cows.proofs.Scopes.{counts-enclosed}
 use Rattle.cows.proofs.Fields.{append-bytes}
 use Rattle.cows.proofs.Parts.{Sound}
 use Rattle.cows.proofs.Binding.{AllBind, matched-binds}
-use Rattle.cows.proofs.Binds.{boundNodes, bound-append, bind-nodes, bind-depth, Once, bind-size}
+use Rattle.cows.specs.Records.{boundNodes}
+use Rattle.cows.proofs.Binds.{bound-append, bind-nodes, bind-depth, Once, bind-size}
 use Rattle.cows.proofs.Meeting.{fit-fits, inScope-reaches}
 use Rattle.cows.proofs.Preserving.{meeting-binds, scopes-passed}
-use Rattle.cows.proofs.Stands.{right-at, receiveOf, invokes-is, receives-is, prefixed-is, wanted-live}
+use Rattle.cows.proofs.Stands.{right-at, invokes-is, receives-is, prefixed-is, wanted-live}
 use Rattle.ways.specs.Ways.{startOf}
 use Rattle.communicate.specs.Binding.{Matched, Left, Met}
 use Rattle.plans.proofs.Planning.{within-limits}

@@ -6,11 +6,11 @@ use mathlib.Core.List.{List, [], _∷_, _++_, append-nil}
 use Prim.Native.Nat.{ℕ, zero, suc, _+_, _*_, _≤_, _<_}
 use native.Mathlib.Omega.{arith}
 use lib.Dec.{eqb}
-use lib.ListN.{length, getD, take, drop, length-drop, take-append-drop}
+use lib.ListN.{length, take, drop, length-drop, take-append-drop}
 use lib.Seq.{length-take-le}
 use borrow.Author.Tests.{eq-eqb, ne-eqb}
 use Rattle.cows.specs.Basics.{any, holds}
-use Rattle.cows.specs.Terms.{nil, kill, invoke, receive, wait, protection, delimitation, replication, choice, parallel, Term, leaf, Ends, variable, size, delimits, delimitsAtom, below}
+use Rattle.cows.specs.Terms.{nil, kill, invoke, receive, wait, protection, delimitation, replication, choice, parallel, Term, leaf, Ends, variable, size, delimits, delimitsAtom, below, invokeOf}
 use Rattle.cows.specs.Places.{sub}
 use Rattle.cows.specs.Format.{byte, word, Node, basic, prefix, join, nodes, root, layout, record16, bytes, encode}
 use Rattle.cows.specs.Within.{Right, Within}
@@ -21,9 +21,10 @@ use Rattle.cows.proofs.Records.{RightNode, length-record16}
 use Rattle.cows.proofs.Format.{length-nodes, RightNodes, right-nodes}
 use Rattle.cows.proofs.Binding.{AllBind, values-fit, all-in-scope}
 use Rattle.cows.proofs.Silence.{silence-nodes}
-use Rattle.cows.proofs.Binds.{nodeDelimits, bindNode, boundNodes, image-both, image-other, image-value}
+use Rattle.cows.specs.Records.{nodeDelimits, bindNode, boundNodes}
+use Rattle.cows.proofs.Binds.{image-other}
 use Rattle.cows.proofs.Meeting.{fit-fits}
-use Rattle.cows.proofs.Stands.{right-at, invokeOf}
+use Rattle.cows.proofs.Stands.{right-at}
 use Rattle.records.specs.declared.Takes.{Takes}
 use Rattle.records.specs.Holds.{Holds}
 use Rattle.records.specs.Rewrites.{Has}

@@ -1,25 +1,24 @@
 -- Refusal 13 for a whole meeting, slot by slot.
-use mathlib.Core.Path.{_≡_, refl, sym, ap, subst, _∙_}
-use mathlib.Core.Bool.{Bool, true, false, not, _&&_, _||_}
+use mathlib.Core.Path.{_≡_, refl, subst, _∙_}
+use mathlib.Core.Bool.{Bool, true, false, _&&_}
 use mathlib.Core.List.{List, [], _∷_}
-use Prim.Native.Nat.{ℕ, zero, suc, _+_, _*_, _≤_, _<_}
+use Prim.Native.Nat.{ℕ, zero, suc, _+_, _*_, _<_}
 use native.Mathlib.Omega.{arith}
 use lib.Dec.{eqb}
 use lib.ListN.{length, getD, List·getD-eq-default}
 use borrow.Author.Tests.{eq-eqb}
 use Rattle.cows.specs.Basics.{any, every, member}
-use Rattle.cows.specs.Terms.{Term, leaf, under, Ends, value, variable, datum, uses, usesBasic}
-use Rattle.cows.specs.Places.{sub}
+use Rattle.cows.specs.Terms.{Term, value, variable, datum, uses, usesBasic}
 use Rattle.cows.specs.Format.{word}
 use Rattle.cows.specs.Within.{Right}
-use Rattle.cows.specs.Moves.{Substitution, binds, match, closedEnds, fit, inScope}
-use Rattle.cows.proofs.Basics.{never, clash, lt-case, and-true, or-left, or-right, or-case, or-false}
+use Rattle.cows.specs.Moves.{Substitution, binds, match, inScope}
+use Rattle.cows.proofs.Basics.{clash, lt-case, and-true, or-left, or-right, or-case, or-false}
 use Rattle.cows.proofs.Sets.{variable-range}
 use Rattle.cows.proofs.Stands.{right-at}
 use Rattle.cows.proofs.Meeting.{Fits, fit-fits, matches-match}
-use Rattle.matching.proofs.Matches.{slotTest, alls-four, match-lengths, match-every}
+use Rattle.matching.specs.Matching.{slotTest, EndsAt}
+use Rattle.matching.proofs.Matches.{alls-four, match-lengths, match-every}
 use Rattle.matching.proofs.Parties.{receive-ends, invoke-ends}
-use Rattle.matching.specs.Matching.{EndsAt}
 use Rattle.holding.specs.Scopes.{Sends}
 use Rattle.communicate.specs.Meeting.{Meets, Slot}
 

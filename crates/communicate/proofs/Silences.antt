@@ -9,7 +9,8 @@ use Rattle.cows.specs.Places.{wayTo, sub, enclosed}
 use Rattle.cows.specs.Format.{nodes}
 use Rattle.cows.specs.Moves.{silence, aroundChoice, continue}
 use Rattle.cows.proofs.Places.{fill-spot}
-use Rattle.cows.proofs.Ways.{ahead, length-ahead, depth-fill, depth-pos}
+use Rattle.cows.specs.Records.{ahead}
+use Rattle.cows.proofs.Ways.{length-ahead, depth-fill, depth-pos}
 use Rattle.cows.proofs.Silence.{alike-at, alike-enclosed, silence-size}
 use Rattle.cows.proofs.Remains.{met-nodes, silence-part, silence-under, silence-from}
 use Rattle.ways.specs.Ways.{startOf}

@@ -5,13 +5,12 @@ use mathlib.Core.List.{List, _++_}
 use Prim.Native.Nat.{ℕ, suc, _+_, _-_, _≤_, _<_}
 use lib.ListN.{length, take, drop}
 use Rattle.cows.specs.Basics.{every}
-use Rattle.cows.specs.Terms.{Term, leaf, under, Ends, size, depth, below}
+use Rattle.cows.specs.Terms.{Term, leaf, under, Ends, size, depth, below, invokeOf, receiveOf}
 use Rattle.cows.specs.Places.{wayTo, sub}
 use Rattle.cows.specs.Format.{Node, nodes, bytes, encode}
 use Rattle.cows.specs.Active.{live}
 use Rattle.cows.specs.Moves.{Substitution, binds, fit, inScope, silence, continue, bind}
-use Rattle.cows.proofs.Stands.{invokeOf, receiveOf}
-use Rattle.cows.proofs.Binds.{boundNodes}
+use Rattle.cows.specs.Records.{boundNodes}
 use Rattle.ways.specs.Ways.{startOf}
 
 -- The receive q at place a fits the invoke m at place b, and each variable that it binds is in scope.

@@ -4,11 +4,10 @@ use mathlib.Core.Bool.{true}
 use mathlib.Core.List.{List}
 use Prim.Native.Nat.{ℕ}
 use Rattle.cows.specs.Basics.{member}
-use Rattle.cows.specs.Terms.{Term, leaf, under, Ends, value, variable, below, uses}
+use Rattle.cows.specs.Terms.{Term, leaf, under, Ends, value, variable, below, uses, receiveOf, invokeOf}
 use Rattle.cows.specs.Places.{sub}
 use Rattle.cows.specs.Within.{Within}
 use Rattle.cows.specs.Moves.{Substitution, binds, fit}
-use Rattle.cows.proofs.Stands.{receiveOf, invokeOf}
 use Rattle.ways.specs.Ways.{Walks}
 use Rattle.matching.specs.declared.Fit.{Fit}
 use Rattle.matching.specs.declared.Fit.the-variants.{Binds}

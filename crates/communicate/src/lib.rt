@@ -23,7 +23,7 @@ ghost use Rattle.cows.specs.Places.{wayTo};
 ghost use Rattle.cows.specs.Moves.{Substitution, inScope, communicateAt};
 ghost use Rattle.ways.specs.Known.{Table, Known};
 ghost use Rattle.ways.specs.Ways.{Walk, startOf};
-ghost use Rattle.matching.proofs.Matches.{slotTest};
+ghost use Rattle.matching.specs.Matching.{slotTest};
 ghost use Rattle.plans.specs.Plans.{Planned, Asks, Gives};
 ghost use Rattle.communicate.specs.Meeting.{Meets, Slot, mismatchOf};
 ghost use Rattle.cows.specs.Format.{word};

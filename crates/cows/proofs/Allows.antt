@@ -10,7 +10,7 @@ use lib.Dec.{ltb, eqb}
 use lib.ListN.{length}
 use borrow.Author.Tests.{ltb-true, ltb-false, eq-eqb, eqb-true, ne-eqb, eqb-false, not-false}
 use Rattle.cows.specs.Basics.{any, every, holds, accept, _>>=_, _>>_, forbid, placeIf}
-use Rattle.cows.specs.Terms.{nil, kill, Prefix, receive, wait, protection, delimitation, replication, choice, parallel, Term, leaf, under, both, Ends, variable, label, size, kills, invokes, prefixed, receives, waits, delimits, delimitsAtom, replicates, below, guard, uses, usesBasic, binders, atoms}
+use Rattle.cows.specs.Terms.{nil, kill, Prefix, receive, wait, protection, delimitation, replication, choice, parallel, Term, leaf, under, both, Ends, variable, label, size, kills, invokes, prefixed, receives, waits, delimits, delimitsAtom, replicates, below, guard, uses, usesBasic, binders, atoms, invokeOf, receiveOf}
 use Rattle.cows.specs.Places.{Frame, inside, leftOf, rightOf, plug, Way, fill, wayTo, sub, first, enclosed, frameChooses}
 use Rattle.cows.specs.Within.{Right, one, counts, Within}
 use Rattle.cows.specs.Active.{passesLive, live, wanted}
@@ -20,7 +20,7 @@ use Rattle.cows.proofs.Basics.{never, and-true, or-false, or-right, not
 use Rattle.cows.proofs.Renaming.{renaming-renames, renames-unique}
 use Rattle.cows.proofs.Atoms.{few-binders, few-atoms, binders-right}
 use Rattle.cows.proofs.Places.{fill-spot}
-use Rattle.cows.proofs.Stands.{sub-ind, right-at, scoped-at, kills-is, invokeOf, invokes-is, receiveOf, receives-is, waits-is, delimits-is, replicates-is, prefixed-is, wanted-live, live-wanted, first-fails, fails-first, prefixed-stands}
+use Rattle.cows.proofs.Stands.{sub-ind, right-at, scoped-at, kills-is, invokes-is, receives-is, waits-is, delimits-is, replicates-is, prefixed-is, wanted-live, live-wanted, first-fails, fails-first, prefixed-stands}
 use Rattle.cows.proofs.Meeting.{fit-fits, fits-fit, inScope-reaches, reaches-inScope, heldBack-unheld, unheld-heldBack, tighter-tightest, tightest-tighter}
 use Rattle.cows.proofs.Scopes.{counts-fill, counts-enclosed}
 use Rattle.cows.proofs.Parts.{part-counts, part-silence, part-continue}

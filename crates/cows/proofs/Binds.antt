@@ -12,6 +12,7 @@ use Rattle.cows.specs.Terms.{Basic, nil, kill, invoke, Prefix, receive, 
 use Rattle.cows.specs.Format.{Node, basic, prefix, join, nodes}
 use Rattle.cows.specs.Within.{nowhere, one, counts}
 use Rattle.cows.specs.Moves.{Substitution, mapBasic, mapPrefix, mapNode, mapAtoms, image, instantiate, bind}
+use Rattle.cows.specs.Records.{nodeDelimits, bindNode, boundNodes}
 use Rattle.cows.proofs.Basics.{clash, cond-case, or-false, or-left, not-so, eqb-swap}
 use Rattle.cows.proofs.Scopes.{All, inner, Used, local, Need, all-map, used-any, scoped-used, one-false}
 use Rattle.cows.proofs.Sets.{value-range, variable-range}
@@ -19,21 +20,6 @@ use Rattle.cows.proofs.Mapping.{counts-at}
 use Rattle.cows.proofs.Parts.{Sound}
 use Rattle.cows.proofs.Binding.{delimits-one, AllBind, sound-instantiate, all-instantiate}
 use Rattle.cows.proofs.Recordwise.{size-map}
-
--- the record is a delimitation of d
-unfoldable pub nodeDelimits : ℕ → Node → Bool
-nodeDelimits d (basic x) = false
-nodeDelimits d (prefix u) = delimitsAtom d u
-nodeDelimits d (join j) = false
-
--- one record when the variables of σ take their values: a delimitation of one of them goes, in every other record each is replaced
-unfoldable pub bindNode : Substitution → Node → List Node
-bindNode σ n = cond (any (λ (p : ℕ × ℕ). nodeDelimits (p .0) n) σ) [] (mapNode (image σ) n ∷ [])
-
--- the same of each record, one behind the other
-unfoldable pub boundNodes : Substitution → List Node → List Node
-boundNodes σ [] = []
-boundNodes σ (n ∷ ns) = bindNode σ n ++ boundNodes σ ns
 
 -- mapping changes no shape
 depth-mapped : (f : ℕ → ℕ) (t : Term) → depth (mapAtoms f t) ≡ depth t

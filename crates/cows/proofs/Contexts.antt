@@ -17,10 +17,11 @@ use Rattle.cows.specs.Within.{Guarded, counts}
 use Rattle.cows.specs.Moves.{haltBeside, haltInside, silence, aroundChoice, continue}
 use Rattle.cows.specs.Allows.{Live, Ended, at-kill, halts-right, halts-left, passes, Choices, no-choice, left-choice, right-choice, Whole, Choice, Exchanged, receive-left, receive-right}
 use Rattle.cows.proofs.Basics.{never, clash, cond-case, or-false, and-none, or-second, every-append, any-append}
-use Rattle.cows.proofs.Places.{size-pos, fill-spot, fill-append, descend-way, descend-first, At, spot-under, spot-left, spot-right}
+use Rattle.cows.specs.Records.{At, opens, ahead}
+use Rattle.cows.proofs.Places.{size-pos, fill-spot, fill-append, descend-way, descend-first, spot-under, spot-left, spot-right}
 use Rattle.cows.proofs.Format.{length-nodes}
 use Rattle.cows.proofs.Halting.{halt-halted, halted-halt}
-use Rattle.cows.proofs.Ways.{opens, ahead, length-ahead, size-swap}
+use Rattle.cows.proofs.Ways.{length-ahead, size-swap}
 use Rattle.cows.proofs.Scopes.{counts-enclosed}
 use Rattle.cows.proofs.Stands.{delimits-atom}
 

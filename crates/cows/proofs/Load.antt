@@ -7,14 +7,14 @@ use Prim.Native.Nat.{ℕ, suc, _+_, _≤_}
 use native.Mathlib.Nat.{add-comm}
 use native.Mathlib.Omega.{arith}
 use Rattle.cows.specs.Basics.{holds}
-use Rattle.cows.specs.Terms.{Basic, nil, kill, invoke, Prefix, receive, wait, protection, delimitation, replication, choice, parallel, Term, leaf, under, both, Ends, kills, invokes, prefixed, receives, waits, delimits, delimitsAtom, below}
+use Rattle.cows.specs.Terms.{Basic, nil, kill, invoke, Prefix, receive, wait, protection, delimitation, replication, choice, parallel, Term, leaf, under, both, Ends, kills, invokes, prefixed, receives, waits, delimits, delimitsAtom, below, invokeOf}
 use Rattle.cows.specs.Places.{Frame, inside, leftOf, rightOf, plug, Way, fill, wayTo, sub, frameDelimits, frameChooses}
 use Rattle.cows.specs.Active.{passesLive}
 use Rattle.cows.specs.Moves.{halt, haltUnder, haltBoth, haltBeside, haltInside, afterKill, Substitution, silence, aroundChoice, continue, mapBasic, mapPrefix, mapAtoms, image, instantiate, bind, lower, elapse, copy, afterUnfold, exchange, afterExtrude}
 use Rattle.cows.specs.Load.{weightBasic, weight, load, shieldedUnder, shieldedBoth, shielded, endedBeside, ended, arm, dropped}
 use Rattle.cows.proofs.Basics.{cond-case, cond-case₂}
 use Rattle.cows.proofs.Places.{fill-spot}
-use Rattle.cows.proofs.Stands.{kills-is, invokeOf, invokes-is, delimits-is, prefixed-is}
+use Rattle.cows.proofs.Stands.{kills-is, invokes-is, delimits-is, prefixed-is}
 use Rattle.cows.proofs.Silence.{silence-prefix}
 
 -- Halting: what it keeps is the load of the protections reached; halting twice is halting once.

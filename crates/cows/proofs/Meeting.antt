@@ -9,13 +9,13 @@ use lib.Dec.{ltb, eqb}
 use lib.ListN.{length}
 use borrow.Author.Tests.{ltb-true, ltb-false, lt-ltb, eqb-true, eq-eqb, not-true, not-false}
 use Rattle.cows.specs.Basics.{any, every, member, holds, found}
-use Rattle.cows.specs.Terms.{kill, receive, delimitation, Term, leaf, under, Ends, variable, size, kills, prefixed, receives, delimits, below, binders}
+use Rattle.cows.specs.Terms.{kill, receive, delimitation, Term, leaf, under, Ends, variable, size, kills, prefixed, receives, delimits, below, binders, receiveOf}
 use Rattle.cows.specs.Places.{Spot, wayTo, sub, first, encloses, enclosed}
 use Rattle.cows.specs.Active.{ready}
 use Rattle.cows.specs.Moves.{Substitution, Matching, binds, differs, extend, match, closedEnds, fit, outside, inScope, readyKill, heldBack, fewer, tighter}
 use Rattle.cows.specs.Allows.{Stands, Matches, empty, takes, equals, Reaches, AllReach, Unheld, Tightest}
 use Rattle.cows.proofs.Basics.{never, clash, bool-case, and-true, true-and, or-left, or-right, or-second, or-case, found-none, none-found, holds-some}
-use Rattle.cows.proofs.Stands.{kills-is, receiveOf, receives-is, delimits-is, prefixed-stands, first-fails, fails-first, first-found, Delimited, member-delimited, delimited-member}
+use Rattle.cows.proofs.Stands.{kills-is, receives-is, delimits-is, prefixed-stands, first-fails, fails-first, first-found, Delimited, member-delimited, delimited-member}
 
 -- matching
 same-binds : {σ τ : Substitution} → binds σ ≡ binds τ → σ ≡ τ

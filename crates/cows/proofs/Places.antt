@@ -12,6 +12,7 @@ use lib.Dec.{ltb}
 use borrow.Author.Tests.{lt-ltb, le-ltb, ltb-true, ltb-false}
 use Rattle.cows.specs.Terms.{Prefix, Join, Term, leaf, under, both, size}
 use Rattle.cows.specs.Places.{Frame, inside, leftOf, rightOf, plug, Way, fill, Spot, descend, spot, wayTo, sub, first}
+use Rattle.cows.specs.Records.{At}
 use Rattle.cows.proofs.Basics.{cond-case, cond-case₂, firstFrom-none, none-firstFrom}
 
 pub size-pos : (t : Term) → 1 ≤ size t
@@ -188,10 +189,6 @@ part-here t n z h =
 pub spot-fits : (t : Term) (j : ℕ) → j < size t → j + size (sub t j) ≤ size t
 unfolding sub
 spot-fits t j l = spot-part t j l .0
-
--- the places of the children
-abbrev pub At : Term → ℕ → Way → Term → Type 0
-At t n w s = (n < size t) × (sub t n ≡ s) × (wayTo t n ≡ w)
 
 pub at-part : (t : Term) (n i : ℕ) (s : Term) (w : Way) (c : Term) → n < size t → sub t n ≡ s → i < size s → descend (wayTo t n) s i ≡ record { way = w; here = c } → At t (n + i) w c
 unfolding sub wayTo

@@ -8,7 +8,7 @@ use lib.Dec.{eqb}
 use lib.ListN.{length}
 use borrow.Author.Tests.{not-false}
 use Rattle.cows.specs.Basics.{every, placeIf, accept, _>>_, forbid}
-use Rattle.cows.specs.Terms.{Prefix, receive, wait, protection, delimitation, replication, Term, leaf, under, both, Ends, label, size, kills, invokes, prefixed, receives, waits, delimits, replicates}
+use Rattle.cows.specs.Terms.{Prefix, receive, wait, protection, delimitation, replication, Term, leaf, under, both, Ends, label, size, kills, invokes, prefixed, receives, waits, delimits, replicates, invokeOf}
 use Rattle.cows.specs.Places.{wayTo, sub, first}
 use Rattle.cows.specs.Active.{wanted}
 use Rattle.cows.specs.Within.{Right, Formed, Within}
@@ -16,7 +16,7 @@ use Rattle.cows.specs.Moves.{Substitution, binds, fit, matched, inScope,
 use Rattle.cows.specs.Step.{stepTerm}
 use Rattle.cows.proofs.Basics.{or-false, bind-accept, same-accept, forbid-accept, placeIf-none}
 use Rattle.cows.proofs.Parts.{Sound, part-sound, part-kill, part-silence, part-elapse, part-continue}
-use Rattle.cows.proofs.Stands.{right-at, wanted-is, invokeOf, invokes-is, replicates-is, prefixed-is}
+use Rattle.cows.proofs.Stands.{right-at, wanted-is, invokes-is, replicates-is, prefixed-is}
 use Rattle.cows.proofs.Step.{Accepted, step-accepted}
 use Rattle.cows.proofs.Extrusion.{part-extrude}
 use Rattle.cows.proofs.Binding.{AllBind, sound-bind, part-bind, all-in-scope, values-fit, matched-binds, invokes-data}

@@ -12,6 +12,7 @@ use Rattle.cows.specs.Basics.{any, member, holds}
 use Rattle.cows.specs.Terms.{delimitation, Term, under, size, prefixed, delimits, delimitsAtom, delimitsAt, below, binders}
 use Rattle.cows.specs.Places.{inside, Way, Spot, descend, spot, wayTo, sub, frameDelimits, enclosed}
 use Rattle.cows.specs.Tables.{delimitedBefore}
+use Rattle.cows.specs.Records.{reachOf}
 use Rattle.cows.proofs.Basics.{clash, cond-case, bool-case, lt-case, or-left, or-right, or-case, not-so, same-test, found-none, none-found, holds-some, firstFrom-none, none-firstFrom, any-append}
 use Rattle.cows.proofs.Places.{size-pos, descend-way, PartOf, part-inherited, part-first, part-here, spot-part, inherited-spot}
 use Rattle.cows.proofs.Stands.{delimits-is, prefixed-is, member-delimited, delimited-member}
@@ -24,11 +25,6 @@ delimitsAt-is a s h =
 pub is-delimitsAt : (a : ℕ) (s c : Term) → s ≡ under (delimitation a) c → delimitsAt a s ≡ true
 unfolding holds prefixed delimits
 is-delimitsAt a s c e = rw (e, eq-eqb a a refl)
-
--- the farthest end of a delimitation of a among the places below j
-unfoldable pub reachOf : Term → ℕ → ℕ → ℕ
-reachOf t a zero = 0
-reachOf t a (suc j) = cond (delimitsAt a (sub t j)) (max (reachOf t a j) (j + size (sub t j))) (reachOf t a j)
 
 -- a delimitation of a at a place below j ends behind e
 abbrev pub Reaches : Term → ℕ → ℕ → ℕ → Type 0

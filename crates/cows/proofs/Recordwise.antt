@@ -19,7 +19,8 @@ use Rattle.cows.specs.Allows.{Live, Becomes, itself, by-pair, by-others,
 use Rattle.cows.proofs.Basics.{clash, cond-case, cond-case₂, true-and}
 use Rattle.cows.proofs.Places.{fill-spot, descend-here}
 use Rattle.cows.proofs.Format.{length-nodes, decode-nodes}
-use Rattle.cows.proofs.Ways.{ahead, behind, nodes-fill, length-ahead}
+use Rattle.cows.specs.Records.{ahead, behind}
+use Rattle.cows.proofs.Ways.{nodes-fill, length-ahead}
 use Rattle.cows.proofs.Contexts.{dormant}
 
 -- the record at a place of the list of records; two terms with the same records are the same
@@ -124,7 +125,7 @@ lowerNode d (basic x) = basic x
 lowerNode d (prefix u) = prefix (lower d u)
 lowerNode d (join j) = join j
 
-size-elapse : (d : ℕ) (t : Term) → size (elapse d t) ≡ size t
+pub size-elapse : (d : ℕ) (t : Term) → size (elapse d t) ≡ size t
 unfolding size elapse
 size-elapse d (leaf x) = refl
 size-elapse d (under u t) = ap suc (cond-case (λ r. size r ≡ size t) (passesLive u) (λ e. size-elapse d t) (λ e. refl))

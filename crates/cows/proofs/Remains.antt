@@ -22,15 +22,16 @@ use Rattle.cows.specs.Moves.{Substitution, silence, continue, bind, arou
 use Rattle.cows.specs.Allows.{Meets, gathered, InOrder, Choices, no-choice, left-choice, right-choice, Choice, as-nil}
 use Rattle.cows.specs.Remains.{Begins, InTerm, keys, BoundRecord, binder-goes, is-replaced, Remains, of-invoke, of-choice, of-continuation, of-others, MeetingLeaves}
 use Rattle.cows.proofs.Basics.{never, clash, cond-case, bool-case, lt-case, or-left, or-right, or-case, not-so, same-test, same-some, any-append}
-use Rattle.cows.proofs.Places.{size-pos, fill-spot, fill-append, descend-way, At, spot-under, spot-part, spot-fits}
+use Rattle.cows.specs.Records.{At, ahead, opens, behind, nodeDelimits, bindNode, boundNodes}
+use Rattle.cows.proofs.Places.{size-pos, fill-spot, fill-append, descend-way, spot-under, spot-part, spot-fits}
 use Rattle.cows.proofs.Format.{length-nodes}
 use Rattle.cows.proofs.Stands.{prefixed-is, delimits-atom}
-use Rattle.cows.proofs.Ways.{ahead, opens, behind, nodes-fill, length-ahead, nodes-here, nodes-replaced}
+use Rattle.cows.proofs.Ways.{nodes-fill, length-ahead, nodes-here, nodes-replaced}
 use Rattle.cows.proofs.Gathered.{gathered-same, in-order-unique, stretch, stretch-whole, stretch-split, stretch-none}
 use Rattle.cows.proofs.Contexts.{choice-around, choice-split, live-unchosen, at-fill, dormant, stopped}
 use Rattle.cows.proofs.Silence.{relieved-size, alike-at, alike-ahead, alike-around, silence-size, silence-prefix, silence-nodes}
 use Rattle.cows.proofs.Recordwise.{node-at, rewritten-map, rewritten-is}
-use Rattle.cows.proofs.Binds.{nodeDelimits, bindNode, boundNodes, bound-append, bind-nodes}
+use Rattle.cows.proofs.Binds.{bound-append, bind-nodes}
 use Rattle.cows.proofs.Meeting.{fits-fit, reaches-inScope}
 use Rattle.cows.proofs.Parts.{Sound}
 use Rattle.cows.proofs.Binding.{AllBind}

@@ -14,7 +14,8 @@ use Rattle.cows.specs.Moves.{silence, aroundChoice}
 use Rattle.cows.proofs.Basics.{cond-case₂}
 use Rattle.cows.proofs.Places.{replaced}
 use Rattle.cows.proofs.Format.{length-nodes}
-use Rattle.cows.proofs.Ways.{opens, ahead, nodes-replaced}
+use Rattle.cows.specs.Records.{opens, ahead}
+use Rattle.cows.proofs.Ways.{nodes-replaced}
 
 -- the same term but for some leaves
 pub data Relieved : Term → Term → Type 0 where

@@ -10,7 +10,7 @@ use native.Mathlib.Nat.{zero-add}
 use lib.Dec.{ltb, eqb}
 use borrow.Author.Tests.{ltb-true, lt-ltb, eqb-true, eq-eqb}
 use Rattle.cows.specs.Basics.{any, member, holds, found, accept}
-use Rattle.cows.specs.Terms.{Basic, nil, kill, invoke, Prefix, receive, wait, protection, delimitation, replication, Join, Term, leaf, under, both, Ends, size, kills, invokes, prefixed, receives, waits, delimits, delimitsAtom, replicates, below, uses, optional, binders}
+use Rattle.cows.specs.Terms.{nil, kill, invoke, Prefix, receive, wait, protection, delimitation, replication, Join, Term, leaf, under, both, Ends, size, kills, invokes, prefixed, receives, waits, delimits, delimitsAtom, replicates, below, uses, optional, binders, invokeOf, receiveOf}
 use Rattle.cows.specs.Places.{inside, leftOf, rightOf, Way, Spot, descend, spot, wayTo, sub, first, frameDelimits, enclosed}
 use Rattle.cows.specs.Within.{Right, Bound, Scoped, nowhere}
 use Rattle.cows.specs.Active.{live, wanted}
@@ -46,12 +46,6 @@ kills-is (leaf (kill i)) k e = cc
 kills-is (leaf (invoke p o ws)) k e = cc
 kills-is (under u t) k e = cc
 kills-is (both j s t) k e = cc
-
-abbrev pub invokeOf : Ends → Basic
-invokeOf m = invoke (m .partner) (m .operation) (m .tuple)
-
-abbrev pub receiveOf : Ends → Prefix
-receiveOf r = receive (r .partner) (r .operation) (r .tuple)
 
 pub invokes-is : (s : Term) (m : Ends) → invokes s ≡ some m → s ≡ leaf (invokeOf m)
 unfolding invokes

@@ -1,37 +1,19 @@
 -- Ways and records: what stands ahead of a place and behind it in the table; a table with another term at a place; the record above a place; size and
 -- depth of a term with another part.
 use mathlib.Core.Path.{_≡_, refl, sym, ap, subst, _∙_}
-use mathlib.Core.List.{List, [], _∷_, _++_, append-assoc, append-nil}
+use mathlib.Core.List.{[], _∷_, _++_, append-assoc, append-nil}
 use Prim.Native.Nat.{ℕ, suc, _+_, _*_, _-_, _≤_, _<_}
 use native.Mathlib.Omega.{arith}
 use lib.ListN.{length, take, drop, length-append}
 use lib.Seq.{take-at, drop-at, drop-drop}
 use Rattle.cows.specs.Terms.{Term, leaf, under, both, size, depth}
 use Rattle.cows.specs.Places.{Frame, inside, leftOf, rightOf, plug, Way, fill, Spot, descend, spot, wayTo, sub}
-use Rattle.cows.specs.Format.{Node, prefix, join, nodes, bytes, encode}
+use Rattle.cows.specs.Format.{prefix, join, nodes, bytes, encode}
 use Rattle.cows.proofs.Basics.{lt-case}
-use Rattle.cows.proofs.Places.{size-pos, fill-spot, fill-ind, descend-here, descend-first, Inherited, inherited-spot, PartOf, part-inherited, part-first, spot-fits, At}
+use Rattle.cows.specs.Records.{At, opens, closes, ahead, behind}
+use Rattle.cows.proofs.Places.{size-pos, fill-spot, fill-ind, descend-here, descend-first, Inherited, inherited-spot, PartOf, part-inherited, part-first, spot-fits}
 use Rattle.cows.proofs.Format.{length-nodes, length-bytes, length-encode}
 use Rattle.cows.proofs.Fields.{append-bytes}
-
--- the records of a frame ahead of the child on the way, and behind it
-unfoldable pub opens : Frame → List Node
-opens (inside u) = prefix u ∷ []
-opens (leftOf j t) = join j ∷ []
-opens (rightOf j s) = join j ∷ nodes s
-
-unfoldable pub closes : Frame → List Node
-closes (inside u) = []
-closes (leftOf j t) = nodes t
-closes (rightOf j s) = []
-
-unfoldable pub ahead : Way → List Node
-ahead [] = []
-ahead (f ∷ w) = ahead w ++ opens f
-
-unfoldable pub behind : Way → List Node
-behind [] = []
-behind (f ∷ w) = closes f ++ behind w
 
 nodes-plug : (f : Frame) (s : Term) → nodes (plug f s) ≡ opens f ++ (nodes s ++ closes f)
 unfolding nodes plug opens closes

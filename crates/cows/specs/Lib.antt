@@ -7,6 +7,7 @@ pub mod Within
 pub mod Active
 pub mod Proposed
 pub mod Moves
+pub mod Records
 pub mod Allows
 pub mod Remains
 pub mod Step

@@ -68,6 +68,13 @@ pub record Ends : Type 0 where
   pub operation : ℕ
   pub tuple : List ℕ
 
+-- the invoke and the receive of an endpoint with its tuple
+abbrev pub invokeOf : Ends → Basic
+invokeOf m = invoke (m .partner) (m .operation) (m .tuple)
+
+abbrev pub receiveOf : Ends → Prefix
+receiveOf r = receive (r .partner) (r .operation) (r .tuple)
+
 -- What a term's first record says, if it is of the kind.
 unfoldable pub kills : Term → Option ℕ
 kills (leaf nil) = none

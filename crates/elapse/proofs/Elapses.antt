@@ -2,7 +2,6 @@
 use mathlib.Core.Path.{_≡_, refl, sym, ap, _∙_}
 use mathlib.Core.Logic.{_≢_}
 use mathlib.Core.Bool.{Bool, true, false, cond}
-use mathlib.Core.Option.{Option, none, some}
 use mathlib.Core.List.{List, [], append-nil}
 use Prim.Native.Nat.{ℕ, suc, _/_}
 use native.Mathlib.Omega.{arith}
@@ -16,6 +15,7 @@ use Rattle.cows.specs.Active.{passesLive}
 use Rattle.cows.specs.Moves.{elapse, shorter, elapseBy}
 use Rattle.cows.proofs.Basics.{forbid-accept, same-accept}
 use Rattle.cows.proofs.Format.{length-encode}
+use Rattle.cows.proofs.Recordwise.{size-elapse}
 use Rattle.records.specs.Answers.{foundOf}
 use Rattle.records.specs.Rewrites.{put, Stands, Ready, Rewrites}
 use Rattle.records.specs.declared.Found.{Found}
@@ -31,16 +31,6 @@ use Rattle.plans.specs.Plans.{Planned, Asks}
 use Rattle.plans.proofs.Planning.{within-limits, planned-allowed}
 
 -- time changes no record's place
-size-elapse : (d : ℕ) (t : Term) → size (elapse d t) ≡ size t
-unfolding elapse size
-size-elapse d (leaf x) = refl
-size-elapse d (under u t) = ap suc (go (passesLive u) (size-elapse d t))
-  where
-    go : (b : Bool) → size (elapse d t) ≡ size t → size (cond b (elapse d t) t) ≡ size t
-    go true e = e
-    go false e = refl
-size-elapse d (both j s t) = rw (size-elapse d s, size-elapse d t)
-
 depth-elapse : (d : ℕ) (t : Term) → depth (elapse d t) ≡ depth t
 unfolding elapse depth
 depth-elapse d (leaf x) = refl

@@ -1,33 +1,33 @@
 -- Extrude (specs/Moves, extrudeAt) as it is judged and written.
 use mathlib.Core.Path.{_≡_, refl, sym, ap, subst, _∙_}
 use mathlib.Core.Logic.{_≢_}
-use mathlib.Core.Bool.{Bool, true, false, not, _&&_, _||_}
+use mathlib.Core.Bool.{true, false, not, _&&_, _||_}
 use mathlib.Core.Option.{some}
 use mathlib.Core.List.{List, [], _∷_, _++_, append-assoc}
 use Prim.Native.Nat.{ℕ, suc, _+_, _*_, _-_, _/_, _≤_, _<_, max}
 use native.Mathlib.Omega.{arith}
-use native.Mathlib.Numerals.{add-one}
 use lib.Dec.{ltb, eqb}
 use lib.Seq.{take-at, drop-at, drop-drop}
 use lib.ListN.{length, getD, take, drop, length-append, length-drop, drop-of-length-le}
 use borrow.Author.Tests.{eq-eqb, ne-eqb, eqb-true, eqb-false, not-false, lt-ltb, le-ltb}
-use Rattle.cows.specs.Basics.{placeIf, Result, refuse, accept, _>>=_, _>>_, forbid}
-use Rattle.cows.specs.Terms.{Prefix, receive, wait, protection, delimitation, replication, choice, parallel, Term, leaf, under, both, size, depth, prefixed, delimits, atom, label, below}
+use Rattle.cows.specs.Basics.{placeIf, refuse, accept, _>>=_, _>>_, forbid}
+use Rattle.cows.specs.Terms.{Prefix, receive, wait, protection, delimitation, replication, choice, parallel, Term, under, size, depth, prefixed, delimits, atom, label, below}
 use Rattle.cows.specs.Places.{Frame, inside, leftOf, rightOf, plug, Way, fill, wayTo, sub, frameChooses}
 use Rattle.cows.specs.Format.{byte, word, prefix, root, layout, record16, kindOf, bytes, encode}
 use Rattle.cows.specs.Active.{live, wanted}
 use Rattle.cows.specs.Moves.{fitsPrefix, fitting, exchange, afterExtrude, extrudeAt}
 use Rattle.cows.specs.Step.{overLimits}
 use Rattle.cows.proofs.Basics.{never, bind-accept, forbid-accept, same-accept, or-right, or-case, or-false, placeIf-none}
-use Rattle.cows.proofs.Places.{At, size-pos, fill-spot, spot-left, spot-right}
+use Rattle.cows.specs.Records.{At, opens, closes, ahead, behind}
+use Rattle.cows.proofs.Places.{size-pos, fill-spot, spot-left, spot-right}
 use Rattle.cows.proofs.Format.{length-nodes, length-bytes, length-encode}
 use Rattle.cows.proofs.Fields.{record-at, append-bytes, kind-delimitation, first-delimitation}
 use Rattle.cows.proofs.Records.{length-record16}
 use Rattle.cows.proofs.Stands.{right-at, delimits-is, prefixed-is, wanted-is, wanted-live, live-wanted}
-use Rattle.cows.proofs.Ways.{opens, closes, ahead, behind, length-ahead, take-ahead, drop-here, encode-plug, encode-fill, above-at, depth-part, depth-most, size-frame, size-swap}
+use Rattle.cows.proofs.Ways.{length-ahead, take-ahead, drop-here, encode-plug, encode-fill, above-at, depth-part, depth-most, size-frame, size-swap}
 use Rattle.records.specs.Rewrites.{Stands}
 use Rattle.records.proofs.Stands.{encode-under, holds-kind, holds-word, holds-stands}
-use Rattle.ways.specs.Known.{Table, Known}
+use Rattle.ways.specs.Known.{Table}
 use Rattle.ways.specs.Ways.{OnWay, LiveAt}
 use Rattle.ways.specs.Depths.{Standing}
 use Rattle.ways.proofs.Tables.{table-size, table-ended}

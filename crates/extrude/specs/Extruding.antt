@@ -9,7 +9,7 @@ use Rattle.cows.specs.Basics.{placeIf, Result, accept, _>>_, forbid}
 use Rattle.cows.specs.Terms.{delimitation, Term, under, size, below}
 use Rattle.cows.specs.Places.{Way, wayTo, sub}
 use Rattle.cows.specs.Moves.{fitting, afterExtrude}
-use Rattle.cows.proofs.Ways.{ahead}
+use Rattle.cows.specs.Records.{ahead}
 use Rattle.ways.specs.Known.{Table}
 use Rattle.ways.specs.Ways.{OnWay}
 use Rattle.records.specs.declared.Atom.{Atom}

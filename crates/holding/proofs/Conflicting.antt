@@ -1,7 +1,7 @@
 -- A receive that fits an invoke and binds fewer variables (cows, specs/Moves, tighter), by the bytes of its record.
 use mathlib.Core.Path.{_≡_, refl, sym, ap, _∙_}
 use mathlib.Core.Logic.{_≢_}
-use mathlib.Core.Bool.{Bool, true, false}
+use mathlib.Core.Bool.{Bool, false}
 use mathlib.Core.List.{List}
 use mathlib.Core.Option.{Option, none, some}
 use Prim.Native.Nat.{ℕ, _*_, _<_}
@@ -9,12 +9,12 @@ use native.Mathlib.Omega.{arith}
 use lib.Dec.{ltb}
 use lib.ListN.{length, getD}
 use Rattle.cows.specs.Basics.{holds}
-use Rattle.cows.specs.Terms.{Term, under, Ends, size, prefixed, receives, below}
+use Rattle.cows.specs.Terms.{Term, Ends, size, prefixed, receives, below, receiveOf}
 use Rattle.cows.specs.Places.{sub}
 use Rattle.cows.specs.Format.{byte, root, layout, record16, kindOf}
 use Rattle.cows.specs.Moves.{Matching, binds, differs, fit, fewer}
 use Rattle.cows.proofs.Fields.{kind-receive}
-use Rattle.cows.proofs.Stands.{receiveOf, receives-is, prefixed-is}
+use Rattle.cows.proofs.Stands.{receives-is, prefixed-is}
 use Rattle.records.specs.Holds.{Holds}
 use Rattle.records.proofs.Stands.{holds-kind}
 use Rattle.matching.specs.declared.Fit.the-variants.{Binds, Differs}

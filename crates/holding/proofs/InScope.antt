@@ -1,16 +1,16 @@
 -- Refusal 13 (cows, specs/Moves, inScope) by the nearest delimitations on the ways to both parties.
 use mathlib.Core.Path.{_≡_, refl, sym, ap, subst, _∙_}
-use mathlib.Core.Bool.{Bool, true, false, not, _&&_, _||_}
+use mathlib.Core.Bool.{Bool, true, false, not, _||_}
 use mathlib.Core.List.{List, [], _∷_}
-use mathlib.Core.Option.{Option, none, some}
-use Prim.Native.Nat.{ℕ, _+_, _≤_, _<_}
+use mathlib.Core.Option.{none, some}
+use Prim.Native.Nat.{ℕ, _<_}
 use native.Mathlib.Omega.{arith}
 use lib.Dec.{ltb, eqb}
 use borrow.Author.Tests.{lt-ltb, le-ltb, eqb-true}
 use Rattle.cows.specs.Basics.{any, member, found}
-use Rattle.cows.specs.Terms.{delimitation, Term, under, size, value, delimitsAt, below, uses, binders}
-use Rattle.cows.specs.Places.{wayTo, sub, spot, first, enclosed}
-use Rattle.cows.specs.Within.{Within, Bound, restricted}
+use Rattle.cows.specs.Terms.{Term, size, delimitsAt, below, uses, binders}
+use Rattle.cows.specs.Places.{wayTo, sub, first, enclosed}
+use Rattle.cows.specs.Within.{Bound, restricted}
 use Rattle.cows.specs.Moves.{outside, inScope}
 use Rattle.cows.proofs.Basics.{never, clash, bool-case, lt-case, and-none, and-true, not-so, or-case, none-found, true-and}
 use Rattle.cows.proofs.Places.{size-pos}

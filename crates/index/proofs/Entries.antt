@@ -18,7 +18,8 @@ use Rattle.cows.proofs.Basics.{clash as refute, bool-case, and-true, or-case, o
 use Rattle.cows.proofs.Sets.{variable-range, label-range}
 use Rattle.cows.proofs.Places.{spot-under}
 use Rattle.cows.proofs.Stands.{delimits-is, prefixed-is, member-delimited}
-use Rattle.cows.proofs.Reach.{delimitsAt-is, is-delimitsAt, reachOf, reach-some, reaches-enclosed, before-reach}
+use Rattle.cows.specs.Records.{reachOf}
+use Rattle.cows.proofs.Reach.{delimitsAt-is, is-delimitsAt, reach-some, reaches-enclosed, before-reach}
 use Rattle.records.specs.Holds.{Holds}
 use Rattle.records.proofs.Stands.{holds-size}
 use Rattle.scopes.specs.Scopes.{EndsOf, opens, strays}

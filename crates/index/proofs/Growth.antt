@@ -1,5 +1,5 @@
 -- Laws of the index of delimitations as it grows: a blank one, a page given out, a mark stored; and what an entry says.
-use mathlib.Core.Path.{_≡_, refl, sym, ap, _∙_}
+use mathlib.Core.Path.{_≡_, sym, ap, _∙_}
 use mathlib.Core.Logic.{_≢_}
 use mathlib.Core.Bool.{_&&_}
 use mathlib.Core.List.{List}

@@ -3,7 +3,7 @@ use mathlib.Core.Path.{_≡_, refl, sym, ap, subst, _∙_}
 use mathlib.Core.Bool.{true, false, _||_}
 use mathlib.Core.Option.{some}
 use mathlib.Core.List.{[], _∷_, _++_}
-use Prim.Native.Nat.{ℕ, zero, suc, _+_, _*_, _-_, _/_, _≤_, _<_}
+use Prim.Native.Nat.{ℕ, zero, suc, _+_, _*_, _-_, _≤_, _<_}
 use native.Mathlib.Omega.{arith}
 use native.Mathlib.Numerals.{add-one}
 use lib.Dec.{ltb, leb}
@@ -19,7 +19,8 @@ use Rattle.cows.specs.Moves.{halt, haltUnder, haltBoth, afterKill}
 use Rattle.cows.specs.Step.{overLimits}
 use Rattle.cows.specs.Within.{Right, Bound, Guarded, Within}
 use Rattle.cows.proofs.Basics.{never, cond-case, cond-case₂, or-false, or-case, or-right, found-some}
-use Rattle.cows.proofs.Places.{At, size-pos, fill-spot, spot-under}
+use Rattle.cows.specs.Records.{At}
+use Rattle.cows.proofs.Places.{size-pos, fill-spot, spot-under}
 use Rattle.cows.proofs.Ways.{encode-replaced, depth-fill, size-swap}
 use Rattle.cows.proofs.Stands.{right-at, scoped-at}
 use Rattle.rewriting.specs.Halting.{haltAside}

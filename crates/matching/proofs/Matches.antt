@@ -3,27 +3,25 @@ use mathlib.Core.Path.{_≡_, refl, sym, ap, _∙_}
 use mathlib.Core.Logic.{_≢_}
 use mathlib.Core.Bool.{Bool, true, false, cond, not, _&&_, _||_}
 use mathlib.Core.List.{List, [], _∷_}
-use Prim.Native.Nat.{ℕ, suc, _+_, _*_, _≤_, _<_}
+use Prim.Native.Nat.{ℕ, suc, _+_, _*_, _≤_}
 use native.Mathlib.Omega.{arith}
-use native.Mathlib.Numerals.{add-one}
 use lib.Dec.{eqb}
 use lib.ListN.{length, getD}
-use borrow.Author.Tests.{eq-eqb, ne-eqb, eqb-true, eqb-false}
+use borrow.Author.Tests.{eq-eqb, ne-eqb, eqb-true}
 use Rattle.cows.specs.Basics.{any, every}
 use Rattle.cows.specs.Allows.{Matches, empty, takes, equals}
 use Rattle.cows.proofs.Meeting.{match-matches}
-use Rattle.cows.specs.Terms.{receive, invoke, Term, leaf, under, Ends, variable}
-use Rattle.cows.specs.Format.{byte, word, root, record16}
+use Rattle.cows.specs.Terms.{Ends, variable}
+use Rattle.cows.specs.Format.{byte, word}
 use Rattle.cows.specs.Moves.{Substitution, Matching, binds, differs, extend, match, closedEnds, fit}
 use Rattle.cows.proofs.Basics.{never, clash, cond-case, and-none, and-one, or-none}
 use Rattle.records.specs.Ends.{oneIf}
 use Rattle.records.specs.Atoms.{classOf, closedAt}
 use Rattle.records.proofs.Atoms.{number-class, variable-class}
-use Rattle.matching.specs.declared.Fit.{Fit}
 use Rattle.matching.specs.declared.Fit.the-variants.{Binds, Differs}
 use Rattle.matching.specs.declared.SlotFit.{SlotFit}
 use Rattle.matching.specs.declared.SlotFit.the-variants.{Takes, Same, Other}
-use Rattle.matching.specs.Matching.{fitOf, slotOf, agrees, boundIn, agree, agreeAt, variablesAt, slotsAt, EndsAt}
+use Rattle.matching.specs.Matching.{fitOf, slotOf, agrees, boundIn, agree, agreeAt, variablesAt, slotsAt, EndsAt, slotTest}
 
 -- one slot by its numbers
 slot-agrees : (w v : ℕ) → agrees (slotOf (classOf w) (classOf v)) ≡ agree w v
@@ -202,10 +200,6 @@ module _ (s : List ℕ) (a b : ℕ) (q m : Ends) (h : EndsAt s a q) (k : EndsAt 
         go true true e = slots-same (eqb-true _ _ (sym counts-same ∙ eq-eqb _ _ n))
         go true false e = clash refl e
         go false y e = clash refl e
-
--- What holds of every pair that is bound, by the slots: where the pattern has a variable, it holds of the variable and the value there.
-abbrev pub slotTest : (ℕ × ℕ → Bool) → ℕ → ℕ → Bool
-slotTest f w v = not (variable w) || f (w, v)
 
 matches-lengths : {ws vs : List ℕ} {σ : Substitution} → Matches ws vs σ → length ws ≡ length vs
 matches-lengths empty = refl

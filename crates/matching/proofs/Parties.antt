@@ -1,15 +1,15 @@
 -- The endpoint and the tuple of a receive and of an invoke, by the bytes of its record.
-use mathlib.Core.Path.{_≡_, refl, ap, subst, _∙_}
+use mathlib.Core.Path.{_≡_, ap, subst, _∙_}
 use mathlib.Core.List.{List}
 use Prim.Native.Nat.{ℕ, _+_, _*_, _≤_, _<_}
 use native.Mathlib.Omega.{arith}
 use lib.ListN.{length, getD}
-use Rattle.cows.specs.Terms.{Term, leaf, under, Ends, size}
+use Rattle.cows.specs.Terms.{Term, leaf, under, Ends, size, receiveOf, invokeOf}
 use Rattle.cows.specs.Places.{sub}
 use Rattle.cows.specs.Format.{byte, word, root, layout, record16}
 use Rattle.cows.specs.Within.{Right}
 use Rattle.cows.proofs.Fields.{byte-at, layout-first, layout-second, layout-slot}
-use Rattle.cows.proofs.Stands.{right-at, receiveOf, invokeOf}
+use Rattle.cows.proofs.Stands.{right-at}
 use Rattle.records.specs.Holds.{Holds}
 use Rattle.records.proofs.Stands.{holds-word}
 use Rattle.matching.specs.Matching.{EndsAt}

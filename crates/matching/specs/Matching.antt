@@ -1,6 +1,6 @@
 -- Matching as the code answers it: how many variables are bound, or that something differs; an endpoint and a tuple by the bytes of a record.
 use mathlib.Core.Path.{_≡_}
-use mathlib.Core.Bool.{Bool, true, false, cond, _&&_, _||_}
+use mathlib.Core.Bool.{Bool, true, false, cond, not, _&&_, _||_}
 use mathlib.Core.List.{List}
 use Prim.Native.Nat.{ℕ, _+_, _*_, _≤_}
 use lib.Dec.{eqb}
@@ -62,3 +62,7 @@ pub record EndsAt (s : List ℕ) (j : ℕ) (r : Ends) : Type 0 where
   pub slot1 : word s (16 * j + 8) ≡ getD (r .tuple) 1 0
   pub slot2 : word s (16 * j + 10) ≡ getD (r .tuple) 2 0
   pub slot3 : word s (16 * j + 12) ≡ getD (r .tuple) 3 0
+
+-- a test of a pair, in a slot with w in the pattern and v in the message: it is asked where w is a variable
+abbrev pub slotTest : (ℕ × ℕ → Bool) → ℕ → ℕ → Bool
+slotTest f w v = not (variable w) || f (w, v)

@@ -3,7 +3,7 @@ use mathlib.Core.Path.{_≡_, refl, sym, subst, ap, _∙_}
 use mathlib.Core.List.{List}
 use Prim.Native.Nat.{ℕ}
 use native.Mathlib.Omega.{arith}
-use Rattle.cows.specs.Basics.{Result, accept, _>>=_, need}
+use Rattle.cows.specs.Basics.{accept, _>>=_, need}
 use Rattle.cows.specs.Terms.{Term}
 use Rattle.cows.specs.Format.{encode}
 use Rattle.records.specs.Rewrites.{put}

@@ -6,13 +6,13 @@ use Prim.Native.Nat.{ℕ, suc, _+_, _*_, _-_, _/_, _≤_, _<_}
 use native.Mathlib.Omega.{arith}
 use native.Mathlib.Numerals.{add-one}
 use lib.ListN.{length, getD, take, drop}
-use Rattle.cows.specs.Terms.{Prefix, Term, leaf, under, both, size, depth, below}
+use Rattle.cows.specs.Terms.{Prefix, Term, under, size, depth, below}
 use Rattle.cows.specs.Places.{fill, wayTo, sub}
 use Rattle.cows.specs.Format.{encode}
 use Rattle.cows.specs.Within.{Within}
-use Rattle.cows.specs.Moves.{aroundChoice, continue}
+use Rattle.cows.specs.Moves.{continue}
 use Rattle.cows.specs.Step.{overLimits}
-use Rattle.cows.proofs.Places.{At, size-pos, fill-spot, spot-fits, spot-under}
+use Rattle.cows.proofs.Places.{size-pos, fill-spot, spot-fits, spot-under}
 use Rattle.cows.proofs.Format.{length-encode}
 use Rattle.cows.proofs.Ways.{encode-replaced, depth-part, depth-fill, size-swap}
 use Rattle.records.specs.Rewrites.{Stands}

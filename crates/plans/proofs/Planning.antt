@@ -1,12 +1,11 @@
 -- Laws of plans (specs/Plans): what a refused and what an allowed move answer, and the successor that is written.
 use mathlib.Core.Path.{_≡_, refl, sym, ap, _∙_}
-use mathlib.Core.Bool.{Bool, true, false, _&&_, _||_}
+use mathlib.Core.Bool.{Bool, true, false, _&&_}
 use mathlib.Core.List.{List}
 use mathlib.Core.Option.{Option, none, some}
-use Prim.Native.Nat.{ℕ, _+_, _*_, _/_, _≤_, _<_}
+use Prim.Native.Nat.{ℕ, _≤_}
 use native.Mathlib.Omega.{arith}
 use lib.Dec.{ltb, eqb}
-use lib.ListN.{length}
 use borrow.Author.Tests.{le-ltb, eq-eqb}
 use Rattle.cows.specs.Basics.{only, placeIf, Result, refuse, accept, _>>=_, _>>_, forbid, need}
 use Rattle.cows.specs.Terms.{Term, size, depth}
@@ -16,9 +15,7 @@ use Rattle.cows.specs.Active.{live, wanted}
 use Rattle.cows.specs.Step.{overLimits}
 use Rattle.cows.proofs.Basics.{clash, same-accept}
 use Rattle.records.specs.Rewrites.{put}
-use Rattle.ways.specs.Known.{Table, Known}
 use Rattle.ways.proofs.Tables.{one-table}
-use Rattle.plans.specs.declared.Judgement.{Judgement}
 use Rattle.plans.specs.declared.Plan.{Plan}
 use Rattle.plans.specs.declared.Judgement.the-variants.{Allowed, Large}
 use Rattle.plans.specs.Plans.{resultOf, limited, Planned, Asks, Gives}

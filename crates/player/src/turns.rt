@@ -8,7 +8,7 @@ ghost use mathlib.Core.Path.{_≡_};
 ghost use lib.ListN.{length};
 ghost use Rattle.cows.specs.Run.{Run};
 ghost use Rattle.ways.specs.Known.{Table};
-ghost use Rattle.player.specs.Turns.{held, Accepted, Copied, Asks, Judged, Begins, Turned, Keeps, Going, Goes, keptAfter};
+ghost use Rattle.player.specs.Turns.{held, Accepted, Copied, Asks, Judged, Begins, Turned, Going, Goes, keptAfter};
 
 // What is kept from move to move: which buffer the table is in, and its records.
 pub struct Kept {

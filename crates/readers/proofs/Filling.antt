@@ -13,7 +13,7 @@ use borrow.Author.Tests.{lt-ltb, le-ltb, eqb-true}
 use Rattle.cows.proofs.Basics.{never, clash, bool-case, lt-case}
 use Rattle.records.specs.Ends.{oneIf, childrenOf, endAt, pickEnd}
 use Rattle.records.proofs.Shapes.{end-over, end-pick}
-use Rattle.records.proofs.Laws.{children-two, test-small}
+use Rattle.records.proofs.Laws.{children-two}
 use Rattle.readers.specs.Reads.{byGuard, guardKind, earlierOf, Reads, Filled, Read}
 use Rattle.readers.proofs.Readings.{kindAt, joined, reads-out, reads-deep, reads-leaf, reads-one, reads-choice, reads-parallel, reads-noted, reads-guard}
 

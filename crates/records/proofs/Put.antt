@@ -6,7 +6,7 @@ use native.Mathlib.Omega.{arith}
 use native.Mathlib.Nat.{add-zero}
 use native.Mathlib.Numerals.{add-one}
 use lib.ListN.{length, take, drop, getD, set, length-append, length-drop, List·getD-append}
-use lib.Seq.{sets, length-sets, sets-eq, drop-drop, drop-at, take-at, take-suc, getD-drop, getD-set-other, length-take-le}
+use lib.Seq.{sets, length-sets, drop-drop, drop-at, take-at, take-suc, getD-drop, getD-set-other, length-take-le}
 use Rattle.records.specs.Rewrites.{put, Has}
 
 pub length-put : (d : List ℕ) (i : ℕ) (bs : List ℕ) → length (put d i bs) ≡ length d
@@ -40,13 +40,6 @@ pub put-behind : (d : List ℕ) (i : ℕ) (bs : List ℕ) (n : ℕ) → i + leng
 unfolding put
 put-behind d i [] n h = refl
 put-behind d i (x ∷ bs) n h = put-behind (set d i x) (suc i) bs n (omega arith) ∙ getD-set-other d i n x 0 (omega arith)
-
--- bytes written where there is room for them stand there
-pub put-has : (d : List ℕ) (i : ℕ) (bs : List ℕ) → i + length bs ≤ length d → Has (put d i bs) i bs
-unfolding put
-put-has d i bs h =
-    let rest = drop (i + length bs) d in
-    record { rest = rest; is = ap (drop i) (sets-eq bs d i h ∙ append-assoc (take i d) bs rest) ∙ drop-at (take i d) (bs ++ rest) i (length-take-le i d (omega arith)) }
 
 -- The parts of bytes that stand in s from byte i on.
 module _ {s : List ℕ} {i : ℕ} where

@@ -7,9 +7,7 @@ use native.Mathlib.Omega.{arith}
 use lib.ListN.{length, take, drop, getD, length-append}
 use Rattle.cows.specs.Terms.{Basic, nil, Prefix, Join, Term, leaf, under, both, size}
 use Rattle.cows.specs.Format.{root, record16, encode}
-use Rattle.cows.specs.Within.{Right}
-use Rattle.cows.proofs.Format.{length-encode, encode-injective}
-use Rattle.records.specs.Ends.{endAt}
+use Rattle.cows.proofs.Format.{length-encode}
 use Rattle.records.specs.Rewrites.{put, Stands, Passes, Ready, Done, Rewrites, same, gone}
 use Rattle.records.proofs.Put.{and-then, has-take}
 use Rattle.records.proofs.Shapes.{end-stands}
@@ -30,17 +28,10 @@ module _ {s : List ℕ} {i : ℕ} where
   pub one-length : (t u : Term) → Stands s i t → Stands s i u → length (encode t) ≡ length (encode u)
   one-length t u h k = omega (arith, length-encode t, length-encode u, one-size t u h k)
 
-  pub one-term : (t u : Term) → Right t → Right u → Stands s i t → Stands s i u → t ≡ u
-  one-term t u a b h k =
-      encode-injective t u a b (sym (has-take (encode t) h) ∙ rw (one-length t u h k) (has-take (encode u) k))
-
   -- so the end of one of them is the end of all
   pub passes : (t : Term) (p : ℕ) → Stands s i t → p ≡ i + length (encode t) → Passes s i p
   passes t p h e =
       record { past = omega (arith, long t); within = omega (arith, stands-fits t h); end = λ u k. omega (arith, one-length t u h k) }
-
-pub passes-end : (s : List ℕ) (t : Term) (m : ℕ) → Stands s (16 * m) t → Passes s (16 * m) (16 * endAt s m)
-passes-end s t m h = passes t (16 * endAt s m) h (omega (arith, end-stands s t m h, length-encode t))
 
 length-leaf : (x : Basic) → length (encode (leaf x)) ≡ 16
 unfolding size
@@ -97,9 +88,6 @@ length-two h a b = omega (arith, length-append h (a ++ b), length-append a b)
 
 -- A branch that knows K of the term read and writes h of it, n bytes, for the first record.
 module _ (f g k : Term → Term) (h : Term → List ℕ) (K : Term → Type 0) (n : ℕ) (wide : (t : Term) → length (h t) ≡ n) (step : (t : Term) → K t → Step f g k (h t) t) where
-  step-leaf : (x : Basic) → K (leaf x) → length (encode (f (leaf x))) ≡ n
-  step-leaf x y = ap length (step (leaf x) y) ∙ wide (leaf x)
-
   step-under : (u : Prefix) (t : Term) → K (under u t) → length (encode (f (under u t))) ≡ n + length (encode (g t))
   step-under u t y = ap length (step (under u t) y) ∙ (length-append (h (under u t)) (encode (g t)) ∙ rw (wide (under u t)))
 
@@ -127,17 +115,6 @@ module _ (f g k : Term → Term) (h : Term → List ℕ) (K : Term → Type 0) (
       go (both o l m) y room =
           let a = w .done l (stands-left o l m y) in
           ready m (stands-right o l m p (a .next) y) (omega (arith, a .then, step-both o l m (know (both o l m) y)))
-
-  pub leaf-gives : {s : List ℕ} {i : ℕ} {d e : List ℕ} {j q : ℕ}
-      → ((t : Term) → Stands s i t → e ≡ put d j (h t)) → ((t : Term) → Stands s i t → K t) → getD s i 0 < 3 → q ≡ j + n → Rewrites f s i d j e (i + 16) q
-  leaf-gives {s} {i} {d} {e} {j} {q} w know kind at = record { past = omega arith; done = go }
-    where
-      go : (t : Term) → Stands s i t → Done f t i d j e (i + 16) q
-      go (leaf x) y =
-          let z = know (leaf x) y in
-          record { next = ap (λ l. i + l) (sym (length-leaf x)); then = omega (arith, step-leaf x z); bytes = w (leaf x) y ∙ ap (put d j) (sym (step (leaf x) z)) }
-      go (under u t) y = absurd (omega (arith, stands-kind (under u t) y, under-kind u t))
-      go (both o l m) y = absurd (omega (arith, stands-kind (both o l m) y, both-kind o l m))
 
   pub one-gives : {s : List ℕ} {i : ℕ} {d d′ e : List ℕ} {j j′ p q : ℕ}
       → ((t : Term) → Stands s i t → d′ ≡ put d j (h t)) → Rewrites g s (i + 16) d′ j′ e p q → ((t : Term) → Stands s i t → K t)

@@ -14,7 +14,8 @@ use Rattle.cows.specs.Active.{passesLive, onPrefix, live}
 use Rattle.cows.specs.Moves.{haltBeside, haltInside, afterKill}
 use Rattle.cows.specs.Allows.{Stands, Live}
 use Rattle.cows.proofs.Basics.{never, cond-case, cond-case₂, and-true, or-false, not-so, every-append}
-use Rattle.cows.proofs.Places.{fill-spot, fill-append, descend-way, descend-here, At, at-part}
+use Rattle.cows.specs.Records.{At}
+use Rattle.cows.proofs.Places.{fill-spot, fill-append, descend-way, descend-here, at-part}
 use Rattle.cows.proofs.Stands.{sub-ind}
 use Rattle.cows.proofs.Scopes.{counts-fill, counts-enclosed}
 use Rattle.rewriting.specs.Halting.{haltAside}

@@ -16,7 +16,8 @@ use Rattle.cows.specs.Within.{one}
 use Rattle.cows.proofs.Basics.{lt-case}
 use Rattle.cows.proofs.Places.{size-pos}
 use Rattle.cows.proofs.Stands.{delimits-is, prefixed-is, delimited-member}
-use Rattle.cows.proofs.Reach.{is-delimitsAt, reachOf, before-reach, binders-reach}
+use Rattle.cows.specs.Records.{reachOf}
+use Rattle.cows.proofs.Reach.{is-delimitsAt, before-reach, binders-reach}
 use Rattle.scopes.specs.Scopes.{enteredOf, markOf}
 
 no-delimits : (s : Term) → kindOf s ≢ 8 → prefixed delimits s ≡ none

@@ -11,7 +11,7 @@ use lib.Dec.{ltb, eqb}
 use lib.ListN.{length, getD}
 use borrow.Author.Tests.{lt-ltb, le-ltb, eq-eqb, ne-eqb}
 use Rattle.cows.specs.Basics.{any, placeIf, orElse, firstFrom}
-use Rattle.cows.specs.Terms.{Term, size, uses}
+use Rattle.cows.specs.Terms.{Term, size}
 use Rattle.cows.specs.Places.{spot, sub, first}
 use Rattle.cows.specs.Tables.{unbound, again, escaped, clash}
 use Rattle.cows.proofs.Basics.{cond-case, lt-case, or-none, from-next, from-end}

@@ -11,7 +11,7 @@ use Rattle.cows.specs.Terms.{Term, size, value, atom, bindable, binders}
 use Rattle.cows.specs.Places.{wayTo, sub, enclosed}
 use Rattle.cows.specs.Format.{byte, word}
 use Rattle.cows.specs.Within.{one}
-use Rattle.cows.proofs.Reach.{reachOf}
+use Rattle.cows.specs.Records.{reachOf}
 use Rattle.records.specs.Holds.{Holds}
 use Rattle.scopes.specs.declared.Scoping.{Scoping}
 use Rattle.scopes.specs.declared.Scoping.the-variants.{Fine, Open, Clash}

@@ -1,29 +1,26 @@
 -- Timeout (specs/Moves, timeoutAt) as it is judged and written.
-use mathlib.Core.Path.{_≡_, refl, sym, ap, subst, _∙_}
+use mathlib.Core.Path.{_≡_, refl, sym, ap, _∙_}
 use mathlib.Core.Logic.{_≢_}
-use mathlib.Core.Bool.{Bool, true, false, not, _&&_}
-use mathlib.Core.Option.{Option, none, some}
-use mathlib.Core.List.{List, _++_}
-use Prim.Native.Nat.{ℕ, suc, _+_, _*_, _-_, _/_, _≤_, _<_}
+use mathlib.Core.Bool.{false, _&&_}
+use mathlib.Core.Option.{some}
+use mathlib.Core.List.{List}
+use Prim.Native.Nat.{ℕ, _+_, _*_, _-_, _/_, _<_}
 use native.Mathlib.Omega.{arith}
 use lib.Dec.{ltb, eqb}
-use lib.ListN.{length, getD, take, drop}
-use borrow.Author.Tests.{eq-eqb, ne-eqb, eqb-false}
-use Rattle.cows.specs.Basics.{placeIf, Result, refuse, accept, _>>=_, _>>_, forbid}
-use Rattle.cows.specs.Terms.{nil, kill, invoke, receive, wait, protection, delimitation, replication, choice, parallel, Term, leaf, under, both, size, prefixed, waits, below}
+use lib.ListN.{length, getD}
+use borrow.Author.Tests.{ne-eqb}
+use Rattle.cows.specs.Basics.{placeIf, refuse, accept, _>>=_, _>>_, forbid}
+use Rattle.cows.specs.Terms.{wait, Term, under, size, prefixed, waits, below}
 use Rattle.cows.specs.Places.{wayTo, sub}
 use Rattle.cows.specs.Format.{byte, word, root, layout, record16, kindOf, encode}
 use Rattle.cows.specs.Active.{live, wanted}
 use Rattle.cows.specs.Moves.{continue, timeoutAt}
-use Rattle.cows.specs.Step.{overLimits}
 use Rattle.cows.proofs.Basics.{bind-accept, forbid-accept, same-accept}
 use Rattle.cows.proofs.Fields.{kind-wait, interval-wait}
 use Rattle.cows.proofs.Stands.{waits-is, prefixed-is, wanted-is, wanted-live, live-wanted}
 use Rattle.records.proofs.Stands.{holds-word}
-use Rattle.ways.specs.Known.{Table, Known}
+use Rattle.ways.specs.Known.{Table}
 use Rattle.ways.specs.Ways.{startOf, LiveAt}
-use Rattle.ways.proofs.Tables.{table-size, table-ended, table-inside}
-use Rattle.cows.specs.Within.{Within}
 use Rattle.plans.specs.declared.Judgement.the-variants.{Allowed}
 use Rattle.plans.specs.declared.Plan.{Plan}
 use Rattle.plans.specs.Plans.{Planned, Asks}

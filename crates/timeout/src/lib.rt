@@ -6,7 +6,6 @@ use plans::cutting::left;
 use plans::refused;
 use records::Found;
 use records::word_at;
-ghost use mathlib.Core.Path.{_≡_};
 ghost use Rattle.cows.specs.Terms.{Term};
 ghost use Rattle.cows.specs.Places.{wayTo};
 ghost use Rattle.cows.specs.Moves.{timeoutAt};

@@ -3,16 +3,15 @@ use mathlib.Core.Path.{_≡_, refl, sym, ap, subst, _∙_}
 use mathlib.Core.List.{List, [], _∷_, _++_}
 use Prim.Native.Nat.{ℕ, zero, suc, _+_, _-_, _≤_, _<_}
 use native.Mathlib.Omega.{arith}
-use native.Mathlib.Nat.{add-zero}
 use native.Mathlib.Numerals.{add-one}
 use lib.ListN.{length, getD, set, take, drop, length-drop}
 use lib.Seq.{getD-set-same, getD-set-other}
 use Rattle.cows.specs.Terms.{Term, size, depth}
-use Rattle.cows.specs.Places.{Frame, plug, Way, fill, wayTo, sub}
+use Rattle.cows.specs.Places.{plug, fill, wayTo, sub}
 use Rattle.cows.proofs.Basics.{lt-case}
-use Rattle.cows.proofs.Places.{At, fill-append, fill-spot}
-use Rattle.cows.proofs.Ways.{Clear, clear-root, Next, clear-next, depth-pos, depth-part}
-use Rattle.ways.specs.Known.{Ended}
+use Rattle.cows.specs.Records.{At}
+use Rattle.cows.proofs.Places.{fill-append, fill-spot}
+use Rattle.cows.proofs.Ways.{clear-root, Next, clear-next, depth-pos, depth-part}
 use Rattle.ways.specs.Ways.{OnWay, Climbs}
 
 -- one element more of a list

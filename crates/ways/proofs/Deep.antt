@@ -1,12 +1,12 @@
 -- The depth of the term at a place, by the terms below it.
-use mathlib.Core.Path.{_≡_, refl, sym, ap, subst, _∙_}
+use mathlib.Core.Path.{_≡_, refl, ap, subst, _∙_}
 use mathlib.Core.Logic.{_≢_}
 use mathlib.Core.List.{List}
-use Prim.Native.Nat.{ℕ, suc, _+_, _*_, _/_, _≤_, _<_, max}
+use Prim.Native.Nat.{ℕ, _+_, _*_, _≤_, _<_, max}
 use native.Mathlib.Omega.{arith}
-use lib.ListN.{length, getD}
+use lib.ListN.{getD}
 use Rattle.cows.specs.Terms.{Join, Term, leaf, under, both, size, depth}
-use Rattle.cows.specs.Format.{root, kindOf, children, encode}
+use Rattle.cows.specs.Format.{root, kindOf, children}
 use Rattle.cows.proofs.Format.{length-encode}
 use Rattle.records.specs.Ends.{childrenOf, EndsFrom}
 use Rattle.records.specs.Rewrites.{Stands}

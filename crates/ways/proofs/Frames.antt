@@ -1,26 +1,26 @@
 -- A frame on a way by the record that stands there: what its kind and its atom say of live places, of choices and of scopes.
 use mathlib.Core.Path.{_≡_, refl, sym, ap, subst, _∙_}
 use mathlib.Core.Logic.{_≢_}
-use mathlib.Core.Bool.{Bool, true, false, _&&_}
-use mathlib.Core.Option.{none, some}
-use mathlib.Core.List.{List, [], _∷_}
-use Prim.Native.Nat.{ℕ, _+_, _*_, _/_, _≤_, _<_}
+use mathlib.Core.Bool.{true, false, _&&_}
+use mathlib.Core.Option.{some}
+use mathlib.Core.List.{List, []}
+use Prim.Native.Nat.{ℕ, _+_, _*_, _≤_, _<_}
 use native.Mathlib.Omega.{arith}
-use lib.Dec.{leb, eqb}
+use lib.Dec.{eqb}
 use lib.ListN.{length, getD, take, drop, drop-of-length-le}
 use borrow.Author.Tests.{eq-eqb, ne-eqb, eqb-true}
 use Rattle.cows.specs.Basics.{every, holds}
-use Rattle.cows.specs.Terms.{nil, kill, invoke, Prefix, receive, wait, protection, delimitation, replication, choice, parallel, Term, leaf, under, both, size, prefixed, delimits, delimitsAtom, delimitsAt}
+use Rattle.cows.specs.Terms.{nil, kill, invoke, receive, wait, protection, delimitation, replication, choice, parallel, Term, leaf, under, both, size, prefixed, delimits, delimitsAtom, delimitsAt}
 use Rattle.cows.specs.Places.{Frame, inside, leftOf, rightOf, plug, fill, wayTo, sub, frameDelimits, frameChooses}
 use Rattle.cows.specs.Format.{byte, word, root, layout, record16, kindOf}
 use Rattle.cows.specs.Active.{passesLive, onPrefix, live}
-use Rattle.cows.proofs.Basics.{bool-case, and-true, true-and, not-so, same-test}
-use Rattle.cows.proofs.Fields.{kind-delimitation, first-delimitation}
-use Rattle.cows.proofs.Reach.{delimitsAt-is, is-delimitsAt}
-use Rattle.cows.proofs.Ways.{length-ahead, ahead}
+use Rattle.cows.proofs.Basics.{same-test}
+use Rattle.cows.proofs.Fields.{first-delimitation}
+use Rattle.cows.specs.Records.{ahead}
+use Rattle.cows.proofs.Ways.{length-ahead}
 use Rattle.records.specs.Holds.{Holds}
 use Rattle.records.proofs.Stands.{holds-kind, holds-word}
-use Rattle.ways.specs.Ways.{OnWay, Climbs, Walks, liveKind, startOf, scopeOf}
+use Rattle.ways.specs.Ways.{OnWay, Walks, liveKind, startOf, scopeOf}
 use Rattle.ways.proofs.Climbing.{split-at}
 
 frame-live : (f : Frame) (s : Term) → onPrefix passesLive f ≡ liveKind (kindOf (plug f s))

@@ -1,19 +1,19 @@
 -- The whole choice around a place, and the scopes around it: where they begin, and what stands there.
-use mathlib.Core.Path.{_≡_, refl, sym, ap, subst, _∙_}
+use mathlib.Core.Path.{_≡_, refl, sym, ap, _∙_}
 use mathlib.Core.Bool.{Bool, true, false, cond, _||_}
-use mathlib.Core.Option.{Option, none, some}
+use mathlib.Core.Option.{some}
 use mathlib.Core.List.{[], _∷_}
 use Prim.Native.Nat.{ℕ, _+_, _≤_, _<_}
 use native.Mathlib.Omega.{arith}
 use lib.ListN.{length}
 use Rattle.cows.specs.Basics.{any, found}
 use Rattle.cows.specs.Terms.{Term, under, size, delimitation, delimitsAt, below}
-use Rattle.cows.specs.Places.{Frame, plug, Way, fill, wayTo, sub, frameDelimits, enclosed, frameChooses}
+use Rattle.cows.specs.Places.{plug, Way, fill, sub, frameDelimits, enclosed, frameChooses}
 use Rattle.cows.specs.Moves.{aroundChoice}
 use Rattle.cows.proofs.Basics.{same-some}
-use Rattle.cows.proofs.Places.{At, size-pos}
+use Rattle.cows.specs.Records.{At, ahead}
 use Rattle.cows.proofs.Reach.{delimitsAt-is}
-use Rattle.cows.proofs.Ways.{ahead, above-at}
+use Rattle.cows.proofs.Ways.{above-at}
 use Rattle.ways.specs.Ways.{startOf, scopeOf}
 use Rattle.ways.proofs.Frames.{frame-delimits}
 

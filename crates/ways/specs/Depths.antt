@@ -1,6 +1,6 @@
 -- The depth of the term at a place.
 use mathlib.Core.List.{List}
-use Prim.Native.Nat.{ℕ, _+_, _*_, _/_, _≤_, _<_}
+use Prim.Native.Nat.{ℕ, _*_, _/_, _<_}
 use lib.ListN.{length}
 use Rattle.cows.specs.Terms.{Term}
 use Rattle.records.specs.Ends.{EndsFrom}

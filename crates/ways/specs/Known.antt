@@ -3,7 +3,7 @@ use mathlib.Core.Path.{_≡_}
 use mathlib.Core.List.{List}
 use Prim.Native.Nat.{ℕ, _+_, _*_, _/_, _≤_, _<_}
 use lib.ListN.{length, getD}
-use Rattle.cows.specs.Terms.{Term, size, depth}
+use Rattle.cows.specs.Terms.{Term, size}
 use Rattle.cows.specs.Places.{sub}
 use Rattle.cows.specs.Within.{Within}
 use Rattle.records.specs.Holds.{Holds}

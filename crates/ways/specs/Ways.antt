@@ -10,8 +10,8 @@ use Rattle.cows.specs.Terms.{Term, size, depth}
 use Rattle.cows.specs.Places.{Frame, plug, Way, fill, wayTo, sub, frameDelimits, frameChooses}
 use Rattle.cows.specs.Format.{kindOf}
 use Rattle.cows.specs.Active.{live}
-use Rattle.cows.proofs.Places as places
-use Rattle.cows.proofs.Ways.{ahead}
+use Rattle.cows.specs.Records as places
+use Rattle.cows.specs.Records.{ahead}
 use Rattle.records.specs.Holds.{Holds}
 use Rattle.records.specs.declared.Found.{Found}
 use Rattle.records.specs.declared.Found.the-variants.{At, Nothing}

@@ -1,5 +1,4 @@
 use borrow.Author.Needs.{needs}
-use mathlib.Core.Path.{_≡_}
 use Rattle.communicate.proofs.Scoping.{every-in-scope, slot0, slot1, slot2, slot3}
 use Rattle.communicate.proofs.all_in_scope.Statement.{statement}
 use Rattle.communicate.proofs.all_in_scope.Tie as tie

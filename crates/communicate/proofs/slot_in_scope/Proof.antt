@@ -1,5 +1,5 @@
 use borrow.Author.Needs.{needs}
-use mathlib.Core.Path.{_≡_, sym, _∙_}
+use mathlib.Core.Path.{sym, _∙_}
 use Rattle.communicate.proofs.Taking.{takes-pair, takes-nothing}
 use Rattle.communicate.proofs.Scoping.{slot-sends}
 use Rattle.communicate.proofs.slot_in_scope.Statement.{statement}

@@ -1,11 +1,8 @@
 use borrow.Author.Needs.{needs}
-use mathlib.Core.Path.{_≡_, refl, sym, ap, _∙_}
-use mathlib.Core.Bool.{_||_}
+use mathlib.Core.Path.{refl, ap}
 use native.Mathlib.Omega.{arith}
-use lib.Dec.{eqb}
 use Rattle.ways.proofs.Tables.{live-inside, walk-known}
 use Rattle.plans.specs.Plans.{resultOf}
-use Rattle.extrude.specs.Extruding.{isLabel}
 use Rattle.plans.proofs.Planning.{planned-refused}
 use Rattle.extrude.proofs.Extrudes.{no-delimitation, stuck, live-lifting, lift-planned, live-below}
 use Rattle.extrude.proofs.judge.Statement.{statement}

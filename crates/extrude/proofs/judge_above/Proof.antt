@@ -1,6 +1,6 @@
 use borrow.Author.Needs.{needs}
 use borrow.Author.Tests.{not-true, not-false}
-use mathlib.Core.Path.{_≡_, sym, _∙_}
+use mathlib.Core.Path.{sym, _∙_}
 use native.Mathlib.Omega.{arith}
 use Rattle.ways.proofs.Deep.{depth-few}
 use Rattle.extrude.proofs.Extrudes.{lift-stuck, lift-plain, beside-standing, lift-beside, lift-deep}

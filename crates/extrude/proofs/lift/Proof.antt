@@ -1,8 +1,6 @@
 use borrow.Author.Needs.{needs}
-use mathlib.Core.Path.{_≡_}
-use Prim.Native.Nat.{_+_, _*_, _-_, _≤_}
+use Prim.Native.Nat.{_+_, _*_, _-_}
 use native.Mathlib.Omega.{arith}
-use lib.ListN.{length}
 use Rattle.extrude.specs.Extruding.{lifted}
 use Rattle.plans.proofs.Joining.{four-parts}
 use Rattle.extrude.proofs.lift.Statement.{statement}

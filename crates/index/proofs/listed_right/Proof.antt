@@ -1,5 +1,4 @@
 use borrow.Author.Needs.{needs}
-use Prim.Native.Nat.{ℕ}
 use native.Mathlib.Omega.{arith}
 use Rattle.cows.proofs.Basics.{never}
 use Rattle.index.proofs.Growth.{ready}

@@ -1,6 +1,6 @@
 use borrow.Author.Needs.{needs}
 use borrow.Author.Tests.{not-true, not-false}
-use mathlib.Core.Path.{_≡_, sym, _∙_}
+use mathlib.Core.Path.{sym, _∙_}
 use Rattle.matching.proofs.Matches.{closed-ends, not-closed}
 use Rattle.matching.proofs.fits.Statement.{statement}
 use Rattle.matching.proofs.fits.Tie as tie

@@ -1,5 +1,5 @@
 use borrow.Author.Needs.{needs}
-use mathlib.Core.Path.{_≡_, _∙_}
+use mathlib.Core.Path.{_∙_}
 use Rattle.matching.proofs.Matches.{other-endpoint, other-count, slots-so}
 use Rattle.matching.proofs.fits_closed.Statement.{statement}
 use Rattle.matching.proofs.fits_closed.Tie as tie

@@ -1,6 +1,5 @@
 use borrow.Author.Needs.{needs}
 use borrow.Author.Tests.{not-true, not-false}
-use mathlib.Core.Path.{_≡_, sym, ap, _∙_}
 use Rattle.matching.proofs.Matches.{slots-differ, slots-bind}
 use Rattle.matching.proofs.slots_fit.Statement.{statement}
 use Rattle.matching.proofs.slots_fit.Tie as tie

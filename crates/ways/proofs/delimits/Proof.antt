@@ -1,5 +1,4 @@
 use borrow.Author.Needs.{needs}
-use mathlib.Core.Path.{_≡_}
 use Rattle.records.proofs.Atoms.{number-class}
 use Rattle.ways.proofs.Frames.{delimits-bytes}
 use Rattle.ways.proofs.delimits.Statement.{statement}

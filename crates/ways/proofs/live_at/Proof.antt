@@ -1,6 +1,6 @@
 use borrow.Author.Needs.{needs}
 use borrow.Author.Tests.{not-true, not-false}
-use mathlib.Core.Path.{_≡_, sym, _∙_}
+use mathlib.Core.Path.{sym, _∙_}
 use native.Mathlib.Omega.{arith}
 use Rattle.records.proofs.Stands.{holds-kind}
 use Rattle.ways.proofs.Tables.{table-walks, known-placed, known-walk, past-end, other-kind, not-live, lives-not, lives-so}

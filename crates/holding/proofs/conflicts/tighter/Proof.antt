@@ -1,5 +1,5 @@
 use borrow.Author.Needs.{needs}
-use mathlib.Core.Path.{_≡_, sym, _∙_}
+use mathlib.Core.Path.{sym, _∙_}
 use Rattle.holding.proofs.Conflicting.{no-receive, receive-fits, receive-differs}
 use Rattle.holding.proofs.conflicts.tighter.Statement.{statement}
 use Rattle.holding.proofs.conflicts.tighter.Tie as tie

@@ -1,5 +1,5 @@
 use borrow.Author.Needs.{needs}
-use mathlib.Core.Path.{_≡_, sym, _∙_}
+use mathlib.Core.Path.{sym, _∙_}
 use Rattle.records.proofs.Laws.{found-at, found-nothing}
 use Rattle.holding.proofs.InScope.{not-around-a, not-around-b, not-delimited, around-both}
 use Rattle.holding.proofs.scoping.in_scope.Statement.{statement}

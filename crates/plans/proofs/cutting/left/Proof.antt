@@ -1,7 +1,6 @@
 use borrow.Author.Needs.{needs}
 use Rattle.plans.proofs.cutting.left.Statement.{statement}
 use Rattle.plans.proofs.cutting.left.Tie as tie
-use mathlib.Core.Path.{_≡_}
 
 pub left-spec : {M : Type 1} → statement M
 left-spec =
