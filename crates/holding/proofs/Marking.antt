@@ -2,14 +2,14 @@
 use mathlib.Core.Path.{_≡_, refl, sym, ap, _∙_}
 use mathlib.Core.Logic.{_≢_}
 use mathlib.Core.Bool.{Bool, true, false, not, _&&_, _||_}
-use mathlib.Core.List.{List, [], _∷_}
+use mathlib.Core.List.{List}
 use mathlib.Core.Option.{none, some}
 use Prim.Native.Nat.{ℕ, zero, suc, _+_, _*_, _-_, _/_, _≤_, _<_}
 use native.Mathlib.Omega.{arith}
 use lib.Dec.{ltb, eqb}
 use lib.ListN.{length, getD, set, replicate}
 use lib.Seq.{getD-set-same, getD-set-other}
-use borrow.Author.Tests.{eqb-true, eq-eqb, ne-eqb}
+use borrow.Author.Tests.{eqb-true, eq-eqb}
 use Rattle.cows.specs.Basics.{holds, found}
 use Rattle.cows.specs.Terms.{nil, kill, invoke, receive, wait, protection, delimitation, replication, choice, parallel, Term, leaf, under, both, size, label, kills, prefixed, delimits, replicates}
 use Rattle.cows.specs.Places.{spot, sub, first, encloses}
@@ -20,7 +20,6 @@ use Rattle.cows.proofs.Basics.{clash, bool-case, not-so, and-none, none-found}
 use Rattle.cows.proofs.Fields.{kind-kill, kind-delimitation, first-kill, first-delimitation}
 use Rattle.cows.proofs.Scans.{passing}
 use Rattle.cows.proofs.Sets.{in-labels, label-range}
-use Rattle.records.specs.Atoms.{classOf}
 use Rattle.records.proofs.Stands.{holds-kind, holds-word}
 use Rattle.ways.specs.Known.{Table}
 use Rattle.holding.specs.Holding.{readyKind, Blank, Marked, Parties, Sides}
