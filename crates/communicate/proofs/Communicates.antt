@@ -27,7 +27,7 @@ use Rattle.plans.specs.declared.Judgement.the-variants.{Allowed}
 use Rattle.plans.specs.declared.Plan.{Plan}
 use Rattle.plans.specs.Plans.{Planned}
 use Rattle.plans.specs.Cutting.{Span}
-use Rattle.communicate.specs.Meeting.{Meets}
+use Rattle.scoping.specs.Scopes.{Meets}
 use Rattle.communicate.specs.Binding.{Matched}
 use Rattle.plans.proofs.Planning.{planned-allowed, absent}
 use Rattle.plans.proofs.Continuing.{span}

@@ -22,7 +22,7 @@ use Rattle.renaming.specs.Bound.{bound}
 use Rattle.plans.specs.Plans.{Asks}
 use Rattle.plans.specs.Cutting.{Span}
 use Rattle.communicate.specs.Binding.{Met}
-use Rattle.communicate.specs.Replacing.{takesOf}
+use Rattle.matching.specs.Taking.{takesOf}
 use Rattle.plans.proofs.Continuing.{span}
 use Rattle.communicate.proofs.Meets.{accepted-met}
 use Rattle.communicate.proofs.Replacing.{part-bound}

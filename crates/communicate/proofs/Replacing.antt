@@ -1,4 +1,4 @@
--- What the four slots of a receive take (specs/Replacing) is the substitution of its matching, and the records of a table so bound are its boundNodes (crate cows, proofs/Binds).
+-- What the four slots of a receive take (matching, specs/Taking) is the substitution of its matching, and the records of a table so bound are its boundNodes (crate cows, proofs/Binds).
 use mathlib.Core.Path.{_≡_, refl, sym, ap, ap₂, subst, _∙_}
 use mathlib.Core.Logic.{_≢_}
 use mathlib.Core.Bool.{Bool, true, false, cond}
@@ -36,7 +36,7 @@ use Rattle.renaming.specs.Bound.{takesOne, imageOfAll, goes, boundRecord, bound
 use Rattle.renaming.proofs.Mapped.{record-mapped}
 use Rattle.renaming.proofs.Occurring.{not-zero}
 use Rattle.communicate.specs.Binding.{Matched}
-use Rattle.communicate.specs.Replacing.{takesOf}
+use Rattle.matching.specs.Taking.{takesOf}
 use Rattle.communicate.proofs.Taking.{images-match, takers-match}
 
 -- The records from place i on, with nil at place b.

@@ -1,6 +1,6 @@
--- What the slots of a receive take (specs/Replacing) is the substitution of its matching: what stands for an atom, and which atoms are replaced.
+-- What the slots of a receive take (matching, specs/Taking) is the substitution of its matching: what stands for an atom, and which atoms are replaced.
 use mathlib.Core.Path.{_≡_, refl, sym, ap, _∙_}
-use mathlib.Core.Bool.{Bool, true, false, _||_, or-assoc}
+use mathlib.Core.Bool.{Bool, false, _||_, or-assoc}
 use mathlib.Core.List.{List, [], _∷_}
 use Prim.Native.Nat.{ℕ, zero, suc, _≤_}
 use native.Mathlib.Omega.{arith}
@@ -8,33 +8,22 @@ use lib.Dec.{eqb}
 use lib.ListN.{length, getD}
 use borrow.Author.Tests.{eqb-true, eq-eqb}
 use Rattle.cows.specs.Basics.{any}
-use Rattle.cows.specs.Terms.{Term, value, variable}
+use Rattle.cows.specs.Terms.{Term, variable}
 use Rattle.cows.specs.Allows.{Matches, empty, takes, equals}
 use Rattle.cows.specs.Moves.{Substitution, image}
 use Rattle.cows.proofs.Basics.{bool-case, cond-case₂, clash, not-so, same-test, or-none}
 use Rattle.cows.proofs.Binding.{AllBind}
 use Rattle.records.specs.declared.Variable as variables
-use Rattle.records.specs.declared.Value as values
 use Rattle.records.specs.declared.Atom.{Atom}
 use Rattle.records.specs.declared.Atom.the-variants.{Variable}
 use Rattle.records.specs.declared.Takes.{Takes}
-use Rattle.records.specs.declared.Takes.the-variants.{Pair, Nothing}
-use Rattle.records.specs.Atoms.{classOf, numberOf, takesVariable, imageOf}
-use Rattle.records.proofs.Atoms.{apart, class-case, class-value, class-variable}
+use Rattle.records.specs.Atoms.{numberOf, takesVariable, imageOf}
+use Rattle.records.proofs.Atoms.{class-variable}
 use Rattle.renaming.specs.Bound.{takesOne, imageOfAll}
 use Rattle.renaming.proofs.Bound.{not-taken, not-changed}
-use Rattle.communicate.specs.Replacing as slots
-use Rattle.communicate.specs.Replacing.{takesOf}
+use Rattle.matching.specs.Taking.{takesOf}
+use Rattle.matching.proofs.Slots.{takes-so, takes-none}
 use Rattle.cows.proofs.Binds.{image-other}
-
--- what one slot takes
-takes-so : (w v : ℕ) → variable w ≡ true → value v ≡ true → takesOf w v ≡ Pair (record { 0 = w }) (record { 0 = v })
-unfolding takesOf
-takes-so w v e k = rw (class-variable w e, class-value v k)
-
-takes-none : (w v : ℕ) → variable w ≡ false → takesOf w v ≡ Nothing
-unfolding takesOf
-takes-none w v e = class-case (λ a. slots.takes a (classOf v) ≡ Nothing) w (λ z. refl) (λ k. refl) (λ k. clash k e) (λ l. refl)
 
 -- What stands for an atom when n slots take their values, and whether one of them takes it, or y.
 images : ℕ → (ℕ → ℕ) → (ℕ → ℕ) → variables.Variable → Atom
@@ -96,14 +85,3 @@ module _ (t : Term) where
     unfolding takers
     takers-match =
         bool-case _ (variable a) (λ k. rw (class-variable a k) (takers-variable m h 4 l (record { 0 = a }) false)) (λ k. not-taken (slot 0) (slot 1) (slot 2) (slot 3) a k ∙ sym (not-bound σ h a k))
-
--- The slots by what the code finds them to take: a variable and a value, or nothing where a value is sent.
-pub takes-pair : (w v : ℕ) (x : variables.Variable) (y : values.Value) → Pair x y ≡ takesOf w v → (x .0 ≡ w) × (y .0 ≡ v) × (variable w ≡ true)
-unfolding takesOf
-takes-pair w v x y =
-    class-case (λ a. Pair x y ≡ slots.takes a (classOf v) → (x .0 ≡ w) × (y .0 ≡ v) × (variable w ≡ true)) w (λ z e. apart (cc)) (λ h e. apart (cc))
-    (λ h. class-case (λ b. Pair x y ≡ slots.taken (record { 0 = w }) b → (x .0 ≡ w) × (y .0 ≡ v) × (variable w ≡ true)) v (λ z e. apart (cc)) (λ k e. (cc, cc, h)) (λ k e. apart (cc)) (λ l e. apart (cc)))
-    (λ l e. apart (cc))
-
-pub takes-nothing : (w v : ℕ) → Nothing ≡ takesOf w v → (variable w ≡ true → value v ≡ true) → variable w ≡ false
-takes-nothing w v e k = bool-case (variable w ≡ false) (variable w) (λ z. let c = e ∙ takes-so w v z (k z) in apart (cc)) (λ z. z)

@@ -1,3 +1,2 @@
 pub mod Binding
-pub mod Meeting
-pub mod Replacing
+pub mod Mismatch

@@ -1,105 +1,24 @@
 // Communicate (meeting): a live receive and a live invoke that fits it. The invoke becomes nil, the receive, with the whole choice around it, its
 // continuation, and each variable that is bound takes its value throughout its delimitation, which goes.
-use holding::scoping::in_scope;
 use matching::Fit;
 use matching::fits;
+use matching::taking::takes_at;
 use plans::Judgement;
 use plans::Plan;
 use plans::cutting::left;
 use plans::refused;
-use records::Atom;
 use records::Found;
-use records::Takes;
-use records::Variable;
-use records::atom_at;
 use records::wide16;
 use renaming::binding::write_bound;
+use scoping::all_in_scope;
 ghost use mathlib.Core.Path.{_≡_};
-ghost use Prim.Native.Nat.{ℕ, _+_, _*_, _<_};
-ghost use lib.ListN.{length};
-ghost use Rattle.cows.specs.Basics.{every};
 ghost use Rattle.cows.specs.Terms.{Term};
 ghost use Rattle.cows.specs.Places.{wayTo};
-ghost use Rattle.cows.specs.Moves.{Substitution, inScope, communicateAt};
+ghost use Rattle.cows.specs.Moves.{communicateAt};
 ghost use Rattle.ways.specs.Known.{Table, Known};
-ghost use Rattle.ways.specs.Ways.{Walk, startOf};
-ghost use Rattle.matching.specs.Matching.{slotTest};
+ghost use Rattle.ways.specs.Ways.{startOf};
 ghost use Rattle.plans.specs.Plans.{Planned, Asks, Gives};
-ghost use Rattle.communicate.specs.Meeting.{Meets, Slot, mismatchOf};
-ghost use Rattle.cows.specs.Format.{word};
-ghost use Rattle.communicate.specs.Replacing.{taken, takes, takesOf};
-
-// What the variable x takes from an atom that is sent.
-fn variable_takes(x: Variable, sent: Atom) -> Takes
-    ensures { λ r. ⌜ r ≡ taken x sent ⌝ }
-{
-    match sent {
-        Atom::None => Takes::Nothing,
-        Atom::Value(v) => Takes::Pair(x, v),
-        Atom::Variable(y) => Takes::Nothing,
-        Atom::Label(k) => Takes::Nothing,
-    }
-}
-
-// What an atom of a pattern takes from an atom that is sent.
-fn atom_takes(atom: Atom, sent: Atom) -> Takes
-    ensures { λ r. ⌜ r ≡ takes atom sent ⌝ }
-{
-    match atom {
-        Atom::None => Takes::Nothing,
-        Atom::Value(v) => Takes::Nothing,
-        Atom::Variable(x) => variable_takes(x, sent),
-        Atom::Label(k) => Takes::Nothing,
-    }
-}
-
-// What the pattern's slot at byte k takes from the tuple's slot at byte m.
-fn takes_at(s: &[u8], k: usize, m: usize) -> Takes
-    requires { ⌜ (k + 1 < length (now s)) × (m + 1 < length (now s)) ⌝ }
-    ensures { λ r. ⌜ r ≡ takesOf (word (now (s .entry)) k) (word (now (s .entry)) m) ⌝ }
-{
-    atom_takes(atom_at(s, k), atom_at(s, m))
-}
-
-// 13 in one slot, at byte p of the pattern and byte q of the message: the scopes of what is taken are in order.
-fn slot_in_scope(
-    s: &[u8],
-    receiver: &[u16],
-    k: usize,
-    sender: &[u16],
-    n: usize,
-    p: usize,
-    q: usize,
-) -> bool
-    requires { ⌜ Walk (now s) (now receiver) k × Walk (now s) (now sender) n × (p + 1 < length (now s)) × (q + 1 < length (now s)) ⌝ }
-    ensures { λ r. ⌜ ((t : Term) (a b : ℕ) → Slot (now (s .entry)) (now (receiver .entry)) k (now (sender .entry)) n (word (now (s .entry)) p) (word (now (s .entry)) q) t a b → r ≡ slotTest (inScope t a b) (word (now (s .entry)) p) (word (now (s .entry)) q)) ⌝ }
-{
-    let Takes::Pair(x, v) = takes_at(s, p, q) else {
-        return true;
-    };
-    in_scope(s, receiver, k, sender, n, x, v)
-}
-
-// 13 for the receive at place a and the invoke at place b, which fits it.
-fn all_in_scope(
-    s: &[u8],
-    a: usize,
-    b: usize,
-    receiver: &[u16],
-    k: usize,
-    sender: &[u16],
-    n: usize,
-) -> bool
-    requires { ⌜ Walk (now s) (now receiver) k × Walk (now s) (now sender) n × (16 * a + 15 < length (now s)) × (16 * b + 15 < length (now s)) ⌝ }
-    ensures { λ r. ⌜ ((t : Term) (σ : Substitution) → Meets (now (s .entry)) a b (now (receiver .entry)) k (now (sender .entry)) n t σ → r ≡ every (inScope t a b) σ) ⌝ }
-{
-    let p = 16 * a;
-    let q = 16 * b;
-    let back = slot_in_scope(s, receiver, k, sender, n, p + 10, q + 10)
-        & slot_in_scope(s, receiver, k, sender, n, p + 12, q + 12);
-    let tail = slot_in_scope(s, receiver, k, sender, n, p + 8, q + 8) & back;
-    slot_in_scope(s, receiver, k, sender, n, p + 6, q + 6) & tail
-}
+ghost use Rattle.communicate.specs.Mismatch.{mismatchOf};
 
 // 12: what the proposer is told of a matching.
 fn mismatch(f: Fit, a: usize) -> Judgement

@@ -8,32 +8,17 @@ use native.Mathlib.Omega.{arith}
 use lib.Dec.{ltb, eqb}
 use borrow.Author.Tests.{ltb-true, eqb-true, eq-eqb}
 use Rattle.cows.specs.Basics.{every, holds, found}
-use Rattle.cows.specs.Terms.{kill, Prefix, Term, leaf, size, label, variable, bindable, kills, uses, usesBasic, prefixed, delimits, delimitsAt, replicates}
+use Rattle.cows.specs.Terms.{kill, Prefix, Term, leaf, size, label, variable, bindable, kills, uses, usesBasic, prefixed, delimits, replicates}
 use Rattle.cows.specs.Places.{Frame, inside, leftOf, rightOf, Way, Spot, spot, wayTo, sub, first, encloses, enclosed}
 use Rattle.cows.specs.Active.{passesLive, onPrefix, live, ready}
 use Rattle.cows.specs.Moves.{readyKill, heldBack}
-use Rattle.cows.specs.Tables.{clash, again}
-use Rattle.cows.specs.Within.{Right, Bound, Formed, Within}
+use Rattle.cows.specs.Within.{Right, Bound, Within}
 use Rattle.cows.proofs.Basics as basics
-use Rattle.cows.proofs.Basics.{bool-case, lt-case, and-true, true-and, or-case, or-false, or-left, or-right, and-none, same-test, none-found, holds-some, every-append}
+use Rattle.cows.proofs.Basics.{bool-case, and-true, true-and, or-case, or-left, or-right, and-none, same-test, none-found, holds-some, every-append}
 use Rattle.cows.proofs.Places.{spot-part, spot-fits, descend-way, descend-here}
-use Rattle.cows.proofs.Stands.{right-at, kills-is, Test, first-fails, fails-first, first-found, scoped-at}
-use Rattle.cows.proofs.Reach.{reach-none, before-none, enclosed-reaches}
-use Rattle.cows.proofs.Refusals.{formed-first}
-
--- no atom is delimited at two places
-twice-not : (t : Term) → Formed t → (x i j : ℕ) → i < j → j < size t → delimitsAt x (sub t i) ≡ true → delimitsAt x (sub t j) ≡ true → ⊥
-unfolding clash again holds
-twice-not t f x i j l m d e =
-    let q = first-fails (clash t) t (formed-first t f .2) j (sub t j) (record { placed = m; stands = refl }) in
-    let (k, p, r) = holds-some (eqb x) (prefixed delimits (sub t j)) e in
-    let b = sym (ap (holds _) (p ∙ ap some (sym (eqb-true x k r)))) ∙ or-false _ _ q .0 in
-    basics.clash d (reach-none t x j (before-none t x j b) i l)
-
-pub one-delimitation : (t : Term) → Formed t → (x i j : ℕ) → i < size t → j < size t → delimitsAt x (sub t i) ≡ true → delimitsAt x (sub t j) ≡ true → i ≡ j
-one-delimitation t f x i j l m d e =
-    lt-case (i ≡ j) i j (λ h. absurd (twice-not t f x i j h m d e)) (λ h.
-    lt-case (i ≡ j) j i (λ k. absurd (twice-not t f x j i k l e d)) (λ k. omega arith))
+use Rattle.cows.proofs.Stands.{right-at, kills-is, Test, fails-first, first-found, scoped-at}
+use Rattle.cows.proofs.Reach.{enclosed-reaches}
+use Rattle.ways.proofs.Once.{one-delimitation}
 
 -- place i of the term at place n, as a place of the table
 module _ (t : Term) (n : ℕ) (l : n < size t) (i : ℕ) (m : i < size (sub t n)) where

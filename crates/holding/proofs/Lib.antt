@@ -1,4 +1,3 @@
 pub mod HeldBack
 pub mod Marking
 pub mod Conflicting
-pub mod InScope

@@ -1,7 +1,6 @@
-// What holds a meeting back whose parties match: scopes (refusal 13, scoping), ready kills (14, here), and tighter receives (15, conflicts).
+// What holds a communication back whose parties match: ready kills (refusal 14, here) and tighter receives (15, conflicts).
 // 14: the first delimitation of a label that encloses a party of a meeting and holds a ready kill of the label.
 pub mod conflicts;
-pub mod scoping;
 
 use records::Atom;
 use records::Found;

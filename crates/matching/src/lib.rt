@@ -1,4 +1,6 @@
 // Matching: whether a receive fits an invoke, by the atoms of their records. The meeting and the conflict test both ask it.
+pub mod taking;
+
 use records::Atom;
 use records::atom_at;
 use records::closed;

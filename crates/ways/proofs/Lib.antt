@@ -4,3 +4,4 @@ pub mod Tables
 pub mod Starts
 pub mod Deep
 pub mod Seeking
+pub mod Once

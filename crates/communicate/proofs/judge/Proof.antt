@@ -5,7 +5,7 @@ use native.Mathlib.Omega.{arith}
 use Rattle.records.proofs.Laws.{found-at, found-nothing}
 use Rattle.ways.proofs.Tables.{live-inside, walk-known}
 use Rattle.plans.specs.Plans.{resultOf}
-use Rattle.communicate.specs.Meeting.{mismatchOf}
+use Rattle.communicate.specs.Mismatch.{mismatchOf}
 use Rattle.plans.proofs.Planning.{planned-refused}
 use Rattle.communicate.proofs.Communicates.{no-receive, no-invoke, ends-a, ends-b, differ, closed, meets, apart, held, looser, receive-span, met-left, met-planned}
 use Rattle.communicate.proofs.judge.Statement.{statement}

@@ -1,6 +1,6 @@
 use borrow.Author.Needs.{needs}
 use mathlib.Core.Path.{ap, sym}
-use Rattle.communicate.specs.Meeting.{mismatchOf}
+use Rattle.communicate.specs.Mismatch.{mismatchOf}
 use Rattle.communicate.proofs.mismatch.Statement.{statement}
 use Rattle.communicate.proofs.mismatch.Tie as tie
 

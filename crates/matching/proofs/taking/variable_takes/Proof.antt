@@ -1,6 +1,6 @@
 use borrow.Author.Needs.{needs}
-use Rattle.communicate.proofs.variable_takes.Statement.{statement}
-use Rattle.communicate.proofs.variable_takes.Tie as tie
+use Rattle.matching.proofs.taking.variable_takes.Statement.{statement}
+use Rattle.matching.proofs.taking.variable_takes.Tie as tie
 
 pub variable-takes-spec : {M : Type 1} → statement M
 variable-takes-spec =

@@ -1,9 +1,9 @@
 use borrow.Author.Needs.{needs}
 use mathlib.Core.Path.{sym, _∙_}
-use Rattle.communicate.proofs.Taking.{takes-pair, takes-nothing}
-use Rattle.communicate.proofs.Scoping.{slot-sends}
-use Rattle.communicate.proofs.slot_in_scope.Statement.{statement}
-use Rattle.communicate.proofs.slot_in_scope.Tie as tie
+use Rattle.matching.proofs.Slots.{takes-pair, takes-nothing}
+use Rattle.scoping.proofs.Scoping.{slot-sends}
+use Rattle.scoping.proofs.slot_in_scope.Statement.{statement}
+use Rattle.scoping.proofs.slot_in_scope.Tie as tie
 
 pub slot-in-scope-spec : {M : Type 1} → statement M
 slot-in-scope-spec =

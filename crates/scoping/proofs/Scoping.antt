@@ -19,8 +19,8 @@ use Rattle.cows.proofs.Meeting.{Fits, fit-fits, matches-match}
 use Rattle.matching.specs.Matching.{slotTest, EndsAt}
 use Rattle.matching.proofs.Matches.{alls-four, match-lengths, match-every}
 use Rattle.matching.proofs.Parties.{receive-ends, invoke-ends}
-use Rattle.holding.specs.Scopes.{Sends}
-use Rattle.communicate.specs.Meeting.{Meets, Slot}
+use Rattle.scoping.specs.Scopes.{Sends}
+use Rattle.scoping.specs.Scopes.{Meets, Slot}
 
 member-slot : (vs : List ℕ) (i : ℕ) → i < length vs → member (getD vs i 0) vs ≡ true
 unfolding member any

@@ -1,9 +1,9 @@
 use borrow.Author.Needs.{needs}
 use mathlib.Core.Path.{sym, _∙_}
 use Rattle.records.proofs.Laws.{found-at, found-nothing}
-use Rattle.holding.proofs.InScope.{not-around-a, not-around-b, not-delimited, around-both}
-use Rattle.holding.proofs.scoping.in_scope.Statement.{statement}
-use Rattle.holding.proofs.scoping.in_scope.Tie as tie
+use Rattle.scoping.proofs.InScope.{not-around-a, not-around-b, not-delimited, around-both}
+use Rattle.scoping.proofs.in_scope.Statement.{statement}
+use Rattle.scoping.proofs.in_scope.Tie as tie
 
 pub in-scope-spec : {M : Type 1} → statement M
 in-scope-spec =

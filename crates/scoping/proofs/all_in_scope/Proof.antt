@@ -1,7 +1,7 @@
 use borrow.Author.Needs.{needs}
-use Rattle.communicate.proofs.Scoping.{every-in-scope, slot0, slot1, slot2, slot3}
-use Rattle.communicate.proofs.all_in_scope.Statement.{statement}
-use Rattle.communicate.proofs.all_in_scope.Tie as tie
+use Rattle.scoping.proofs.Scoping.{every-in-scope, slot0, slot1, slot2, slot3}
+use Rattle.scoping.proofs.all_in_scope.Statement.{statement}
+use Rattle.scoping.proofs.all_in_scope.Tie as tie
 
 pub all-in-scope-spec : {M : Type 1} → statement M
 all-in-scope-spec =

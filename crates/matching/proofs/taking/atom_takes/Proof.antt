@@ -1,6 +1,6 @@
 use borrow.Author.Needs.{needs}
-use Rattle.communicate.proofs.atom_takes.Statement.{statement}
-use Rattle.communicate.proofs.atom_takes.Tie as tie
+use Rattle.matching.proofs.taking.atom_takes.Statement.{statement}
+use Rattle.matching.proofs.taking.atom_takes.Tie as tie
 
 pub atom-takes-spec : {M : Type 1} → statement M
 atom-takes-spec =

@@ -1,4 +1,4 @@
--- What judging a meeting knows, once the receive fits the invoke.
+-- What the test of scopes knows of a meeting: the ways to both parties, and that the invoke uses the value.
 use mathlib.Core.Path.{_≡_}
 use mathlib.Core.Bool.{true}
 use mathlib.Core.List.{List}
@@ -9,11 +9,14 @@ use Rattle.cows.specs.Places.{sub}
 use Rattle.cows.specs.Within.{Within}
 use Rattle.cows.specs.Moves.{Substitution, binds, fit}
 use Rattle.ways.specs.Ways.{Walks}
-use Rattle.matching.specs.declared.Fit.{Fit}
-use Rattle.matching.specs.declared.Fit.the-variants.{Binds}
-use Rattle.matching.specs.declared.Fit.the-variants as Fits
-use Rattle.plans.specs.declared.Judgement.{Judgement}
-use Rattle.plans.specs.declared.Judgement.the-variants.{Allowed, Differs}
+
+-- A term within the limits, the ways to its places a and b, and a value v that the record at b uses.
+pub record Sends (s way-a : List ℕ) (k : ℕ) (way-b : List ℕ) (n v : ℕ) (t : Term) (a b : ℕ) : Type 0 where
+  pub within : Within t
+  pub left : Walks s way-a k t a
+  pub right : Walks s way-b n t b
+  pub sent : value v ≡ true
+  pub used : member v (uses (sub t b)) ≡ true
 
 -- The ways to a receive at place a and to an invoke at place b of a term within the limits, and what the two bind.
 pub record Meets (s : List ℕ) (a b : ℕ) (receiver : List ℕ) (k : ℕ) (sender : List ℕ) (n : ℕ) (t : Term) (σ : Substitution) : Type 0 where
@@ -32,8 +35,3 @@ pub record Slot (s receiver : List ℕ) (k : ℕ) (sender : List ℕ) (n w v : �
   pub to-receiver : Walks s receiver k t a
   pub to-sender : Walks s sender n t b
   pub sent : variable w ≡ true → (value v ≡ true) × (member v (uses (sub t b)) ≡ true)
-
--- 12: a matching as it is told
-abbrev pub mismatchOf : Fit → ℕ → Judgement
-mismatchOf (Binds l) a = Allowed l
-mismatchOf Fits.Differs a = Differs a

@@ -17,9 +17,9 @@ use Rattle.cows.proofs.Places.{size-pos}
 use Rattle.cows.proofs.Stands.{scoped-at, delimited-member, fails-first, first-found}
 use Rattle.cows.proofs.Reach.{is-delimitsAt, enclosed-reaches, reaches-enclosed}
 use Rattle.ways.specs.Ways.{scopeOf}
-use Rattle.holding.specs.Scopes.{Sends}
+use Rattle.scoping.specs.Scopes.{Sends}
 use Rattle.ways.proofs.Starts.{Scope, scope-at, scope-found}
-use Rattle.holding.proofs.HeldBack.{one-delimitation}
+use Rattle.ways.proofs.Once.{one-delimitation}
 
 not-not : (b : Bool) → not (not b) ≡ b
 not-not true = refl

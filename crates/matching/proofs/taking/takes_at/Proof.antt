@@ -1,8 +1,8 @@
 use borrow.Author.Needs.{needs}
 use mathlib.Core.Path.{ap₂, _∙_}
-use Rattle.communicate.specs.Replacing.{takes, takesOf}
-use Rattle.communicate.proofs.takes_at.Statement.{statement}
-use Rattle.communicate.proofs.takes_at.Tie as tie
+use Rattle.matching.specs.Taking.{takes, takesOf}
+use Rattle.matching.proofs.taking.takes_at.Statement.{statement}
+use Rattle.matching.proofs.taking.takes_at.Tie as tie
 
 pub takes-at-spec : {M : Type 1} → statement M
 unfolding takesOf
