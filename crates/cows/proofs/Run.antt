@@ -13,7 +13,7 @@ use Rattle.cows.specs.Format.{encode}
 use Rattle.cows.specs.Tables.{judge}
 use Rattle.cows.specs.Within.{Within}
 use Rattle.cows.specs.Step.{readMove, stepTerm, judgeStep}
-use Rattle.cows.specs.Run.{Tally, noTally, count, Run, start, judgement, enter, turn, run, lostBy, losses}
+use Rattle.cows.specs.Run.{Tally, counted, noTally, sum, counts, Run, start, judgement, enter, turn, run, lostBy, losses}
 use Rattle.cows.proofs.Basics.{bind-accept, accept-bind, forbid-accept, same-accept, same-some}
 use Rattle.cows.proofs.Stands.{wanted-is}
 use Rattle.cows.proofs.Tables.{within-judge}
@@ -77,11 +77,11 @@ load-law t s (Extrude a) e = law-extrude t s a e
 abbrev pub Balanced : ℕ → ℕ → Run → Type 0
 Balanced x l r = x + r .tally .copied ≡ 2 * r .tally .communications + r .tally .kills + r .tally .timeouts + load (r .table) + l
 
-balanced-count : (x l : ℕ) (c : Tally) (t s : Term) (m : Move) → successor t m ≡ accept s → Balanced x l (record { table = t; tally = c }) → Balanced x (l + lost t m) (record { table = s; tally = count c t m })
-unfolding count copies spent
+balanced-count : (x l : ℕ) (c : Tally) (t s : Term) (m : Move) → successor t m ≡ accept s → Balanced x l (record { table = t; tally = c }) → Balanced x (l + lost t m) (record { table = s; tally = sum c (counts t m) })
+unfolding counted noTally sum counts copies spent
 balanced-count x l c t s m e h = go m (load-law t s m e)
   where
-    go : (m : Move) → Law t m s → Balanced x (l + lost t m) (record { table = s; tally = count c t m })
+    go : (m : Move) → Law t m s → Balanced x (l + lost t m) (record { table = s; tally = sum c (counts t m) })
     go (Kill a) k = omega arith
     go (Communicate a b) k = omega arith
     go (Timeout a) k = omega arith
@@ -107,7 +107,7 @@ balanced-run x l r (m ∷ ms) h = omega (arith, balanced-run x (l + lostBy (r .t
 
 -- Demand 3: the balance of every list of moves, refused ones included, and the inequality.
 pub run-balance : (t : Term) (ms : List (List ℕ)) → Balanced (load t) (losses (start t) ms) (run (start t) ms)
-unfolding start noTally
+unfolding start counted noTally
 run-balance t ms = omega (arith, balanced-run (load t) 0 (start t) ms (omega arith))
 
 pub run-bound : (t : Term) (ms : List (List ℕ)) → let r = run (start t) ms in

@@ -21,19 +21,24 @@ pub record Tally : Type 0 where
   pub timeouts : ℕ
   pub copied : ℕ
 
-unfoldable pub noTally : Tally
-noTally = record { communications = 0; kills = 0; timeouts = 0; copied = 0 }
+-- a tally by its counts; none; two tallies added
+unfoldable pub counted : (communications kills timeouts copied : ℕ) → Tally
+counted m k e l = record { communications = m; kills = k; timeouts = e; copied = l }
 
--- What an accepted move on the table t adds: a kill, a communication or a timeout 1 to its count, an unfolding the load of the body
--- as it stood before; time and floating nothing.
-unfoldable pub count : Tally → Term → Move → Tally
-count c t (Kill a) = record { communications = c .communications; kills = c .kills + 1; timeouts = c .timeouts; copied = c .copied }
-count c t (Communicate a b) = record { communications = c .communications + 1; kills = c .kills; timeouts = c .timeouts; copied = c .copied }
-count c t (Timeout a) = record { communications = c .communications; kills = c .kills; timeouts = c .timeouts + 1; copied = c .copied }
-count c t (Elapse d) = c
-count c t (Unfold a) =
-    record { communications = c .communications; kills = c .kills; timeouts = c .timeouts; copied = c .copied + load (below (sub t a)) }
-count c t (Extrude a) = c
+unfoldable pub noTally : Tally
+noTally = counted 0 0 0 0
+
+unfoldable pub sum : Tally → Tally → Tally
+sum c d = counted (c .communications + d .communications) (c .kills + d .kills) (c .timeouts + d .timeouts) (c .copied + d .copied)
+
+-- What an accepted move counts: a meeting, a stop or an expiry 1 in its count, an unfolding the load of the body as it stood before; time and floating nothing.
+unfoldable pub counts : Term → Move → Tally
+counts t (Kill a) = counted 0 1 0 0
+counts t (Communicate a b) = counted 1 0 0 0
+counts t (Timeout a) = counted 0 0 1 0
+counts t (Elapse d) = noTally
+counts t (Unfold a) = counted 0 0 0 (load (below (sub t a)))
+counts t (Extrude a) = noTally
 
 -- The run keeps a table, at first the start table, and the tally, at first zeros.
 pub record Run : Type 0 where
@@ -50,7 +55,7 @@ judgement r m = stepTerm (r .table) m 32768
 unfoldable pub enter : Run → Option Move → Result Term → Run
 enter r move (refuse n p) = r
 enter r none (accept s) = r
-enter r (some move) (accept s) = record { table = s; tally = count (r .tally) (r .table) move }
+enter r (some move) (accept s) = record { table = s; tally = sum (r .tally) (counts (r .table) move) }
 
 unfoldable pub turn : Run → List ℕ → Run
 turn r m = enter r (readMove m) (judgement r m)
@@ -126,5 +131,5 @@ play table moves out slots = judgePlay table moves (length out) (length slots)
 
 -- (for computed checks) to unfold this is to unfold every definition of this file
 unfoldable pub open-run : Unit {0}
-unfolding noTally count start judgement enter turn run kept replies lostBy losses movesOf replyBytes played judgePlay playedReply playedTally playedOutput playedReplies play
+unfolding counted noTally sum counts start judgement enter turn run kept replies lostBy losses movesOf replyBytes played judgePlay playedReply playedTally playedOutput playedReplies play
 open-run = tt

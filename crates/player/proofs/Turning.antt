@@ -20,7 +20,7 @@ use Rattle.cows.specs.Allows.{Live}
 use Rattle.cows.specs.Moves.{Move, Unfold, unfoldAt, successor}
 use Rattle.cows.specs.Step.{readMove, stepTerm, reply, written}
 use Rattle.cows.specs.Load.{load, copies}
-use Rattle.cows.specs.Run.{noTally, Run, judgement, enter, turn, kept, count}
+use Rattle.cows.specs.Run.{noTally, sum, counts, Run, judgement, enter, turn, kept}
 use Rattle.cows.proofs.Basics.{bind-accept}
 use Rattle.cows.proofs.Format.{length-encode}
 use Rattle.cows.proofs.Stands.{replicates-is, prefixed-is, wanted-live}
@@ -120,7 +120,7 @@ turn-refused : (q : Run) (m : List ℕ) (n p : ℕ) → judgement q m ≡ refuse
 unfolding turn enter
 turn-refused q m n p e = rw e
 
-turn-accepted : (q : Run) (m : List ℕ) (s : Term) (v : Move) → judgement q m ≡ accept s → readMove m ≡ some v → turn q m ≡ record { table = s; tally = count (q .tally) (q .table) v }
+turn-accepted : (q : Run) (m : List ℕ) (s : Term) (v : Move) → judgement q m ≡ accept s → readMove m ≡ some v → turn q m ≡ record { table = s; tally = sum (q .tally) (counts (q .table) v) }
 unfolding turn enter
 turn-accepted q m s v e h = rw (e, h)
 

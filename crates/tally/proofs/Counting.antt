@@ -1,5 +1,5 @@
 -- The tally by kinds is the definition's by moves, and its sums fit in a list of at most 10,000 moves.
-use mathlib.Core.Path.{_≡_, ap, _∙_}
+use mathlib.Core.Path.{_≡_, refl, ap, _∙_}
 use mathlib.Core.List.{List}
 use mathlib.Core.Option.{some}
 use Prim.Native.Nat.{ℕ, _+_, _*_, _<_, _≤_}
@@ -10,7 +10,7 @@ use Rattle.cows.specs.Format.{byte}
 use Rattle.cows.specs.Moves.{Move}
 use Rattle.cows.specs.Step.{readMove}
 use Rattle.cows.specs.Load.{copies}
-use Rattle.cows.specs.Run.{noTally, count}
+use Rattle.cows.specs.Run.{counted, noTally, sum, counts}
 use Rattle.cows.specs.Run as meaning
 use Rattle.cows.proofs.Basics.{cond-case}
 use Rattle.cows.proofs.Step.{read-case}
@@ -27,29 +27,26 @@ tally-is {c} {d} e f g h =
 
 -- A refused move counts nothing; one that is read counts as its first byte says.
 pub sum-zeros : (c : Tally) → sumOf c (tallyOf noTally) ≡ c
-unfolding sumOf noTally
+unfolding sumOf counted noTally
 sum-zeros c = tally-is (omega arith) (omega arith) (omega arith) (omega arith)
 
 pub counted-reads : (c : meaning.Tally) (t : Term) (m : List ℕ) (v : Move) → readMove m ≡ some v
-    → sumOf (tallyOf c) (countsOf (byte m 0) (copies t v)) ≡ tallyOf (count c t v)
-unfolding sumOf countsOf count copies noTally
-counted-reads c t m v e =
-    read-case (λ kind v. sumOf (tallyOf c) (countsOf kind (copies t v)) ≡ tallyOf (count c t v)) m (tally-is (omega arith) (omega arith) (omega arith) (omega arith))
-    (tally-is (omega arith) (omega arith) (omega arith) (omega arith)) (tally-is (omega arith) (omega arith) (omega arith) (omega arith)) (sum-zeros (tallyOf c))
-    (tally-is (omega arith) (omega arith) (omega arith) (omega arith)) (sum-zeros (tallyOf c)) v e
+    → sumOf (tallyOf c) (countsOf (byte m 0) (copies t v)) ≡ tallyOf (sum c (counts t v))
+unfolding sumOf sum countsOf counts copies counted noTally
+counted-reads c t m v e = read-case (λ kind v. sumOf (tallyOf c) (countsOf kind (copies t v)) ≡ tallyOf (sum c (counts t v))) m refl refl refl refl refl refl v e
 
 -- The bounds: they hold of zeros, of what one move counts, and behind one move more; and before each of 10,000 moves there is room.
 pub zeros-small : (i : ℕ) → Small (tallyOf noTally) i
-unfolding noTally
+unfolding counted noTally
 zeros-small i = record { communications-small = omega arith; kills-small = omega arith; timeouts-small = omega arith; copied-small = omega arith }
 
 pub counts-small : (kind load : ℕ) → load ≤ 2048 → Small (countsOf kind load) 1
-unfolding countsOf
+unfolding countsOf counted noTally
 counts-small kind load h =
-    cond-case (λ r. Small r 1) (eqb kind 0) (λ _. small (omega arith) (omega arith) (omega arith) (omega arith))
-    (λ _. cond-case (λ r. Small r 1) (eqb kind 1) (λ _. small (omega arith) (omega arith) (omega arith) (omega arith))
-    (λ _. cond-case (λ r. Small r 1) (eqb kind 2) (λ _. small (omega arith) (omega arith) (omega arith) (omega arith))
-    (λ _. cond-case (λ r. Small r 1) (eqb kind 4) (λ _. small (omega arith) (omega arith) (omega arith) (omega arith))
+    cond-case (λ (r : meaning.Tally). Small (tallyOf r) 1) (eqb kind 0) (λ _. small (omega arith) (omega arith) (omega arith) (omega arith))
+    (λ _. cond-case (λ (r : meaning.Tally). Small (tallyOf r) 1) (eqb kind 1) (λ _. small (omega arith) (omega arith) (omega arith) (omega arith))
+    (λ _. cond-case (λ (r : meaning.Tally). Small (tallyOf r) 1) (eqb kind 2) (λ _. small (omega arith) (omega arith) (omega arith) (omega arith))
+    (λ _. cond-case (λ (r : meaning.Tally). Small (tallyOf r) 1) (eqb kind 4) (λ _. small (omega arith) (omega arith) (omega arith) (omega arith))
     (λ _. zeros-small 1))))
   where
     small : {r : Tally} → r .communications ≤ 1 → r .kills ≤ 1 → r .timeouts ≤ 1 → r .copied ≤ 2048 * 1 → Small r 1

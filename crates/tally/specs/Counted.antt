@@ -1,7 +1,8 @@
--- What a move counts, by its kind (cows, specs/Run, `count`), and tallies added; that the sums fit, and how far the counts are after so many moves.
+-- What a move counts, by its kind (cows, specs/Run, `counts`), and tallies added; that the sums fit, and how far the counts are after so many moves.
 use mathlib.Core.Bool.{cond}
 use Prim.Native.Nat.{ℕ, _+_, _*_, _<_, _≤_, _^_}
 use lib.Dec.{eqb}
+use Rattle.cows.specs.Run.{counted, noTally}
 use Rattle.cows.specs.Run as meaning
 use Rattle.tally.specs.declared.Tally.{Tally}
 
@@ -12,10 +13,11 @@ tallyOf c = record { communications = c .communications; kills = c .kills; timeo
 -- A kill, a communication or a timeout counts 1 in its count, an unfolding the load of the body; no other kind counts anything.
 unfoldable pub countsOf : (kind load : ℕ) → Tally
 countsOf kind load =
-    cond (eqb kind 0) (record { communications = 0; kills = 1; timeouts = 0; copied = 0 })
-    (cond (eqb kind 1) (record { communications = 1; kills = 0; timeouts = 0; copied = 0 })
-    (cond (eqb kind 2) (record { communications = 0; kills = 0; timeouts = 1; copied = 0 })
-    (cond (eqb kind 4) (record { communications = 0; kills = 0; timeouts = 0; copied = load }) (tallyOf meaning.noTally))))
+    tallyOf
+    (cond (eqb kind 0) (counted 0 1 0 0)
+    (cond (eqb kind 1) (counted 1 0 0 0)
+    (cond (eqb kind 2) (counted 0 0 1 0)
+    (cond (eqb kind 4) (counted 0 0 0 load) noTally))))
 
 -- Two tallies added.
 unfoldable pub sumOf : Tally → Tally → Tally

@@ -1,11 +1,12 @@
 use borrow.Author.Needs.{needs}
 use borrow.Author.Tests.{ne-eqb}
+use Rattle.cows.specs.Run.{counted}
 use Rattle.tally.specs.Counted.{countsOf}
 use Rattle.tally.proofs.counts.Statement.{statement}
 use Rattle.tally.proofs.counts.Tie as tie
 
 pub counts-spec : {M : Type 1} → statement M
-unfolding countsOf
+unfolding countsOf counted
 counts-spec =
     tie.close
     (tie.spec

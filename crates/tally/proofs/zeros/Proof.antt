@@ -1,8 +1,8 @@
 use mathlib.Core.Path.{refl}
-use Rattle.cows.specs.Run.{noTally}
+use Rattle.cows.specs.Run.{counted, noTally}
 use Rattle.tally.proofs.zeros.Statement.{statement}
 use Rattle.tally.proofs.zeros.Tie as tie
 
 pub zeros-spec : {M : Type 1} → statement M
-unfolding noTally
+unfolding counted noTally
 zeros-spec = tie.close (tie.spec (λ c. refl))
