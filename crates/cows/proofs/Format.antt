@@ -8,12 +8,13 @@ use native.Mathlib.Omega.{arith}
 use native.Mathlib.Nat.{zero-add}
 use native.Mathlib.Numerals.{add-one}
 use lib.ListN.{length, getD, length-append}
-use lib.Seq.{take-at, drop-at}
 use Rattle.cows.specs.Terms.{nil, Term, leaf, under, both, size}
-use Rattle.cows.specs.Format.{Bytes, Node, basic, prefix, join, nodes, record16, bytes, encode, node, pieces, records, children, push, build, decode}
+use Rattle.cows.specs.Format.{Bytes, Node, basic, prefix, join, nodes, record16, bytes, encode, node, records, children, push, build, decode}
 use Rattle.cows.specs.Tables.{misshapen}
 use Rattle.cows.specs.Within.{Right}
+use Rattle.cows.specs.Basics.{All}
 use Rattle.cows.proofs.Records.{RightNode, node-record16, length-record16, record-bytes}
+use Rattle.cows.proofs.Cut.{all-append, append-all, length-write, cut-write, map-read, write-bytes}
 
 -- Terms and their records: read back, whatever follows.
 pub length-nodes : (t : Term) → length (nodes t) ≡ size t
@@ -80,57 +81,35 @@ nodes-decode ns e = let (l, f) = build-flat ns 1 0 e in one-flat (build ns) l �
 
 -- the records of a term are right exactly if the term is
 abbrev pub RightNodes : List Node → Type 0
-RightNodes [] = Unit {0}
-RightNodes (n ∷ ns) = RightNode n × RightNodes ns
-
-right-append : (t : Term) (ns : List Node) → Right t → RightNodes ns → RightNodes (nodes t ++ ns)
-unfolding nodes
-right-append (leaf x) ns h k = (h, k)
-right-append (under u t) ns h k = (h .0, right-append t ns (h .1) k)
-right-append (both j s t) ns h k = (tt, rw (append-assoc (nodes s) (nodes t) ns) (right-append s (nodes t ++ ns) (h .0) (right-append t ns (h .1) k)))
-
-append-right : (t : Term) (ns : List Node) → RightNodes (nodes t ++ ns) → Right t × RightNodes ns
-unfolding nodes
-append-right (leaf x) ns h = h
-append-right (under u t) ns h = let (k, l) = append-right t ns (h .1) in ((h .0, k), l)
-append-right (both j s t) ns h =
-    let (k, l) = append-right s (nodes t ++ ns) (rw (append-assoc (nodes s) (nodes t) ns) at (h .1)) in
-    let (m, r) = append-right t ns l in
-    ((k, m), r)
+RightNodes ns = All RightNode ns
 
 pub right-nodes : (t : Term) → Right t → RightNodes (nodes t)
-right-nodes t h = rw append-nil at (right-append t [] h tt)
+unfolding nodes
+right-nodes (leaf x) h = (h, tt)
+right-nodes (under u t) h = (h .0, right-nodes t (h .1))
+right-nodes (both j s t) h = (tt, all-append RightNode (nodes s) (nodes t) (right-nodes s (h .0)) (right-nodes t (h .1)))
 
 pub nodes-right : (t : Term) → RightNodes (nodes t) → Right t
-nodes-right t h = append-right t [] (rw append-nil h) .0
+unfolding nodes
+nodes-right (leaf x) h = h .0
+nodes-right (under u t) h = (h .0, nodes-right t (h .1))
+nodes-right (both j s t) h = let (k, l) = append-all RightNode (nodes s) (nodes t) (h .1) in (nodes-right s k, nodes-right t l)
 
 -- Records and their bytes: cut into 16s, the bytes are the records' again.
 pub length-bytes : (ns : List Node) → length (bytes ns) ≡ 16 * length ns
-unfolding bytes
-length-bytes [] = refl
-length-bytes (n ∷ ns) = length-append (record16 n) (bytes ns) ∙ omega (arith, length-record16 n, length-bytes ns)
-
-pieces-bytes : (ns : List Node) → pieces 16 (length ns) (bytes ns) ≡ map record16 ns
-unfolding pieces bytes
-pieces-bytes [] = refl
-pieces-bytes (n ∷ ns) = rw (take-at (record16 n) (bytes ns) 16 (length-record16 n), drop-at (record16 n) (bytes ns) 16 (length-record16 n), pieces-bytes ns)
+length-bytes = length-write 16 record16 length-record16
 
 pub records-bytes : (ns : List Node) → records (bytes ns) ≡ map record16 ns
-unfolding records
-records-bytes ns = ap (λ m. pieces 16 m (bytes ns)) (rw length-bytes (omega arith)) ∙ pieces-bytes ns
+records-bytes = cut-write 16 record16 length-record16 (omega arith)
 
 pub length-encode : (t : Term) → length (encode t) ≡ 16 * size t
 unfolding encode
 length-encode t = length-bytes (nodes t) ∙ ap (λ m. 16 * m) (length-nodes t)
 
-map-node : (ns : List Node) → RightNodes ns → map node (map record16 ns) ≡ ns
-map-node [] h = refl
-map-node (n ∷ ns) h = rw (node-record16 n (h .0), map-node ns (h .1))
-
 -- the records of a right term, read off its bytes
 pub nodes-encode : (t : Term) → Right t → map node (records (encode t)) ≡ nodes t
 unfolding encode
-nodes-encode t h = ap (map node) (records-bytes (nodes t)) ∙ map-node (nodes t) (right-nodes t h)
+nodes-encode t h = ap (map node) (records-bytes (nodes t)) ∙ map-read 16 record16 length-record16 RightNode node node-record16 (nodes t) (right-nodes t h)
 
 pub decode-encode : (t : Term) → Right t → decode (map node (records (encode t))) ≡ t
 decode-encode t h = ap decode (nodes-encode t h) ∙ decode-nodes t
@@ -139,15 +118,6 @@ pub encode-injective : (s t : Term) → Right s → Right t → encode s ≡ enc
 encode-injective s t h k e = sym (decode-encode s h) ∙ (ap (λ b. decode (map node (records b))) e ∙ decode-encode t k)
 
 -- made of bytes
-bytes-append : (xs ys : List ℕ) → Bytes xs → Bytes ys → Bytes (xs ++ ys)
-bytes-append [] ys h k = k
-bytes-append (x ∷ xs) ys h k = (h .0, bytes-append xs ys (h .1) k)
-
-nodes-bytes : (ns : List Node) → RightNodes ns → Bytes (bytes ns)
-unfolding bytes
-nodes-bytes [] h = tt
-nodes-bytes (n ∷ ns) h = bytes-append (record16 n) (bytes ns) (record-bytes n (h .0)) (nodes-bytes ns (h .1))
-
 pub encode-bytes : (t : Term) → Right t → Bytes (encode t)
 unfolding encode
-encode-bytes t h = nodes-bytes (nodes t) (right-nodes t h)
+encode-bytes t h = write-bytes 16 record16 length-record16 RightNode record-bytes (nodes t) (right-nodes t h)

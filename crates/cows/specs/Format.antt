@@ -1,16 +1,16 @@
 -- The format: 16 bytes a record, little-endian, in prefix order (01, Records).
 use mathlib.Core.Bool.{Bool, true, not, _&&_}
-use mathlib.Core.List.{List, [], _∷_, _++_}
-use Prim.Native.Nat.{ℕ, zero, suc, _+_, _*_, _/_, _%_, _<_}
+use mathlib.Core.List.{List, [], _∷_, _++_, flatMap}
+use Prim.Native.Nat.{ℕ, suc, _+_, _*_, _/_, _%_, _<_}
 use lib.Dec.{leb, ltb, eqb}
 use lib.ListN.{length, getD, take, drop}
-use Rattle.cows.specs.Basics.{every, member}
+use Rattle.cows.specs.Basics.{every, All, member}
+use Rattle.cows.specs.Cut.{cut}
 use Rattle.cows.specs.Terms.{Basic, nil, kill, invoke, Prefix, receive, wait, protection, delimitation, replication, Join, choice, parallel, Term, leaf, under, both, value, variable, label, datum, atom}
 
 -- every number of the list is a byte
 abbrev pub Bytes : List ℕ → Type 0
-Bytes [] = Unit {0}
-Bytes (x ∷ b) = (x < 256) × Bytes b
+Bytes b = All (λ n. n < 256) b
 
 -- a 16-bit number as two bytes; the byte at i, and the 16-bit number there
 unfoldable pub bytes2 : ℕ → List ℕ
@@ -63,9 +63,9 @@ record16 (prefix replication) = layout 9 0 0 [] 0
 unfoldable pub kindOf : Term → ℕ
 kindOf s = byte (record16 (root s)) 0
 
-unfoldable pub bytes : List Node → List ℕ
-bytes [] = []
-bytes (n ∷ ns) = record16 n ++ bytes ns
+-- a table: its records one behind the other
+abbrev pub bytes : List Node → List ℕ
+bytes ns = flatMap record16 ns
 
 unfoldable pub encode : Term → List ℕ
 encode t = bytes (nodes t)
@@ -150,13 +150,9 @@ node b =
     ∷ [])
     (byte b 0) (basic nil)
 
--- bytes cut into n pieces of w; a table cut into its records
-unfoldable pub pieces : ℕ → ℕ → List ℕ → List (List ℕ)
-pieces w zero b = []
-pieces w (suc n) b = take w b ∷ pieces w n (drop w b)
-
-unfoldable pub records : List ℕ → List (List ℕ)
-records b = pieces 16 (length b / 16) b
+-- a table cut into its records
+abbrev pub records : List ℕ → List (List ℕ)
+records b = cut 16 b
 
 unfoldable pub children : Node → ℕ
 children (basic x) = 0
@@ -181,5 +177,5 @@ decode ns = getD (build ns) 0 (leaf nil)
 
 -- (for computed checks) to unfold this is to unfold every definition of this file
 unfoldable pub open-format : Unit {0}
-unfolding bytes2 byte word nodes root layout record16 kindOf bytes encode unused interval distinct data4 pattern4 empty4 kinds rowOf slots rightRow rightRecord tuple node pieces records children push build decode
+unfolding bytes2 byte word nodes root layout record16 kindOf encode unused interval distinct data4 pattern4 empty4 kinds rowOf slots rightRow rightRecord tuple node children push build decode
 open-format = tt

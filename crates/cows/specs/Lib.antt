@@ -1,4 +1,5 @@
 pub mod Basics
+pub mod Cut
 pub mod Terms
 pub mod Places
 pub mod Format

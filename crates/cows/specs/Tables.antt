@@ -5,7 +5,8 @@ use mathlib.Core.Option.{Option, none, some}
 use Prim.Native.Nat.{ℕ, zero, suc, _+_, _%_}
 use lib.Dec.{ltb, eqb}
 use lib.ListN.{length}
-use Rattle.cows.specs.Basics.{any, member, holds, found, placeIf, orElse, firstFrom, Result, accept, _>>=_, _>>_, forbid}
+use Rattle.cows.specs.Basics.{any, member, holds, found, placeIf, firstFrom, Result, accept, _>>=_, _>>_, forbid}
+use Rattle.cows.specs.Cut.{firstFailing}
 use Rattle.cows.specs.Terms.{Term, value, bindable, guard, uses, binders, delimits, delimitsAt, prefixed}
 use Rattle.cows.specs.Places.{Way, Spot, sub, first, enclosed, frameChooses}
 use Rattle.cows.specs.Format.{Node, rightRecord, node, records, children, decode}
@@ -15,9 +16,8 @@ unfoldable pub wrongLength : List ℕ → Bool
 wrongLength b = eqb (length b) 0 || ltb 32768 (length b) || not (eqb (length b % 16) 0)
 
 -- 2: the first record, of all that there are, that is not right.
-unfoldable pub firstWrong : ℕ → List (List ℕ) → Option ℕ
-firstWrong n [] = none
-firstWrong n (b ∷ bs) = orElse (placeIf (not (rightRecord b)) n) (firstWrong (suc n) bs)
+abbrev pub firstWrong : ℕ → List (List ℕ) → Option ℕ
+firstWrong n bs = firstFailing rightRecord n bs
 
 -- 3: the term ends before the records do (the first one over), or the records first (their number). `wanted` terms are still to come at record n.
 unfoldable pub misshapen : ℕ → ℕ → List Node → Option ℕ
@@ -74,5 +74,5 @@ judge b = do
 
 -- (for computed checks) to unfold this is to unfold every definition of this file
 unfoldable pub open-tables : Unit {0}
-unfolding wrongLength firstWrong misshapen tooDeep inChoice noGuard unbound delimitedBefore again escaped clash judgeTerm judge
+unfolding wrongLength misshapen tooDeep inChoice noGuard unbound delimitedBefore again escaped clash judgeTerm judge
 open-tables = tt

@@ -6,10 +6,10 @@ use mathlib.Core.List.{List, [], _∷_, map}
 use Prim.Native.Nat.{ℕ, zero, suc, _+_, _<_, _≤_}
 use native.Mathlib.Omega.{arith}
 use lib.ListN.{length, getD, length-map}
-use Rattle.cows.specs.Basics.{placeIf, orElse, Result, refuse, accept, _>>=_, _>>_, forbid}
+use Rattle.cows.specs.Basics.{placeIf, Result, refuse, accept, _>>=_, _>>_, forbid}
 use Rattle.cows.specs.Terms.{Term, size}
 use Rattle.cows.specs.Places.{Spot, spot, first}
-use Rattle.cows.specs.Format.{Bytes, Node, byte, word, node, records, children, decode}
+use Rattle.cows.specs.Format.{Bytes, Node, byte, word, rightRecord, node, records, children, decode}
 use Rattle.cows.specs.Tables.{firstWrong, misshapen, judgeTerm, judge}
 use Rattle.cows.specs.Step.{stepTerm, judgeStep, reply, stepReply}
 use Rattle.cows.specs.Run.{movesOf, Played, played, judgePlay, playedReply, play}
@@ -19,7 +19,7 @@ use Rattle.cows.proofs.Tables.{right-length, records-hold, judge-within}
 use Rattle.cows.proofs.Step.{Refuses, Below, below-step}
 use Rattle.cows.proofs.Preserving.{step-within}
 use Rattle.cows.proofs.Theorems.{tables-within}
-use Rattle.records.proofs.Pieces.{length-records}
+use Rattle.cows.proofs.Cut.{length-cut, failing-below}
 use Rattle.tables.specs.Verdict.{checkReply}
 use Rattle.stepper.specs.Replies.{replyOf}
 use Rattle.player.specs.Loads.{loadReply}
@@ -40,19 +40,12 @@ unfolding placeIf
 small-placeIf true p h = h
 small-placeIf false p h = tt
 
-small-orElse : (p q : Option ℕ) → Small p → Small q → Small (orElse p q)
-unfolding orElse
-small-orElse none q h k = k
-small-orElse (some p) q h k = h
-
 small-first : (f : ℕ → Spot → Bool) (t : Term) → size t ≤ 2048 → Small (first f t)
 unfolding first
 small-first f t h = small-if (first f t) (λ p e. omega (arith, firstFrom-below (λ n. f n (spot t n)) 0 (size t) p e))
 
 small-wrong : (n : ℕ) (bs : List (List ℕ)) → n + length bs ≤ 2048 → Small (firstWrong n bs)
-unfolding firstWrong
-small-wrong n [] h = tt
-small-wrong n (b ∷ bs) h = small-orElse _ _ (small-placeIf _ n (omega arith)) (small-wrong (suc n) bs (omega arith))
+small-wrong n bs h = small-if (firstWrong n bs) (λ p e. omega (arith, failing-below rightRecord n bs p e))
 
 small-misshapen : (w n : ℕ) (ns : List Node) → n + length ns ≤ 2048 → Small (misshapen w n ns)
 unfolding misshapen
@@ -87,7 +80,7 @@ unfolding judge
 near-judge b k =
     near-forbid 1 _ _ (small-placeIf _ 0 (omega arith))
     (λ e₁. let (l, z) = right-length b (placeIf-none _ 0 e₁) in
-    let r = length-records b in
+    let r = length-cut 16 b in
     near-forbid 2 _ _ (small-wrong 0 (records b) (omega (arith, l, r)))
     (λ e₂. near-forbid 3 _ _ (small-misshapen 1 0 (map node (records b)) (omega (arith, l, r, length-map (records b) node)))
     (λ e₃. let t = decode (map node (records b)) in

@@ -5,21 +5,22 @@ use mathlib.Core.List.{List, [], _∷_, map}
 use Prim.Native.Nat.{ℕ, zero, suc, _+_, _*_, _-_, _/_, _≤_, _<_}
 use native.Mathlib.Omega.{arith}
 use native.Mathlib.Nat.{zero-add, suc-add, sub-self}
-use mathlib.Core.Bool.{true, not}
+use mathlib.Core.Bool.{true}
 use lib.Dec.{ltb, eqb}
 use lib.ListN.{length, getD, set, drop, length-set, length-drop, length-map, drop-of-length-le}
 use lib.Seq.{drop-drop, drop-nil, getD-set-same, getD-set-other}
-use borrow.Author.Tests.{ltb-true, eqb-true, eqb-false, not-false}
-use Rattle.cows.specs.Basics.{placeIf}
+use borrow.Author.Tests.{ltb-true, eqb-true, eqb-false}
+use Rattle.cows.specs.Basics.{All}
 use Rattle.cows.specs.Terms.{nil, kill, invoke, receive, wait, protection, delimitation, replication, choice, parallel, Term, leaf, under, both, size}
 use Rattle.cows.specs.Places.{sub}
 use Rattle.cows.specs.Format.{byte, rightRecord, kinds, Node, basic, prefix, join, root, layout, record16, kindOf, encode, node, children, records}
 use Rattle.cows.specs.Tables.{firstWrong, misshapen}
+use Rattle.cows.proofs.Cut.{length-cut, cut-cons, failing-none}
 use Rattle.cows.proofs.Format.{length-encode}
-use Rattle.cows.proofs.Basics.{bool-case, and-true, orElse-none, placeIf-none}
+use Rattle.cows.proofs.Basics.{bool-case, and-true}
 use Rattle.records.specs.Ends.{childrenOf, after, kindsOf, endAt, pickEnd, EndsFrom}
 use Rattle.records.specs.Rewrites.{Stands}
-use Rattle.records.proofs.Pieces.{first-piece, length-records, records-cons}
+use Rattle.records.proofs.Pieces.{first-piece}
 use Rattle.records.proofs.Stands.{long, stands-kind, stands-fits, stands-under, stands-left, stands-right, part-stands}
 
 -- Terms read from place n on in records rs, with `over` past the last of them.
@@ -76,12 +77,12 @@ drop-map f (suc m) (x ∷ l) = drop-map f m l
 
 length-kinds : (s : List ℕ) → length (kindsOf s) ≡ length s / 16
 unfolding kindsOf
-length-kinds s = length-map (records s) (λ b. byte b 0) ∙ length-records s
+length-kinds s = length-map (records s) (λ b. byte b 0) ∙ length-cut 16 s
 
 kinds-cons : (s : List ℕ) (m : ℕ) → m < length s / 16 → drop m (kindsOf s) ≡ getD s (16 * m) 0 ∷ drop (suc m) (kindsOf s)
 unfolding kindsOf
 kinds-cons s m h =
-    rw (drop-map (λ b. byte b 0) m (records s), drop-map (λ b. byte b 0) (suc m) (records s), records-cons s m h, first-piece s (16 * m))
+    rw (drop-map (λ b. byte b 0) m (records s), drop-map (λ b. byte b 0) (suc m) (records s), cut-cons 16 s m h, first-piece s (16 * m))
 
 -- The end at a place, from those behind it.
 module _ (s : List ℕ) where
@@ -196,18 +197,15 @@ right-children b h = go (byte b 0) refl (ltb-true (byte b 0) 10 (and-true (ltb (
     go (suc (suc (suc (suc (suc (suc (suc (suc (suc zero))))))))) e l = rw e
     go (suc (suc (suc (suc (suc (suc (suc (suc (suc (suc k)))))))))) e l = absurd (omega arith)
 
-map-children : (n : ℕ) (rs : List (List ℕ)) → firstWrong n rs ≡ none → map childrenOf (map (λ b. byte b 0) rs) ≡ map children (map node rs)
-unfolding firstWrong
-map-children n [] h = refl
-map-children n (b ∷ rs) h =
-    let (p, q) = orElse-none (placeIf (not (rightRecord b)) n) _ h in
-    rw (right-children b (not-false _ (placeIf-none _ n p)), map-children (suc n) rs q)
+map-children : (rs : List (List ℕ)) → All (λ b. rightRecord b ≡ true) rs → map childrenOf (map (λ b. byte b 0) rs) ≡ map children (map node rs)
+map-children [] h = refl
+map-children (b ∷ rs) h = rw (right-children b (h .0), map-children rs (h .1))
 
 pub end-shape : (s : List ℕ) → firstWrong 0 (records s) ≡ none → Shape (endAt s 0) (length s / 16) (misshapen 1 0 (map node (records s)))
 unfolding endAt kindsOf
 end-shape s h =
-    let l : 0 + length (map node (records s)) ≡ length s / 16 = rw (zero-add, length-map) (length-records s) in
-    rw (after-same childrenOf children (suc (length s / 16)) 1 0 _ (map node (records s)) (map-children 0 (records s) h), ← l)
+    let l : 0 + length (map node (records s)) ≡ length s / 16 = rw (zero-add, length-map) (length-cut 16 s) in
+    rw (after-same childrenOf children (suc (length s / 16)) 1 0 _ (map node (records s)) (map-children (records s) (failing-none rightRecord 0 (records s) h)), ← l)
     (shape-after (suc (0 + length (map node (records s)))) 1 0 (map node (records s)) (omega arith))
 
 -- A term that stands at a place ends its size behind it.

@@ -3,7 +3,7 @@ use mathlib.Core.Path.{_≡_, refl, sym, ap, ap₂, subst, _∙_}
 use mathlib.Core.Logic.{_≢_}
 use mathlib.Core.Bool.{Bool, true, false, cond, _||_}
 use mathlib.Core.Option.{Option, none, some}
-use mathlib.Core.List.{List, [], _∷_, _++_}
+use mathlib.Core.List.{List, [], _∷_, _++_, flatMap}
 use Prim.Native.Nat.{ℕ, zero, suc, _+_, _-_, _*_, _≤_, _<_}
 use native.Mathlib.Omega.{arith}
 use lib.Dec.{eqb}
@@ -23,12 +23,13 @@ use Rattle.cows.proofs.Atoms.{In, in-refl, in-fill, counts-atoms, few-binders, 
 use Rattle.cows.proofs.Renaming.{image-other}
 use Rattle.cows.proofs.Format.{encode-injective}
 use Rattle.cows.proofs.Fields.{layout-first}
+use Rattle.cows.proofs.Cut.{flatMap-append}
 use Rattle.records.specs.Holds.{Holds}
 use Rattle.records.proofs.Pieces.{word-piece, first-piece}
 use Rattle.records.proofs.Stands.{holds-stands}
 use Rattle.renaming.specs.Mapped.{across}
 use Rattle.renaming.specs.Names.{leastOf, Taking, Wanting, Wanted, Renamed, Part, Body, Marked, Chosen}
-use Rattle.renaming.proofs.Across.{over, over-append, across-next, across-end, across-term}
+use Rattle.renaming.proofs.Across.{across-next, across-end, across-term}
 use Rattle.renaming.proofs.Occurring.{atoms-right, not-zero}
 use Rattle.renaming.proofs.Fresh.{new-apart, names-after}
 
@@ -134,11 +135,11 @@ record-binds (prefix replication) = other-binds 9 0 0 0 [] refl
 record-binds (join choice) = other-binds 5 0 0 0 [] refl
 record-binds (join parallel) = other-binds 6 0 0 0 [] refl
 
-over-binders : (t : Term) → over binds (nodes t) ≡ binders t
-unfolding over binds nodes binders
-over-binders (leaf x) = refl
-over-binders (under u t) = ap (λ l. optional (delimits u) ++ l) (over-binders t)
-over-binders (both j s t) = over-append binds (nodes s) (nodes t) ∙ ap₂ _++_ (over-binders s) (over-binders t)
+nodes-binders : (t : Term) → flatMap binds (nodes t) ≡ binders t
+unfolding flatMap binds nodes binders
+nodes-binders (leaf x) = refl
+nodes-binders (under u t) = ap (λ l. optional (delimits u) ++ l) (nodes-binders t)
+nodes-binders (both j s t) = flatMap-append binds (nodes s) (nodes t) ∙ ap₂ _++_ (nodes-binders s) (nodes-binders t)
 
 -- the record at place i delimits an atom, or not
 module _ (s : List ℕ) (i to : ℕ) (l : i < to) where
@@ -214,7 +215,7 @@ module _ (s : List ℕ) (from to : ℕ) where
       let p = m .body .part in
       let t = m .body .term in
       let z : to - from ≡ size (sub t from) = omega (arith, p .end) in
-      let e : across delimited s from (to - from) ≡ binders (sub t from) = rw z (across-term delimited binds record-binds s from (sub t from) (holds-stands s t from (p .holds) (p .inside)) ∙ over-binders (sub t from)) in
+      let e : across delimited s from (to - from) ≡ binders (sub t from) = rw z (across-term delimited binds record-binds s from (sub t from) (holds-stands s t from (p .holds) (p .inside)) ∙ nodes-binders (sub t from)) in
       record { body = m .body; choosing = rw e (part-choosing s from to t p names (m .room) (m .marked)) }
 
   module _ (names next : List ℕ) (i : ℕ) (g : Going s from to names next i) where

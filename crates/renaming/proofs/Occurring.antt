@@ -2,7 +2,7 @@
 use mathlib.Core.Path.{_≡_, refl, sym, ap, ap₂, _∙_}
 use mathlib.Core.Logic.{_≢_}
 use mathlib.Core.Bool.{Bool, true, false, cond, _||_}
-use mathlib.Core.List.{List, [], _∷_, _++_, append-nil}
+use mathlib.Core.List.{List, [], _∷_, _++_, append-nil, flatMap}
 use Prim.Native.Nat.{ℕ, _+_, _-_, _*_, _/_, _≤_, _<_}
 use native.Mathlib.Omega.{arith}
 use lib.Dec.{eqb}
@@ -17,12 +17,13 @@ use Rattle.cows.proofs.Basics.{never, bool-case, and-true, true-and, or-left, o
 use Rattle.cows.proofs.Records.{small-atom}
 use Rattle.cows.proofs.Format.{length-encode}
 use Rattle.cows.proofs.Fields.{layout-first, layout-second, layout-slot}
+use Rattle.cows.proofs.Cut.{flatMap-append}
 use Rattle.records.specs.Holds.{Holds}
 use Rattle.records.specs.Rewrites.{Stands}
 use Rattle.records.proofs.Pieces.{piece, word-piece}
 use Rattle.renaming.specs.Mapped.{across}
 use Rattle.renaming.specs.Names.{fields, entered}
-use Rattle.renaming.proofs.Across.{over, over-append, across-next, across-end, across-term}
+use Rattle.renaming.proofs.Across.{across-next, across-end, across-term}
 
 -- two numbers are the same, or not
 pub eq-case : (P : Type 0) (a b : ℕ) → (a ≡ b → P) → (a ≢ b → P) → P
@@ -115,15 +116,15 @@ module _ (a : ℕ) (z : eqb a 0 ≡ false) where
   member-join parallel = member-none 6 0
 
   -- and of a term's records
-  member-fields : (t : Term) → Right t → member a (over (λ n. fields (record16 n)) (nodes t)) ≡ member a (atoms t)
-  unfolding over nodes atoms
+  member-fields : (t : Term) → Right t → member a (flatMap (λ n. fields (record16 n)) (nodes t)) ≡ member a (atoms t)
+  unfolding flatMap nodes atoms
   member-fields (leaf x) h = rw (append-nil (fields (record16 (basic x)))) (member-basic x h)
   member-fields (under u t) h =
-      member-append a (fields (record16 (prefix u))) (over (λ n. fields (record16 n)) (nodes t))
+      member-append a (fields (record16 (prefix u))) (flatMap (λ n. fields (record16 n)) (nodes t))
       ∙ (ap₂ _||_ (member-prefix u (h .0)) (member-fields t (h .1)) ∙ sym (member-append a (usesPrefix u ++ optional (delimits u)) (atoms t)))
   member-fields (both j s t) h =
-      member-append a (fields (record16 (join j))) (over (λ n. fields (record16 n)) (nodes s ++ nodes t))
-      ∙ rw (member-join j, over-append (λ n. fields (record16 n)) (nodes s) (nodes t), member-append a (over (λ n. fields (record16 n)) (nodes s)) (over (λ n. fields (record16 n)) (nodes t)), member-fields s (h .0), member-fields t (h .1))
+      member-append a (fields (record16 (join j))) (flatMap (λ n. fields (record16 n)) (nodes s ++ nodes t))
+      ∙ rw (member-join j, flatMap-append (λ n. fields (record16 n)) (nodes s) (nodes t), member-append a (flatMap (λ n. fields (record16 n)) (nodes s)) (flatMap (λ n. fields (record16 n)) (nodes t)), member-fields s (h .0), member-fields t (h .1))
       (sym (member-append a (atoms s) (atoms t)))
 
 -- The atoms of a right term are atoms.
@@ -183,7 +184,7 @@ marked-term s t h l room none a =
     (entered-at l all small a ∙ eq-case (cond (member a all) a (getD l a 0) ≡ cond (member a (atoms t)) a (getD l a 0)) a 0 zero (λ z. rw (same a z)))
   where
     all : List ℕ
-    all = over (λ r. fields (record16 r)) (nodes t)
+    all = flatMap (λ r. fields (record16 r)) (nodes t)
 
     n : length s / 16 ≡ size t
     n = omega (arith, ap length (h .is) ∙ length-encode t)
