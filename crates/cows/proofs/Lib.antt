@@ -1,4 +1,5 @@
 pub mod Basics
+pub mod Rows
 pub mod Places
 pub mod Sets
 pub mod Renaming

@@ -1,5 +1,7 @@
+pub mod Limits
 pub mod Basics
 pub mod Terms
+pub mod Kinds
 pub mod Places
 pub mod Format
 pub mod Tables

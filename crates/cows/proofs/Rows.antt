@@ -1,0 +1,80 @@
+-- Laws of specs/Kinds: the byte that tells a record's kind, the children that its place in a term gives it, and what keeps the kind. A law on every kind is
+-- proved row by row (kind-cases).
+use mathlib.Core.Path.{_≡_, refl}
+use Prim.Native.Nat.{ℕ, zero, suc}
+use Rattle.cows.specs.Terms.{Basic, nil, kill, invoke, Prefix, receive, wait, protection, delimitation, replication, Join, choice, parallel}
+use Rattle.cows.specs.Kinds.{Node, basic, prefix, join, kind, childrenOf, open-kinds}
+use Rattle.cows.specs.Format.{byte, layout, record16}
+use Rattle.cows.specs.Moves.{mapBasic, mapPrefix, mapNode, lower}
+
+-- the unknown kinds, from 10 on
+abbrev pub unknown : ℕ → ℕ
+unknown n = suc (suc (suc (suc (suc (suc (suc (suc (suc (suc n)))))))))
+
+-- What holds of the ten kinds and of every unknown one holds of all.
+pub kind-cases : (P : ℕ → Type 0) → P 0 × P 1 × P 2 × P 3 × P 4 × P 5 × P 6 × P 7 × P 8 × P 9 → ((n : ℕ) → P (unknown n)) → (k : ℕ) → P k
+kind-cases P rows rest zero = rows .0
+kind-cases P rows rest (suc zero) = rows .1
+kind-cases P rows rest (suc (suc zero)) = rows .2
+kind-cases P rows rest (suc (suc (suc zero))) = rows .3
+kind-cases P rows rest (suc (suc (suc (suc zero)))) = rows .4
+kind-cases P rows rest (suc (suc (suc (suc (suc zero))))) = rows .5
+kind-cases P rows rest (suc (suc (suc (suc (suc (suc zero)))))) = rows .6
+kind-cases P rows rest (suc (suc (suc (suc (suc (suc (suc zero))))))) = rows .7
+kind-cases P rows rest (suc (suc (suc (suc (suc (suc (suc (suc zero)))))))) = rows .8
+kind-cases P rows rest (suc (suc (suc (suc (suc (suc (suc (suc (suc zero))))))))) = rows .9
+kind-cases P rows rest (suc (suc (suc (suc (suc (suc (suc (suc (suc (suc n)))))))))) = rest n
+
+-- a record's first byte
+pub record-kind : (n : Node) → byte (record16 n) 0 ≡ kind n
+unfolding byte record16 layout
+record-kind (basic nil) = refl
+record-kind (basic (kill k)) = refl
+record-kind (basic (invoke p o ws)) = refl
+record-kind (prefix (receive p o ws)) = refl
+record-kind (prefix (wait n)) = refl
+record-kind (prefix protection) = refl
+record-kind (prefix (delimitation d)) = refl
+record-kind (prefix replication) = refl
+record-kind (join j) = refl
+
+-- the row's children are those that a term has
+pub children-leaf : (x : Basic) → childrenOf (kind (basic x)) ≡ 0
+unfolding open-kinds
+children-leaf nil = refl
+children-leaf (kill k) = refl
+children-leaf (invoke p o ws) = refl
+
+pub children-under : (u : Prefix) → childrenOf (kind (prefix u)) ≡ 1
+unfolding open-kinds
+children-under (receive p o ws) = refl
+children-under (wait n) = refl
+children-under protection = refl
+children-under (delimitation d) = refl
+children-under replication = refl
+
+pub children-both : (j : Join) → childrenOf (kind (join j)) ≡ 2
+unfolding open-kinds
+children-both choice = refl
+children-both parallel = refl
+
+-- atoms that change and intervals that fall leave the kind
+pub mapped-kind : (f : ℕ → ℕ) (n : Node) → kind (mapNode f n) ≡ kind n
+unfolding mapNode mapBasic mapPrefix
+mapped-kind f (basic nil) = refl
+mapped-kind f (basic (kill k)) = refl
+mapped-kind f (basic (invoke p o ws)) = refl
+mapped-kind f (prefix (receive p o ws)) = refl
+mapped-kind f (prefix (wait n)) = refl
+mapped-kind f (prefix protection) = refl
+mapped-kind f (prefix (delimitation d)) = refl
+mapped-kind f (prefix replication) = refl
+mapped-kind f (join j) = refl
+
+pub lowered-kind : (d : ℕ) (u : Prefix) → kind (prefix (lower d u)) ≡ kind (prefix u)
+unfolding lower
+lowered-kind d (receive p o ws) = refl
+lowered-kind d (wait n) = refl
+lowered-kind d protection = refl
+lowered-kind d (delimitation a) = refl
+lowered-kind d replication = refl
