@@ -11,7 +11,7 @@ use lib.ListN.{length}
 use borrow.Author.Tests.{ltb-true, ltb-false, eq-eqb, eqb-true, ne-eqb, eqb-false, not-false}
 use Rattle.cows.specs.Basics.{any, every, holds, accept, _>>=_, _>>_, forbid, placeIf}
 use Rattle.cows.specs.Terms.{nil, kill, Prefix, receive, wait, protection, delimitation, replication, choice, parallel, Term, leaf, under, both, Ends, variable, label, size, kills, invokes, prefixed, receives, waits, delimits, delimitsAtom, replicates, below, uses, usesBasic, binders, atoms, invokeOf, receiveOf}
-use Rattle.cows.specs.Kinds.{guard, open-kinds}
+use Rattle.cows.specs.Kinds.{open-kinds}
 use Rattle.cows.specs.Places.{Frame, inside, leftOf, rightOf, plug, Way, fill, wayTo, sub, first, enclosed, frameChooses, passed}
 use Rattle.cows.specs.Within.{Right, one, counts, Within}
 use Rattle.cows.specs.Active.{live, wanted, onKind}

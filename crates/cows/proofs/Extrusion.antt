@@ -7,7 +7,7 @@ use Prim.Native.Nat.{ℕ}
 use Rattle.cows.specs.Terms.{receive, wait, protection, delimitation, replication, choice, parallel, Term, under, prefixed, delimits, below}
 use Rattle.cows.specs.Active.{onKind}
 use Rattle.cows.specs.Kinds.{guard, open-kinds}
-use Rattle.cows.specs.Places.{Frame, inside, leftOf, rightOf, plug, Way, fill, wayTo, sub, frameChooses, passed}
+use Rattle.cows.specs.Places.{Frame, inside, leftOf, rightOf, plug, Way, fill, wayTo, sub, passed}
 use Rattle.cows.specs.Moves.{fitting, exchange, afterExtrude}
 use Rattle.cows.proofs.Basics.{never}
 use Rattle.cows.proofs.Places.{fill-spot}

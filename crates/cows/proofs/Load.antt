@@ -6,7 +6,7 @@ use mathlib.Core.List.{[], _∷_}
 use Prim.Native.Nat.{ℕ, suc, _+_, _≤_}
 use native.Mathlib.Omega.{arith}
 use Rattle.cows.specs.Basics.{holds}
-use Rattle.cows.specs.Terms.{Basic, nil, kill, invoke, Prefix, receive, wait, protection, delimitation, replication, choice, parallel, Term, leaf, under, both, Ends, kills, invokes, prefixed, receives, waits, delimits, delimitsAtom, below, invokeOf}
+use Rattle.cows.specs.Terms.{nil, Prefix, receive, wait, protection, delimitation, replication, choice, parallel, Term, leaf, under, both, Ends, kills, invokes, prefixed, receives, waits, delimits, delimitsAtom, below, invokeOf}
 use Rattle.cows.specs.Kinds.{basic, prefix, join, kind, liveKind, weightOf, open-kinds}
 use Rattle.cows.specs.Places.{Frame, inside, leftOf, rightOf, plug, Way, fill, wayTo, sub, frameDelimits, frameChooses}
 use Rattle.cows.specs.Moves.{halt, haltUnder, haltBoth, haltBeside, haltInside, afterKill, Substitution, silence, aroundChoice, continue, mapNode, mapAtoms, image, instantiate, bind, elapse, copy, afterUnfold, exchange, afterExtrude}

@@ -14,7 +14,7 @@ use lib.Seq.{take-at, take-all, getD-take, getD-drop, length-take-le, set-split,
 use borrow.Author.Tests.{eqb-true, eqb-false, eq-eqb, lt-ltb, le-ltb}
 use Rattle.cows.specs.Basics.{any, member, holds, accept}
 use Rattle.cows.specs.Terms.{Basic, nil, Prefix, delimitation, choice, Term, leaf, under, both, Ends, size, prefixed, receives, invokes, delimitsAtom, delimits, below}
-use Rattle.cows.specs.Kinds.{guard, Node, basic, prefix, join, root, kind, liveKind, open-kinds}
+use Rattle.cows.specs.Kinds.{Node, basic, prefix, join, root, kind, liveKind, open-kinds}
 use Rattle.cows.specs.Places.{Frame, leftOf, rightOf, inside, plug, Way, fill, Spot, descend, spot, wayTo, sub, frameChooses}
 use Rattle.cows.specs.Format.{nodes}
 use Rattle.cows.specs.Active.{live}

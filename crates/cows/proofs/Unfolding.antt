@@ -9,7 +9,7 @@ use lib.ListN.{length}
 use borrow.Author.Tests.{eqb-true, eq-eqb}
 use Rattle.cows.specs.Basics.{member, holds}
 use Rattle.cows.specs.Terms.{replication, parallel, Term, under, both, value, variable, datum, size, delimits, delimitsAtom, below, binders, atoms}
-use Rattle.cows.specs.Kinds.{guard, open-kinds}
+use Rattle.cows.specs.Kinds.{open-kinds}
 use Rattle.cows.specs.Places.{inside, plug, Way, fill, wayTo, sub, enclosed}
 use Rattle.cows.specs.Within.{Right, Guarded, Scoped, counts, restricted, nowhere, Formed}
 use Rattle.cows.specs.Moves.{mapAtoms, image, renaming, copy, afterUnfold}

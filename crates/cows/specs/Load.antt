@@ -3,7 +3,7 @@ use mathlib.Core.Bool.{cond}
 use mathlib.Core.List.{[], _∷_}
 use mathlib.Core.Option.{Option, none, some}
 use Prim.Native.Nat.{ℕ, _+_, _-_}
-use Rattle.cows.specs.Terms.{Basic, nil, kill, invoke, Prefix, receive, wait, protection, delimitation, replication, Join, choice, parallel, Term, leaf, under, both, kills, below}
+use Rattle.cows.specs.Terms.{Prefix, receive, wait, protection, delimitation, replication, Join, choice, parallel, Term, leaf, under, both, kills, below}
 use Rattle.cows.specs.Kinds.{basic, prefix, join, kind, weightOf}
 use Rattle.cows.specs.Places.{Frame, inside, leftOf, rightOf, Way, wayTo, sub, frameDelimits, frameChooses}
 use Rattle.cows.specs.Moves.{Move, Kill, Communicate, Timeout, Elapse, Unfold, Extrude, silence}

@@ -1,6 +1,6 @@
 -- The six moves (01, Moves): what each asks, with refusals 11 to 18 in their order, and the successor.
 -- Names of the calculus stand for the paper's: kill (stop fires), communicate (meeting), timeout (expiry), elapse (time), unfold (unfolding), extrude (floating).
-use mathlib.Core.Bool.{Bool, true, false, cond, not, _&&_, _||_}
+use mathlib.Core.Bool.{Bool, false, cond, not, _&&_, _||_}
 use mathlib.Core.List.{List, [], _∷_, map}
 use Prim.Native.Nat.{ℕ, zero, suc, _-_}
 use lib.Dec.{ltb, eqb}
