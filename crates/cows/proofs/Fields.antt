@@ -137,25 +137,6 @@ kind-parallel = kind-is 6
 pub kind-delimitation : (s : Term) → kindOf s ≡ 8 → (d : ℕ) × (s ≡ under (delimitation d) (below s))
 kind-delimitation = kind-is 8
 
--- by the number of children
-pub kind-leaf : (s : Term) → kindOf s < 3 → (x : Basic) × (s ≡ leaf x)
-kind-leaf s h = go (kindOf s) h (of-kind s)
-  where
-    go : (k : ℕ) → k < 3 → OfKind k s → (x : Basic) × (s ≡ leaf x)
-    go zero l e = (nil, e)
-    go (suc zero) l (k, e) = (kill k, e)
-    go (suc (suc zero)) l (p, o, ws, e) = (invoke p o ws, e)
-    go (suc (suc (suc k))) l e = absurd (omega arith)
-
-pub kind-prefix : (s : Term) → 3 ≤ kindOf s → kindOf s ≢ 5 → kindOf s ≢ 6 → (u : Prefix) × (s ≡ under u (below s))
-unfolding kindOf root below
-kind-prefix (leaf nil) h c p = absurd (omega arith)
-kind-prefix (leaf (kill k)) h c p = absurd (omega arith)
-kind-prefix (leaf (invoke q o ws)) h c p = absurd (omega arith)
-kind-prefix (under u t) h c p = (u, refl)
-kind-prefix (both choice l r) h c p = absurd (c refl)
-kind-prefix (both parallel l r) h c p = absurd (p refl)
-
 -- The fields: the count is byte 1; the 16-bit numbers stand at 2, 4, 6 + 2 * i and 14.
 pub layout-first : (k a c i : ℕ) (ws : List ℕ) → word (layout k a c ws i) 2 ≡ a
 unfolding word byte layout bytes2

@@ -1,9 +1,10 @@
 -- Laws of specs/Kinds: the byte that tells a record's kind, the children that its place in a term gives it, and what keeps the kind. A law on every kind is
 -- proved row by row (kind-cases).
 use mathlib.Core.Path.{_≡_, refl}
-use Prim.Native.Nat.{ℕ, zero, suc}
-use Rattle.cows.specs.Terms.{Basic, nil, kill, invoke, Prefix, receive, wait, protection, delimitation, replication, Join, choice, parallel}
-use Rattle.cows.specs.Kinds.{Node, basic, prefix, join, kind, childrenOf, open-kinds}
+use Prim.Native.Nat.{ℕ, zero, suc, _≤_}
+use native.Mathlib.Omega.{arith}
+use Rattle.cows.specs.Terms.{Basic, nil, kill, invoke, Prefix, receive, wait, protection, delimitation, replication, Join, choice, parallel, Term, leaf, under, both, below}
+use Rattle.cows.specs.Kinds.{Node, basic, prefix, join, root, kind, kindOf, childrenOf, open-kinds}
 use Rattle.cows.specs.Format.{byte, layout, record16}
 use Rattle.cows.specs.Moves.{mapBasic, mapPrefix, mapNode, lower}
 
@@ -57,6 +58,35 @@ pub children-both : (j : Join) → childrenOf (kind (join j)) ≡ 2
 unfolding open-kinds
 children-both choice = refl
 children-both parallel = refl
+
+abbrev pub arity : Term → ℕ
+arity (leaf x) = 0
+arity (under u t) = 1
+arity (both j s t) = 2
+
+pub children-of : (t : Term) → childrenOf (kindOf t) ≡ arity t
+unfolding kindOf root
+children-of (leaf x) = children-leaf x
+children-of (under u t) = children-under u
+children-of (both j s t) = children-both j
+
+pub children-few : (k : ℕ) → childrenOf k ≤ 2
+unfolding open-kinds
+children-few =
+    kind-cases (λ k. childrenOf k ≤ 2)
+    (omega arith, omega arith, omega arith, omega arith, omega arith, omega arith, omega arith, omega arith, omega arith, omega arith) (λ n. omega arith)
+
+-- a term by the number of its children
+pub no-child : (t : Term) → childrenOf (kindOf t) ≡ 0 → (x : Basic) × (t ≡ leaf x)
+no-child (leaf x) e = (x, refl)
+no-child (under u t) e = absurd (omega (arith, children-of (under u t)))
+no-child (both j s t) e = absurd (omega (arith, children-of (both j s t)))
+
+pub one-child : (t : Term) → childrenOf (kindOf t) ≡ 1 → (u : Prefix) × (t ≡ under u (below t))
+unfolding below
+one-child (leaf x) e = absurd (omega (arith, children-of (leaf x)))
+one-child (under u t) e = (u, refl)
+one-child (both j s t) e = absurd (omega (arith, children-of (both j s t)))
 
 -- atoms that change and intervals that fall leave the kind
 pub mapped-kind : (f : ℕ → ℕ) (n : Node) → kind (mapNode f n) ≡ kind n

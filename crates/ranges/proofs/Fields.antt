@@ -11,7 +11,8 @@ use lib.ListN.{length, getD, drop}
 use borrow.Author.Tests.{leb-true, ltb-true, le-leb, lt-ltb, eq-eqb}
 use Rattle.cows.specs.Basics.{every}
 use Rattle.cows.specs.Terms.{label, datum, atom}
-use Rattle.cows.specs.Format.{byte, word, unused, interval, distinct, empty4, row, kinds, rowOf, rightRow, rightRecord, records}
+use Rattle.cows.specs.Kinds.{unused, interval, distinct, empty4, kinds, rowOf}
+use Rattle.cows.specs.Format.{byte, word, rightRow, rightRecord, records}
 use Rattle.cows.specs.Tables.{firstWrong}
 use Rattle.cows.proofs.Basics.{and-true, true-and}
 use Rattle.rows.specs.Rows.{slotRight, tupleRow}

@@ -7,10 +7,10 @@ use native.Mathlib.Omega.{arith}
 use lib.ListN.{length, take, drop, getD}
 use borrow.Author.Tests.{lt-ltb, le-ltb}
 use Rattle.cows.specs.Terms.{Basic, Term, leaf, under, both, size}
-use Rattle.cows.specs.Format.{root, encode}
+use Rattle.cows.specs.Kinds.{root, childrenOf}
+use Rattle.cows.specs.Format.{encode}
 use Rattle.cows.specs.Moves.{halt}
 use Rattle.cows.proofs.Format.{length-encode}
-use Rattle.records.specs.Ends.{childrenOf}
 use Rattle.records.specs.Rewrites.{put, Stands, Ready, Rewrites, gone}
 use Rattle.records.proofs.Stands.{under-kind, both-kind, encode-under, encode-both, stands-kind, stands-under, stands-left, stands-right}
 use Rattle.records.proofs.Rewrites.{Step}

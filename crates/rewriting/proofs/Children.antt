@@ -8,10 +8,10 @@ use lib.Dec.{eqb}
 use lib.ListN.{length, take, drop, getD}
 use borrow.Author.Tests.{eqb-true, eqb-false}
 use Rattle.cows.specs.Terms.{Term}
-use Rattle.cows.specs.Format.{root, record16}
+use Rattle.cows.specs.Kinds.{root, childrenOf}
+use Rattle.cows.specs.Format.{record16}
 use Rattle.cows.proofs.Basics.{bool-case}
 use Rattle.cows.proofs.Records.{length-record16}
-use Rattle.records.specs.Ends.{childrenOf}
 use Rattle.records.specs.Rewrites.{put, Stands, Ready, Rewrites}
 use Rattle.records.proofs.Laws.{children-two}
 use Rattle.records.proofs.Rewrites.{record-copied, Step, first-asks, second-asks, one-gives, both-gives}

@@ -9,8 +9,8 @@ use lib.Dec.{ltb, eqb}
 use lib.ListN.{length, take, drop, getD}
 use borrow.Author.Tests.{le-ltb, ltb-false, eqb-true, eqb-false}
 use Rattle.cows.specs.Terms.{receive, wait, protection, delimitation, replication, Term, leaf, under, both, below}
-use Rattle.cows.specs.Active.{passesLive}
-use Rattle.cows.specs.Format.{bytes2, byte, word, prefix, root, layout, record16, kindOf}
+use Rattle.cows.specs.Kinds.{prefix, root, kindOf}
+use Rattle.cows.specs.Format.{bytes2, byte, word, layout, record16}
 use Rattle.cows.specs.Moves.{lower, elapse}
 use Rattle.cows.proofs.Basics.{or-false, or-second}
 use Rattle.cows.proofs.Fields.{kind-wait, interval-wait}

@@ -6,7 +6,8 @@ use Prim.Native.Nat.{ℕ, _≤_, _<_}
 use native.Mathlib.Omega.{arith}
 use lib.ListN.{getD}
 use Rattle.cows.specs.Terms.{receive, wait, protection, delimitation, replication, choice, parallel, Term, leaf, under, both}
-use Rattle.cows.specs.Format.{byte, root, layout, record16, kindOf}
+use Rattle.cows.specs.Kinds.{root, kindOf}
+use Rattle.cows.specs.Format.{byte, layout, record16}
 use Rattle.cows.specs.Moves.{haltUnder, haltBoth, halt}
 use Rattle.cows.proofs.Fields.{kind-is}
 use Rattle.records.specs.Rewrites.{Stands, same, gone}

@@ -7,10 +7,11 @@ use native.Mathlib.Omega.{arith}
 use lib.Dec.{ltb}
 use borrow.Author.Tests.{eq-eqb}
 use Rattle.cows.specs.Basics.{any, every, holds}
-use Rattle.cows.specs.Terms.{Basic, nil, kill, invoke, Prefix, receive, wait, protection, delimitation, replication, Join, choice, parallel, Term, leaf, under, both, size, delimits, delimitsAtom, guard}
+use Rattle.cows.specs.Terms.{Basic, nil, kill, invoke, Prefix, receive, wait, protection, delimitation, replication, Join, choice, parallel, Term, leaf, under, both, size, delimits, delimitsAtom}
+use Rattle.cows.specs.Kinds.{guard}
 use Rattle.cows.specs.Places.{Frame, inside, leftOf, rightOf, plug, Way, fill, Spot, descend, spot, wayTo, sub, frameDelimits, enclosed}
 use Rattle.cows.specs.Within.{Guarded, one, counts, Within}
-use Rattle.cows.specs.Active.{passesLive, onPrefix, live}
+use Rattle.cows.specs.Active.{live}
 use Rattle.cows.specs.Moves.{haltBeside, haltInside, afterKill}
 use Rattle.cows.specs.Allows.{Stands, Live}
 use Rattle.cows.proofs.Basics.{never, cond-case, cond-case₂, and-true, or-false, not-so, every-append}

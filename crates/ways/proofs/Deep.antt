@@ -6,9 +6,9 @@ use Prim.Native.Nat.{ℕ, _+_, _*_, _≤_, _<_, max}
 use native.Mathlib.Omega.{arith}
 use lib.ListN.{getD}
 use Rattle.cows.specs.Terms.{Join, Term, leaf, under, both, size, depth}
-use Rattle.cows.specs.Format.{root, kindOf, children}
+use Rattle.cows.specs.Kinds.{root, kindOf, childrenOf}
 use Rattle.cows.proofs.Format.{length-encode}
-use Rattle.records.specs.Ends.{childrenOf, EndsFrom}
+use Rattle.records.specs.Ends.{EndsFrom}
 use Rattle.records.specs.Rewrites.{Stands}
 use Rattle.records.proofs.Stands.{long, stands-kind, stands-fits, stands-under, stands-left, stands-right}
 use Rattle.records.proofs.Shapes.{node-children, end-stands}

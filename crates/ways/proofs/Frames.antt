@@ -11,16 +11,17 @@ use lib.ListN.{length, getD, take, drop, drop-of-length-le}
 use borrow.Author.Tests.{eq-eqb, ne-eqb, eqb-true}
 use Rattle.cows.specs.Basics.{every, holds}
 use Rattle.cows.specs.Terms.{nil, kill, invoke, receive, wait, protection, delimitation, replication, choice, parallel, Term, leaf, under, both, size, prefixed, delimits, delimitsAtom, delimitsAt}
+use Rattle.cows.specs.Kinds.{root, kindOf, liveKind}
 use Rattle.cows.specs.Places.{Frame, inside, leftOf, rightOf, plug, fill, wayTo, sub, frameDelimits, frameChooses}
-use Rattle.cows.specs.Format.{byte, word, root, layout, record16, kindOf}
-use Rattle.cows.specs.Active.{passesLive, onPrefix, live}
+use Rattle.cows.specs.Format.{byte, word, layout, record16}
+use Rattle.cows.specs.Active.{live}
 use Rattle.cows.proofs.Basics.{same-test}
 use Rattle.cows.proofs.Fields.{first-delimitation}
 use Rattle.cows.specs.Records.{ahead}
 use Rattle.cows.proofs.Ways.{length-ahead}
 use Rattle.records.specs.Holds.{Holds}
 use Rattle.records.proofs.Stands.{holds-kind, holds-word}
-use Rattle.ways.specs.Ways.{OnWay, Walks, liveKind, startOf, scopeOf}
+use Rattle.ways.specs.Ways.{OnWay, Walks, startOf, scopeOf}
 use Rattle.ways.proofs.Climbing.{split-at}
 
 frame-live : (f : Frame) (s : Term) → onPrefix passesLive f ≡ liveKind (kindOf (plug f s))

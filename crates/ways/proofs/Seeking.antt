@@ -11,8 +11,8 @@ use lib.Dec.{ltb, eqb}
 use lib.ListN.{length, getD}
 use Rattle.cows.specs.Basics.{every, holds, firstFrom, placeIf, orElse}
 use Rattle.cows.specs.Terms.{nil, kill, invoke, Prefix, receive, wait, protection, delimitation, replication, choice, parallel, Term, leaf, under, both, size, prefixed, waits}
-use Rattle.cows.specs.Format.{byte, word, root, layout, record16, kindOf}
-use Rattle.cows.specs.Active.{passesLive}
+use Rattle.cows.specs.Kinds.{root, kindOf, liveKind}
+use Rattle.cows.specs.Format.{byte, word, layout, record16}
 use Rattle.cows.specs.Places.{Spot, spot, wayTo, sub, first}
 use Rattle.cows.proofs.Basics.{clash, from-next, from-end, from-skip}
 use Rattle.cows.proofs.Fields.{interval-wait}
@@ -21,7 +21,6 @@ use Rattle.cows.proofs.Scans.{active, passing, active-over, active-next, shut-b
 use Rattle.records.specs.Holds.{Holds}
 use Rattle.records.proofs.Stands.{holds-kind, holds-word}
 use Rattle.ways.specs.Known.{Table}
-use Rattle.ways.specs.Ways.{liveKind}
 use Rattle.ways.proofs.Tables.{table-size, table-ended, table-inside}
 
 module _ (P : Prefix → Bool) (test : Term → Bool) where

@@ -7,8 +7,8 @@ use Prim.Native.Nat.{ℕ, _/_, _≤_, _<_}
 use lib.Dec.{leb, ltb, eqb}
 use lib.ListN.{length, getD, take, drop}
 use Rattle.cows.specs.Terms.{Term, size, depth}
+use Rattle.cows.specs.Kinds.{kindOf}
 use Rattle.cows.specs.Places.{Frame, plug, Way, fill, wayTo, sub, frameDelimits, frameChooses}
-use Rattle.cows.specs.Format.{kindOf}
 use Rattle.cows.specs.Active.{live}
 use Rattle.cows.specs.Records as places
 use Rattle.cows.specs.Records.{ahead}
