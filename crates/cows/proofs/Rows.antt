@@ -1,12 +1,16 @@
 -- Laws of specs/Kinds: the byte that tells a record's kind, the children that its place in a term gives it, and what keeps the kind. A law on every kind is
 -- proved row by row (kind-cases).
 use mathlib.Core.Path.{_≡_, refl}
-use Prim.Native.Nat.{ℕ, zero, suc, _≤_}
+use mathlib.Core.Bool.{Bool, false, _&&_}
+use Prim.Native.Nat.{ℕ, zero, suc, _≤_, _<_}
 use native.Mathlib.Omega.{arith}
+use lib.Dec.{leb}
+use borrow.Author.Tests.{lt-leb}
 use Rattle.cows.specs.Terms.{Basic, nil, kill, invoke, Prefix, receive, wait, protection, delimitation, replication, Join, choice, parallel, Term, leaf, under, both, below}
 use Rattle.cows.specs.Kinds.{Node, basic, prefix, join, root, kind, kindOf, childrenOf, open-kinds}
 use Rattle.cows.specs.Format.{byte, layout, record16}
 use Rattle.cows.specs.Moves.{mapBasic, mapPrefix, mapNode, lower}
+use Rattle.cows.proofs.Basics.{and-none}
 
 -- the unknown kinds, from 10 on
 abbrev pub unknown : ℕ → ℕ
@@ -25,6 +29,14 @@ kind-cases P rows rest (suc (suc (suc (suc (suc (suc (suc zero))))))) = rows .7
 kind-cases P rows rest (suc (suc (suc (suc (suc (suc (suc (suc zero)))))))) = rows .8
 kind-cases P rows rest (suc (suc (suc (suc (suc (suc (suc (suc (suc zero))))))))) = rows .9
 kind-cases P rows rest (suc (suc (suc (suc (suc (suc (suc (suc (suc (suc n)))))))))) = rest n
+
+-- A range of kinds, as code tests it, is a column of the table; no unknown kind is in either.
+module _ (low top : ℕ) (P : ℕ → Bool) where
+  abbrev In : ℕ → Type 0
+  In k = (leb low k && leb k top) ≡ P k
+
+  pub kind-range : top < 10 → In 0 × In 1 × In 2 × In 3 × In 4 × In 5 × In 6 × In 7 × In 8 × In 9 → ((n : ℕ) → P (unknown n) ≡ false) → (k : ℕ) → In k
+  kind-range h rows none = kind-cases In rows (λ n. rw (lt-leb (unknown n) top (omega arith), none n) (and-none (leb low (unknown n))))
 
 -- a record's first byte
 pub record-kind : (n : Node) → byte (record16 n) 0 ≡ kind n
