@@ -88,6 +88,14 @@ children-few =
     kind-cases (λ k. childrenOf k ≤ 2)
     (omega arith, omega arith, omega arith, omega arith, omega arith, omega arith, omega arith, omega arith, omega arith, omega arith) (λ n. omega arith)
 
+-- from 3 on every kind has a child
+pub children-some : (k : ℕ) → 3 ≤ k → 1 ≤ childrenOf k
+unfolding open-kinds
+children-some =
+    kind-cases (λ k. 3 ≤ k → 1 ≤ childrenOf k)
+    (λ h. omega arith, λ h. omega arith, λ h. omega arith, λ h. omega arith, λ h. omega arith, λ h. omega arith, λ h. omega arith, λ h. omega arith, λ h. omega arith, λ h. omega arith)
+    (λ n h. omega arith)
+
 -- a term by the number of its children
 pub no-child : (t : Term) → childrenOf (kindOf t) ≡ 0 → (x : Basic) × (t ≡ leaf x)
 no-child (leaf x) e = (x, refl)
