@@ -9,8 +9,9 @@ use lib.Dec.{ltb, eqb}
 use lib.ListN.{length, getD}
 use Rattle.cows.specs.Basics.{every, placeIf, refuse, accept, _>>=_, _>>_, forbid}
 use Rattle.cows.specs.Terms.{Term, leaf, under, Ends, size, prefixed, receives, invokes, below, receiveOf, invokeOf}
+use Rattle.cows.specs.Kinds.{root, kindOf}
 use Rattle.cows.specs.Places.{wayTo, sub, first}
-use Rattle.cows.specs.Format.{byte, root, layout, record16, kindOf}
+use Rattle.cows.specs.Format.{byte, layout, record16}
 use Rattle.cows.specs.Active.{live, wanted}
 use Rattle.cows.specs.Moves.{Substitution, Matching, binds, differs, closedEnds, fit, matched, inScope, heldBack, tighter, silence, continue, bind, communicateAt}
 use Rattle.cows.proofs.Fields.{kind-receive, kind-invoke}

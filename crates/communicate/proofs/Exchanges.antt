@@ -7,8 +7,9 @@ use native.Mathlib.Numerals.{add-one}
 use lib.ListN.{length, getD, take, drop, length-append, length-drop}
 use lib.Seq.{take-all}
 use Rattle.cows.specs.Terms.{Term, size, invokeOf, receiveOf}
+use Rattle.cows.specs.Kinds.{Node}
 use Rattle.cows.specs.Places.{wayTo, sub}
-use Rattle.cows.specs.Format.{word, Node, nodes, bytes, encode}
+use Rattle.cows.specs.Format.{word, nodes, bytes, encode}
 use Rattle.cows.specs.Moves.{silence, communicateAt}
 use Rattle.cows.proofs.Format.{length-nodes, length-encode}
 use Rattle.cows.proofs.Silence.{silence-size}

@@ -9,8 +9,9 @@ use lib.ListN.{length, take, drop}
 use borrow.Author.Tests.{eqb-true, eq-eqb, not-true}
 use Rattle.cows.specs.Basics.{any, member, accept}
 use Rattle.cows.specs.Terms.{choice, parallel, Term, under, Ends, variable, size, invokes, prefixed, receives, below, receiveOf}
+use Rattle.cows.specs.Kinds.{Node, distinct}
 use Rattle.cows.specs.Places.{inside, leftOf, rightOf, Way, wayTo, sub, frameDelimits, enclosed, frameChooses}
-use Rattle.cows.specs.Format.{Node, nodes, bytes, encode, distinct}
+use Rattle.cows.specs.Format.{nodes, bytes, encode}
 use Rattle.cows.specs.Active.{wanted}
 use Rattle.cows.specs.Within.{Right, counts, Within}
 use Rattle.cows.specs.Allows.{Matches, empty, takes, equals, AllReach}

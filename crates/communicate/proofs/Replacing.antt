@@ -11,8 +11,9 @@ use lib.Seq.{length-take-le}
 use borrow.Author.Tests.{eq-eqb, ne-eqb}
 use Rattle.cows.specs.Basics.{any, holds}
 use Rattle.cows.specs.Terms.{nil, kill, invoke, receive, wait, protection, delimitation, replication, choice, parallel, Term, leaf, Ends, variable, size, delimits, delimitsAtom, below, invokeOf}
+use Rattle.cows.specs.Kinds.{Node, basic, prefix, join, root}
 use Rattle.cows.specs.Places.{sub}
-use Rattle.cows.specs.Format.{byte, word, Node, basic, prefix, join, nodes, root, layout, record16, bytes, encode}
+use Rattle.cows.specs.Format.{byte, word, nodes, layout, record16, bytes, encode}
 use Rattle.cows.specs.Within.{Right, Within}
 use Rattle.cows.specs.Allows.{Matches}
 use Rattle.cows.specs.Moves.{Substitution, mapBasic, silence, image}

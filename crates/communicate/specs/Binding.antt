@@ -6,8 +6,9 @@ use Prim.Native.Nat.{ℕ, suc, _+_, _-_, _≤_, _<_}
 use lib.ListN.{length, take, drop}
 use Rattle.cows.specs.Basics.{every}
 use Rattle.cows.specs.Terms.{Term, leaf, under, Ends, size, depth, below, invokeOf, receiveOf}
+use Rattle.cows.specs.Kinds.{Node}
 use Rattle.cows.specs.Places.{wayTo, sub}
-use Rattle.cows.specs.Format.{Node, nodes, bytes, encode}
+use Rattle.cows.specs.Format.{nodes, bytes, encode}
 use Rattle.cows.specs.Active.{live}
 use Rattle.cows.specs.Moves.{Substitution, binds, fit, inScope, silence, continue, bind}
 use Rattle.cows.specs.Records.{boundNodes}

@@ -10,11 +10,12 @@ use lib.Dec.{ltb, eqb}
 use lib.ListN.{length}
 use borrow.Author.Tests.{ltb-true, ltb-false, eq-eqb, eqb-true, ne-eqb, eqb-false, not-false}
 use Rattle.cows.specs.Basics.{any, every, holds, accept, _>>=_, _>>_, forbid, placeIf}
-use Rattle.cows.specs.Terms.{nil, kill, Prefix, receive, wait, protection, delimitation, replication, choice, parallel, Term, leaf, under, both, Ends, variable, label, size, kills, invokes, prefixed, receives, waits, delimits, delimitsAtom, replicates, below, guard, uses, usesBasic, binders, atoms, invokeOf, receiveOf}
-use Rattle.cows.specs.Places.{Frame, inside, leftOf, rightOf, plug, Way, fill, wayTo, sub, first, enclosed, frameChooses}
+use Rattle.cows.specs.Terms.{nil, kill, Prefix, receive, wait, protection, delimitation, replication, choice, parallel, Term, leaf, under, both, Ends, variable, label, size, kills, invokes, prefixed, receives, waits, delimits, delimitsAtom, replicates, below, uses, usesBasic, binders, atoms, invokeOf, receiveOf}
+use Rattle.cows.specs.Kinds.{open-kinds}
+use Rattle.cows.specs.Places.{Frame, inside, leftOf, rightOf, plug, Way, fill, wayTo, sub, first, enclosed, frameChooses, passed}
 use Rattle.cows.specs.Within.{Right, one, counts, Within}
-use Rattle.cows.specs.Active.{passesLive, live, wanted}
-use Rattle.cows.specs.Moves.{Substitution, binds, Matching, differs, haltBeside, haltInside, afterKill, killAt, fit, matched, inScope, heldBack, tighter, silence, continue, bind, communicateAt, timeoutAt, shorter, elapseBy, renaming, copy, afterUnfold, unfoldAt, fitsPrefix, fitting, exchange, afterExtrude, extrudeAt, Move, Kill, Communicate, Timeout, Elapse, Unfold, Extrude, successor}
+use Rattle.cows.specs.Active.{live, wanted, onKind}
+use Rattle.cows.specs.Moves.{Substitution, binds, Matching, differs, haltBeside, haltInside, afterKill, killAt, fit, matched, inScope, heldBack, tighter, silence, continue, bind, communicateAt, timeoutAt, shorter, elapseBy, renaming, copy, afterUnfold, unfoldAt, fitting, exchange, afterExtrude, extrudeAt, Move, Kill, Communicate, Timeout, Elapse, Unfold, Extrude, successor}
 use Rattle.cows.specs.Allows.{Stands, Live, Meets, Renames, Ended, Choice, Exchanged, Replaced, Instantiated, Elapsed, Parent, onLeft, onRight, protected, delimited, Allows, by-kill, by-communicate, by-timeout, by-elapse, by-unfold, by-extrude}
 use Rattle.cows.proofs.Basics.{never, and-true, or-false, or-right, not-so, any-append, bind-accept, same-accept, forbid-accept, placeIf-none}
 use Rattle.cows.proofs.Renaming.{renaming-renames, renames-unique}
@@ -70,7 +71,7 @@ KillLeaves t a k s =
 pub kill-leaves : (t : Term) (a k : ℕ) → Within t → Live t a (leaf (kill k)) → KillLeaves t a k (afterKill k t a)
 kill-leaves t a k h l =
     let (v, w, c, n) = nearest k (wayTo t a) (kill-enclosed t a k h (l .at)) in
-    let d = halts-ended v (or-false (any frameChooses v) _ (rw (c, any-append) at (live-unchosen t a (leaf (kill k)) (h .formed .guarded) l (unfold guard in refl))) .0) in
+    let d = halts-ended v (or-false (any frameChooses v) _ (rw (c, any-append) at (live-unchosen t a (leaf (kill k)) (h .formed .guarded) l (unfold open-kinds in refl))) .0) in
     (v, map haltBeside v, w, c, n, d, kill-after t a k v _ w c n d)
 
 kill-allows : (t s : Term) (a : ℕ) → Within t → killAt t a ≡ accept s → Allows t (Kill a) s
@@ -140,7 +141,7 @@ module _ (t : Term) (a b : ℕ) (σ : Substitution) (h : Meets t a b σ) where
   met = exchanged-met t a b _ (h .body) _ (h .receiver) (h .sender)
 
   exchanges : Within t → (r : Term) × Exchanged t a b (h .body) r
-  exchanges w = parties-exchanged t a b _ (h .body) _ (h .receiver) (h .sender) (unfold passesLive in refl) (unfold guard in refl) (w .formed .guarded)
+  exchanges w = parties-exchanged t a b _ (h .body) _ (h .receiver) (h .sender) (unfold open-kinds in refl) (unfold open-kinds in refl) (w .formed .guarded)
 
   met-unique : {r : Term} → Within t → Exchanged t a b (h .body) r → Unique r
   unfolding prefixed delimits
@@ -248,7 +249,7 @@ allows-unfold t a s c σ w l r h =
 
 -- extrude
 fitting-parent : (w : Way) → fitting w ≡ true → (f : Frame) × (v : Way) × (w ≡ f ∷ v) × Parent f
-unfolding fitting fitsPrefix frameChooses
+unfolding fitting onKind passed open-kinds
 fitting-parent [] e = never e
 fitting-parent (inside (receive p o ws) ∷ w) e = never e
 fitting-parent (inside (wait n) ∷ w) e = never e
@@ -261,7 +262,7 @@ fitting-parent (rightOf choice s ∷ w) e = never e
 fitting-parent (rightOf parallel s ∷ w) e = (_, w, refl, onRight)
 
 parent-fitting : {f : Frame} (w : Way) → Parent f → fitting (f ∷ w) ≡ true
-unfolding fitting fitsPrefix frameChooses
+unfolding fitting onKind passed open-kinds
 parent-fitting w onLeft = refl
 parent-fitting w onRight = refl
 parent-fitting w protected = refl

@@ -8,7 +8,8 @@ use native.Mathlib.Omega.{arith}
 use lib.Dec.{eqb}
 use borrow.Author.Tests.{eqb-true, eqb-false, eq-eqb, not-true}
 use Rattle.cows.specs.Basics.{any, every, member, holds, found, accept, All}
-use Rattle.cows.specs.Terms.{nil, kill, invoke, Prefix, receive, wait, protection, delimitation, replication, choice, parallel, Term, leaf, under, both, Ends, value, variable, label, datum, size, invokes, prefixed, delimits, delimitsAtom, guard, usesBasic, usesPrefix, binders}
+use Rattle.cows.specs.Terms.{nil, kill, invoke, Prefix, receive, wait, protection, delimitation, replication, choice, parallel, Term, leaf, under, both, Ends, value, variable, label, datum, size, invokes, prefixed, delimits, delimitsAtom, usesBasic, usesPrefix, binders}
+use Rattle.cows.specs.Kinds.{guard, open-kinds}
 use Rattle.cows.specs.Places.{inside, leftOf, rightOf, Way, wayTo, first, frameDelimits, enclosed}
 use Rattle.cows.specs.Within.{Right, Guarded, one, counts, restricted, nowhere, Formed}
 use Rattle.cows.specs.Moves.{Substitution, Matching, binds, differs, extend, match, closedEnds, fit, matched, outside, inScope, image, instantiate, bind}
@@ -97,7 +98,7 @@ module _ (x v : ℕ) (vx : variable x ≡ true) (vv : value v ≡ true) where
 
   -- guards
   guard-instantiate : (t : Term) → guard t ≡ true → guard (instantiate x v t) ≡ true
-  unfolding guard instantiate delimitsAtom delimits holds
+  unfolding open-kinds instantiate delimitsAtom delimits holds
   guard-instantiate (leaf y) h = h
   guard-instantiate (under (receive p o ws) t) h = h
   guard-instantiate (under (wait n) t) h = h

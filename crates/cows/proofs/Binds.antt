@@ -9,7 +9,8 @@ use lib.ListN.{length}
 use borrow.Author.Tests.{eqb-true, eq-eqb}
 use Rattle.cows.specs.Basics.{any, holds, All}
 use Rattle.cows.specs.Terms.{Basic, nil, kill, invoke, Prefix, receive, wait, protection, delimitation, replication, Term, leaf, under, both, value, variable, label, size, depth, delimits, delimitsAtom, usesBasic, usesPrefix}
-use Rattle.cows.specs.Format.{Node, basic, prefix, join, nodes}
+use Rattle.cows.specs.Kinds.{Node, basic, prefix, join}
+use Rattle.cows.specs.Format.{nodes}
 use Rattle.cows.specs.Within.{nowhere, one, counts}
 use Rattle.cows.specs.Moves.{Substitution, mapBasic, mapPrefix, mapNode, mapAtoms, image, instantiate, bind}
 use Rattle.cows.specs.Records.{nodeDelimits, bindNode, boundNodes}

@@ -9,10 +9,11 @@ use lib.Dec.{ltb}
 use lib.ListN.{length, length-append}
 use borrow.Author.Tests.{eq-eqb}
 use Rattle.cows.specs.Basics.{any, every, holds}
-use Rattle.cows.specs.Terms.{Basic, nil, Prefix, receive, wait, protection, delimitation, replication, Join, choice, parallel, Term, leaf, under, both, size, delimits, delimitsAtom, below, guard}
-use Rattle.cows.specs.Places.{Frame, inside, leftOf, rightOf, plug, Way, fill, Spot, descend, spot, wayTo, sub, frameDelimits, enclosed, frameChooses}
-use Rattle.cows.specs.Format.{prefix, join, nodes}
-use Rattle.cows.specs.Active.{passesLive, onPrefix, live}
+use Rattle.cows.specs.Terms.{Basic, nil, Prefix, receive, wait, protection, delimitation, replication, Join, choice, parallel, Term, leaf, under, both, size, delimits, delimitsAtom, below}
+use Rattle.cows.specs.Kinds.{guard, prefix, join, kind, liveKind, open-kinds}
+use Rattle.cows.specs.Places.{Frame, inside, leftOf, rightOf, plug, Way, fill, Spot, descend, spot, wayTo, sub, frameDelimits, enclosed, frameChooses, passed}
+use Rattle.cows.specs.Format.{nodes}
+use Rattle.cows.specs.Active.{live, onKind}
 use Rattle.cows.specs.Within.{Guarded, counts}
 use Rattle.cows.specs.Moves.{haltBeside, haltInside, silence, aroundChoice, continue}
 use Rattle.cows.specs.Allows.{Live, Ended, at-kill, halts-right, halts-left, passes, Choices, no-choice, left-choice, right-choice, Whole, Choice, Exchanged, receive-left, receive-right}
@@ -87,7 +88,7 @@ guarded-inner [] s h = h
 guarded-inner (f ∷ w) s h = plug-inner f s (guarded-inner w (plug f s) h)
 
 unchosen : (w : Way) (s : Term) → guard s ≡ false → live w ≡ true → Guarded (fill w s) → any frameChooses w ≡ false
-unfolding live every onPrefix passesLive any frameChooses fill plug guard
+unfolding live every onKind passed any frameChooses fill plug open-kinds
 unchosen [] s g l h = refl
 unchosen (inside (receive p o ws) ∷ w) s g l h = never l
 unchosen (inside (wait n) ∷ w) s g l h = never l
@@ -298,10 +299,10 @@ module _ (near far : Term → Frame) (sides : Sides near far) (t : Term) (a b : 
 -- below a record that stops the live way nothing is live
 pub dormant : (w : Way) → live w ≡ false → (t : Term) (n : ℕ) → live (descend w t n .way) ≡ false
 unfolding live
-dormant w e t n = rw (descend-way [] w t n, every-append (onPrefix passesLive) (descend [] t n .way) w, e) (and-none (every (onPrefix passesLive) (descend [] t n .way)))
+dormant w e t n = rw (descend-way [] w t n, every-append (onKind liveKind) (descend [] t n .way) w, e) (and-none (every (onKind liveKind) (descend [] t n .way)))
 
-pub stopped : (u : Prefix) (w : Way) → passesLive u ≡ false → live (inside u ∷ w) ≡ false
-unfolding live every onPrefix
+pub stopped : (u : Prefix) (w : Way) → liveKind (kind (prefix u)) ≡ false → live (inside u ∷ w) ≡ false
+unfolding live every onKind passed
 stopped u w e = rw e
 
 -- the ways to a guard and to a live leaf part at a join
@@ -309,7 +310,7 @@ data Parting (p q : Way) : Type 0 where
   toLeft : (v u w : Way) (j : Join) (x y : Term) → p ≡ v ++ (leftOf j y ∷ w) → q ≡ u ++ (rightOf j x ∷ w) → Parting p q
   toRight : (v u w : Way) (j : Join) (x y : Term) → p ≡ v ++ (rightOf j y ∷ w) → q ≡ u ++ (leftOf j x ∷ w) → Parting p q
 
-module _ (g : Prefix) (r : Term) (x : Basic) (stops : passesLive g ≡ false) where
+module _ (g : Prefix) (r : Term) (x : Basic) (stops : liveKind (kind (prefix g)) ≡ false) where
   abbrev Apart : Spot → Spot → Type 0
   Apart p q = p .here ≡ under g r → q .here ≡ leaf x → live (q .way) ≡ true → Parting (p .way) (q .way)
 
@@ -319,7 +320,7 @@ module _ (g : Prefix) (r : Term) (x : Basic) (stops : passesLive g ≡ false) wh
   parting z (under h t) zero zero ha hb l = never (cc)
   parting z (under h t) zero (suc b) ha hb l =
       let e : h ≡ g = cc in
-      clash l (dormant (inside h ∷ z) (stopped h z (ap passesLive e ∙ stops)) t b)
+      clash l (dormant (inside h ∷ z) (stopped h z (ap (λ u. liveKind (kind (prefix u))) e ∙ stops)) t b)
   parting z (under h t) (suc a) zero ha hb l = never (cc)
   parting z (under h t) (suc a) (suc b) ha hb l = parting (inside h ∷ z) t a b ha hb l
   parting z (both j s t) zero b ha hb l = never (cc)
@@ -366,7 +367,7 @@ module _ (t : Term) (a b : ℕ) (g : Prefix) (r : Term) (i : Basic) (la : Live t
     encloses = λ d. exchange-encloses (rightOf parallel) (leftOf parallel) right-left t a b c v u w x y (under g r) i (la .at .placed) (la .at .stands) wa (lb .at .stands) wb h d r;
   }
 
-  module _ (stops : passesLive g ≡ false) (sends : guard (leaf i) ≡ false) (guarded : Guarded t) where
+  module _ (stops : liveKind (kind (prefix g)) ≡ false) (sends : guard (leaf i) ≡ false) (guarded : Guarded t) where
     free : any frameChooses (wayTo t b) ≡ false
     free = live-unchosen t b (leaf i) guarded lb sends
 

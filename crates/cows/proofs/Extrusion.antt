@@ -4,9 +4,11 @@ use mathlib.Core.Bool.{true, false}
 use mathlib.Core.Option.{some}
 use mathlib.Core.List.{[], _∷_}
 use Prim.Native.Nat.{ℕ}
-use Rattle.cows.specs.Terms.{receive, wait, protection, delimitation, replication, choice, parallel, Term, under, prefixed, delimits, below, guard}
-use Rattle.cows.specs.Places.{Frame, inside, leftOf, rightOf, plug, Way, fill, wayTo, sub, frameChooses}
-use Rattle.cows.specs.Moves.{fitsPrefix, fitting, exchange, afterExtrude}
+use Rattle.cows.specs.Terms.{receive, wait, protection, delimitation, replication, choice, parallel, Term, under, prefixed, delimits, below}
+use Rattle.cows.specs.Active.{onKind}
+use Rattle.cows.specs.Kinds.{guard, open-kinds}
+use Rattle.cows.specs.Places.{Frame, inside, leftOf, rightOf, plug, Way, fill, wayTo, sub, passed}
+use Rattle.cows.specs.Moves.{fitting, exchange, afterExtrude}
 use Rattle.cows.proofs.Basics.{never}
 use Rattle.cows.proofs.Places.{fill-spot}
 use Rattle.cows.proofs.Stands.{delimits-is, prefixed-is}
@@ -14,7 +16,7 @@ use Rattle.cows.proofs.Parts.{Part, whole, outward, fill-part}
 
 -- a fitting parent is no guard
 fitting-guard : (f : Frame) (w : Way) (s : Term) → fitting (f ∷ w) ≡ true → guard (plug f s) ≡ false
-unfolding fitting fitsPrefix frameChooses guard plug
+unfolding fitting onKind passed open-kinds plug
 fitting-guard (inside (receive p o ws)) w s h = never h
 fitting-guard (inside (wait n)) w s h = never h
 fitting-guard (inside protection) w s h = refl

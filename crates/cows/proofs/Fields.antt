@@ -1,21 +1,20 @@
 -- What the bytes of a term's table say at a place: the record there, its kind, and what the kind says of the term; the fields of each kind.
 use mathlib.Core.Path.{_≡_, refl, sym, ap, subst, _∙_}
-use mathlib.Core.Logic.{_≢_}
-use mathlib.Core.Bool.{_||_}
 use mathlib.Core.List.{List, [], _∷_, _++_, append-assoc, append-nil, flatMap}
-use Prim.Native.Nat.{ℕ, zero, suc, _+_, _*_, _≤_, _<_}
+use Prim.Native.Nat.{ℕ, zero, suc, _+_, _*_, _<_}
 use native.Mathlib.Omega.{arith}
 use native.Mathlib.Nat.{suc-add}
 use native.Mathlib.Numerals.{add-one}
-use lib.Dec.{eqb}
 use lib.ListN.{length, getD, take, drop}
 use lib.Seq.{take-at, drop-at, drop-drop, getD-take, getD-drop}
-use Rattle.cows.specs.Terms.{Basic, nil, kill, invoke, Prefix, receive, wait, protection, delimitation, replication, choice, parallel, Term, leaf, under, both, size, below, guard}
+use Rattle.cows.specs.Terms.{nil, kill, invoke, receive, wait, protection, delimitation, replication, choice, parallel, Term, leaf, under, both, size, below}
+use Rattle.cows.specs.Kinds.{Node, root, kindOf}
 use Rattle.cows.specs.Places.{Spot, spot, sub}
-use Rattle.cows.specs.Format.{bytes2, byte, word, Node, nodes, root, layout, record16, kindOf, bytes, encode}
+use Rattle.cows.specs.Format.{bytes2, byte, word, nodes, layout, record16, bytes, encode}
 use Rattle.cows.proofs.Places.{inherited-spot}
 use Rattle.cows.proofs.Records.{length-record16}
 use Rattle.cows.proofs.Format.{length-nodes}
+use Rattle.cows.proofs.Rows.{record-kind}
 use Rattle.cows.proofs.Cut.{flatMap-append, drop-write}
 
 -- The records of the part at a place stand in the records of the whole, from that place on.
@@ -73,8 +72,8 @@ unfolding word
 word-at t j i l h = let z : suc (16 * j + i) ≡ 16 * j + suc i = omega arith in rw (z, byte-at t j i l (omega arith), byte-at t j (suc i) l (omega arith))
 
 pub kind-at : (t : Term) (j : ℕ) → j < size t → getD (encode t) (16 * j) 0 ≡ kindOf (sub t j)
-unfolding byte kindOf
-kind-at t j l = ap (λ i. getD (encode t) i 0) (let z : 16 * j ≡ 16 * j + 0 = omega arith in z) ∙ byte-at t j 0 l (omega arith)
+unfolding kindOf byte
+kind-at t j l = ap (λ i. getD (encode t) i 0) (let z : 16 * j ≡ 16 * j + 0 = omega arith in z) ∙ (byte-at t j 0 l (omega arith) ∙ record-kind (root (sub t j)))
 
 -- What a term is, by its kind: the table of kinds once more.
 abbrev pub byKind : Term → List (Type 0)
@@ -95,7 +94,7 @@ abbrev pub OfKind : ℕ → Term → Type 0
 OfKind k s = getD (byKind s) k ⊥
 
 pub of-kind : (s : Term) → OfKind (kindOf s) s
-unfolding kindOf root record16 layout byte below
+unfolding kindOf root below
 of-kind (leaf nil) = refl
 of-kind (leaf (kill k)) = (k, refl)
 of-kind (leaf (invoke p o ws)) = (p, o, ws, refl)
@@ -130,38 +129,6 @@ kind-parallel = kind-is 6
 
 pub kind-delimitation : (s : Term) → kindOf s ≡ 8 → (d : ℕ) × (s ≡ under (delimitation d) (below s))
 kind-delimitation = kind-is 8
-
--- by the number of children
-pub kind-leaf : (s : Term) → kindOf s < 3 → (x : Basic) × (s ≡ leaf x)
-kind-leaf s h = go (kindOf s) h (of-kind s)
-  where
-    go : (k : ℕ) → k < 3 → OfKind k s → (x : Basic) × (s ≡ leaf x)
-    go zero l e = (nil, e)
-    go (suc zero) l (k, e) = (kill k, e)
-    go (suc (suc zero)) l (p, o, ws, e) = (invoke p o ws, e)
-    go (suc (suc (suc k))) l e = absurd (omega arith)
-
-pub kind-prefix : (s : Term) → 3 ≤ kindOf s → kindOf s ≢ 5 → kindOf s ≢ 6 → (u : Prefix) × (s ≡ under u (below s))
-unfolding kindOf root record16 layout byte below
-kind-prefix (leaf nil) h c p = absurd (omega arith)
-kind-prefix (leaf (kill k)) h c p = absurd (omega arith)
-kind-prefix (leaf (invoke q o ws)) h c p = absurd (omega arith)
-kind-prefix (under u t) h c p = (u, refl)
-kind-prefix (both choice l r) h c p = absurd (c refl)
-kind-prefix (both parallel l r) h c p = absurd (p refl)
-
-pub guard-kind : (s : Term) → guard s ≡ (eqb (kindOf s) 0 || eqb (kindOf s) 3 || eqb (kindOf s) 4 || eqb (kindOf s) 5)
-unfolding kindOf root record16 layout byte guard
-guard-kind (leaf nil) = refl
-guard-kind (leaf (kill k)) = refl
-guard-kind (leaf (invoke p o ws)) = refl
-guard-kind (under (receive p o ws) t) = refl
-guard-kind (under (wait n) t) = refl
-guard-kind (under protection t) = refl
-guard-kind (under (delimitation d) t) = refl
-guard-kind (under replication t) = refl
-guard-kind (both choice l r) = refl
-guard-kind (both parallel l r) = refl
 
 -- The fields: the count is byte 1; the 16-bit numbers stand at 2, 4, 6 + 2 * i and 14.
 pub layout-first : (k a c i : ℕ) (ws : List ℕ) → word (layout k a c ws i) 2 ≡ a

@@ -9,10 +9,12 @@ use native.Mathlib.Nat.{zero-add}
 use native.Mathlib.Numerals.{add-one}
 use lib.ListN.{length, getD, length-append}
 use Rattle.cows.specs.Terms.{nil, Term, leaf, under, both, size}
-use Rattle.cows.specs.Format.{Bytes, Node, basic, prefix, join, nodes, record16, bytes, encode, node, records, children, push, build, decode}
+use Rattle.cows.specs.Kinds.{Node, basic, prefix, join, kind, childrenOf}
+use Rattle.cows.specs.Format.{Bytes, nodes, record16, bytes, encode, node, records, push, build, decode}
 use Rattle.cows.specs.Tables.{misshapen}
 use Rattle.cows.specs.Within.{Right}
 use Rattle.cows.specs.Basics.{All}
+use Rattle.cows.proofs.Rows.{children-leaf, children-under, children-both}
 use Rattle.cows.proofs.Records.{RightNode, node-record16, length-record16, record-bytes}
 use Rattle.cows.proofs.Cut.{all-append, append-all, length-write, cut-write, map-read, write-bytes}
 
@@ -34,14 +36,14 @@ unfolding decode build
 decode-nodes t = rw (← append-nil (nodes t), build-nodes t []) refl
 
 pub shape-nodes : (t : Term) (w n : ℕ) (ns : List Node) → misshapen (suc w) n (nodes t ++ ns) ≡ misshapen w (n + size t) ns
-unfolding misshapen nodes size children
-shape-nodes (leaf x) w n ns = rw (zero-add, add-one)
+unfolding misshapen nodes size
+shape-nodes (leaf x) w n ns = rw (children-leaf x, zero-add, add-one)
 shape-nodes (under u t) w n ns =
-    ap (λ m. misshapen m (suc n) (nodes t ++ ns)) (omega arith)
+    ap (λ m. misshapen m (suc n) (nodes t ++ ns)) (omega (arith, children-under u))
     ∙ (shape-nodes t w (suc n) ns ∙ ap (λ m. misshapen w m ns) (omega arith))
 shape-nodes (both j s t) w n ns =
-    ap (λ l. misshapen (2 + w) (suc n) l) (append-assoc (nodes s) (nodes t) ns)
-    ∙ (ap (λ m. misshapen m (suc n) (nodes s ++ (nodes t ++ ns))) (omega arith)
+    ap (λ l. misshapen (childrenOf (kind (join j)) + w) (suc n) l) (append-assoc (nodes s) (nodes t) ns)
+    ∙ (ap (λ m. misshapen m (suc n) (nodes s ++ (nodes t ++ ns))) (omega (arith, children-both j))
     ∙ (shape-nodes s (suc w) (suc n) (nodes t ++ ns)
     ∙ (shape-nodes t w (suc n + size s) ns ∙ ap (λ m. misshapen w m ns) (omega arith))))
 
@@ -50,14 +52,14 @@ flat : List Term → List Node
 flat [] = []
 flat (t ∷ ts) = nodes t ++ flat ts
 
-push-flat : (r : Node) (ts : List Term) (w : ℕ) → length ts ≡ children r + w → (length (push r ts) ≡ suc w) × (flat (push r ts) ≡ r ∷ flat ts)
-unfolding push flat children nodes
-push-flat (basic x) ts w h = (omega arith, refl)
-push-flat (prefix u) [] w h = absurd (omega arith)
-push-flat (prefix u) (t ∷ ts) w h = (omega arith, refl)
-push-flat (join j) [] w h = absurd (omega arith)
-push-flat (join j) (s ∷ []) w h = absurd (omega arith)
-push-flat (join j) (s ∷ t ∷ ts) w h = (omega arith, ap (λ l. join j ∷ l) (append-assoc (nodes s) (nodes t) (flat ts)))
+push-flat : (r : Node) (ts : List Term) (w : ℕ) → length ts ≡ childrenOf (kind r) + w → (length (push r ts) ≡ suc w) × (flat (push r ts) ≡ r ∷ flat ts)
+unfolding push flat nodes
+push-flat (basic x) ts w h = (omega (arith, children-leaf x), refl)
+push-flat (prefix u) [] w h = absurd (omega (arith, children-under u))
+push-flat (prefix u) (t ∷ ts) w h = (omega (arith, children-under u), refl)
+push-flat (join j) [] w h = absurd (omega (arith, children-both j))
+push-flat (join j) (s ∷ []) w h = absurd (omega (arith, children-both j))
+push-flat (join j) (s ∷ t ∷ ts) w h = (omega (arith, children-both j), ap (λ l. join j ∷ l) (append-assoc (nodes s) (nodes t) (flat ts)))
 
 build-flat : (ns : List Node) (w n : ℕ) → misshapen w n ns ≡ none → (length (build ns) ≡ w) × (flat (build ns) ≡ ns)
 unfolding misshapen build flat
@@ -65,7 +67,7 @@ build-flat [] zero n e = (refl, refl)
 build-flat [] (suc w) n e = (cc, cc)
 build-flat (r ∷ rs) zero n e = (cc, cc)
 build-flat (r ∷ rs) (suc w) n e =
-    let (l, f) = build-flat rs (children r + w) (suc n) e in
+    let (l, f) = build-flat rs (childrenOf (kind r) + w) (suc n) e in
     let (l′, f′) = push-flat r (build rs) w l in
     (l′, f′ ∙ ap (λ q. r ∷ q) f)
 

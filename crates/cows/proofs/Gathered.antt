@@ -5,8 +5,9 @@ use Prim.Native.Nat.{ℕ, zero, suc, _+_, _-_, _≤_, _<_}
 use native.Mathlib.Omega.{arith}
 use native.Mathlib.Nat.{zero-add, suc-add, sub-zero}
 use Rattle.cows.specs.Terms.{Prefix, Join, Term, under, both, size}
+use Rattle.cows.specs.Kinds.{Node}
 use Rattle.cows.specs.Places.{inside, leftOf, rightOf, Way, Spot, descend}
-use Rattle.cows.specs.Format.{Node, nodes, decode}
+use Rattle.cows.specs.Format.{nodes, decode}
 use Rattle.cows.specs.Allows.{gathered, InOrder}
 use Rattle.cows.proofs.Places.{descend-first, descend-left, descend-right}
 use Rattle.cows.proofs.Format.{decode-nodes}

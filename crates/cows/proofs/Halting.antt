@@ -2,10 +2,11 @@
 use mathlib.Core.Path.{_≡_, refl, sym, subst, _∙_}
 use mathlib.Core.List.{List, [], _∷_, _++_}
 use Rattle.cows.specs.Terms.{nil, kill, invoke, receive, wait, protection, delimitation, replication, choice, parallel, Term, leaf, under, both, size}
-use Rattle.cows.specs.Places.{Frame, inside, leftOf, rightOf, Way, Spot, spot, wayTo, sub}
-use Rattle.cows.specs.Format.{Node, basic, prefix, join, nodes, root}
+use Rattle.cows.specs.Kinds.{Node, basic, prefix, join, root}
+use Rattle.cows.specs.Places.{Frame, inside, leftOf, rightOf, Way, Spot, spot, wayTo, sub, passed}
+use Rattle.cows.specs.Format.{nodes}
 use Rattle.cows.specs.Moves.{haltUnder, haltBoth, halt}
-use Rattle.cows.specs.Allows.{Through, through-parallel, through-delimitation, through-replication, Halts, halts-nil, halts-kill, halts-invoke, halts-choice, halts-receive, halts-wait, passed, Reached, at-root, goes-through, Spared, keeps, keeps-protection, keeps-inside, leaves-nil, leaves-nothing, Halted}
+use Rattle.cows.specs.Allows.{Through, through-parallel, through-delimitation, through-replication, Halts, halts-nil, halts-kill, halts-invoke, halts-choice, halts-receive, halts-wait, Reached, at-root, goes-through, Spared, keeps, keeps-protection, keeps-inside, leaves-nil, leaves-nothing, Halted}
 use Rattle.cows.proofs.Gathered.{in-order-unique, Over, over-leaf, over-under, over-both}
 
 -- Where the records at the end of a way stand: halting reaches them, or a protection that it reached shelters them, or they go with what became nil.

@@ -10,8 +10,8 @@ use lib.Dec.{eqb}
 use borrow.Author.Tests.{eqb-false, eq-eqb, ne-eqb, not-true}
 use Rattle.cows.specs.Basics.{any, member, holds, All}
 use Rattle.cows.specs.Terms.{delimitation, Term, leaf, under, both, variable, delimits, delimitsAtom}
+use Rattle.cows.specs.Kinds.{distinct}
 use Rattle.cows.specs.Places.{Frame, inside, leftOf, rightOf, plug, Way, fill, wayTo, enclosed}
-use Rattle.cows.specs.Format.{distinct}
 use Rattle.cows.specs.Within.{one, counts}
 use Rattle.cows.specs.Moves.{Substitution, mapAtoms, image, instantiate, bind}
 use Rattle.cows.specs.Allows.{Matches, empty, takes, equals, AllReach, Instantiated, all-bound, goes}

@@ -4,22 +4,22 @@ use mathlib.Core.Bool.{true}
 use mathlib.Core.Option.{Option, some}
 use mathlib.Core.List.{[], _∷_}
 use Prim.Native.Nat.{ℕ, suc, _+_, _≤_}
-use native.Mathlib.Nat.{add-comm}
 use native.Mathlib.Omega.{arith}
 use Rattle.cows.specs.Basics.{holds}
-use Rattle.cows.specs.Terms.{Basic, nil, kill, invoke, Prefix, receive, wait, protection, delimitation, replication, choice, parallel, Term, leaf, under, both, Ends, kills, invokes, prefixed, receives, waits, delimits, delimitsAtom, below, invokeOf}
+use Rattle.cows.specs.Terms.{nil, Prefix, receive, wait, protection, delimitation, replication, choice, parallel, Term, leaf, under, both, Ends, kills, invokes, prefixed, receives, waits, delimits, delimitsAtom, below, invokeOf}
+use Rattle.cows.specs.Kinds.{basic, prefix, join, kind, liveKind, weightOf, open-kinds}
 use Rattle.cows.specs.Places.{Frame, inside, leftOf, rightOf, plug, Way, fill, wayTo, sub, frameDelimits, frameChooses}
-use Rattle.cows.specs.Active.{passesLive}
-use Rattle.cows.specs.Moves.{halt, haltUnder, haltBoth, haltBeside, haltInside, afterKill, Substitution, silence, aroundChoice, continue, mapBasic, mapPrefix, mapAtoms, image, instantiate, bind, lower, elapse, copy, afterUnfold, exchange, afterExtrude}
-use Rattle.cows.specs.Load.{weightBasic, weight, load, shieldedUnder, shieldedBoth, shielded, endedBeside, ended, arm, dropped}
+use Rattle.cows.specs.Moves.{halt, haltUnder, haltBoth, haltBeside, haltInside, afterKill, Substitution, silence, aroundChoice, continue, mapNode, mapAtoms, image, instantiate, bind, elapse, copy, afterUnfold, exchange, afterExtrude}
+use Rattle.cows.specs.Load.{load, shieldedUnder, shieldedBoth, shielded, endedBeside, ended, arm, dropped}
 use Rattle.cows.proofs.Basics.{cond-case, cond-case₂}
+use Rattle.cows.proofs.Rows.{mapped-kind, lowered-kind}
 use Rattle.cows.proofs.Places.{fill-spot}
 use Rattle.cows.proofs.Stands.{kills-is, invokes-is, delimits-is, prefixed-is}
 use Rattle.cows.proofs.Silence.{silence-prefix}
 
 -- Halting: what it keeps is the load of the protections reached; halting twice is halting once.
 pub load-halt : (t : Term) → load (halt t) ≡ shielded t
-unfolding load halt haltUnder haltBoth weight weightBasic shielded shieldedUnder shieldedBoth
+unfolding load halt haltUnder haltBoth open-kinds shielded shieldedUnder shieldedBoth
 load-halt (leaf x) = refl
 load-halt (under (receive p o ws) t) = refl
 load-halt (under (wait n) t) = refl
@@ -41,7 +41,7 @@ halt-halt (both choice s t) = refl
 halt-halt (both parallel s t) = rw (halt-halt s, halt-halt t)
 
 pub shielded-le : (t : Term) → shielded t ≤ load t
-unfolding load weight weightBasic shielded shieldedUnder shieldedBoth
+unfolding load open-kinds shielded shieldedUnder shieldedBoth
 shielded-le (leaf x) = omega arith
 shielded-le (under (receive p o ws) t) = omega arith
 shielded-le (under (wait n) t) = omega arith
@@ -53,9 +53,9 @@ shielded-le (both parallel s t) = omega (arith, shielded-le s, shielded-le t)
 
 -- The load of a term is that of the way to a place and that of what stands there.
 unfoldable pub loadFrame : Frame → ℕ
-loadFrame (inside u) = weight u
-loadFrame (leftOf j t) = load t
-loadFrame (rightOf j s) = load s
+loadFrame (inside u) = weightOf (kind (prefix u))
+loadFrame (leftOf j t) = weightOf (kind (join j)) + load t
+loadFrame (rightOf j s) = weightOf (kind (join j)) + load s
 
 unfoldable pub loadWay : Way → ℕ
 loadWay [] = 0
@@ -64,8 +64,8 @@ loadWay (f ∷ w) = loadFrame f + loadWay w
 load-plug : (f : Frame) (s : Term) → load (plug f s) ≡ loadFrame f + load s
 unfolding load plug loadFrame
 load-plug (inside u) s = refl
-load-plug (leftOf j t) s = add-comm (load s) (load t)
-load-plug (rightOf j s) t = refl
+load-plug (leftOf j t) s = omega arith
+load-plug (rightOf j s) t = omega arith
 
 pub load-fill : (w : Way) (s : Term) → load (fill w s) ≡ loadWay w + load s
 unfolding fill loadWay
@@ -77,19 +77,19 @@ load-spot t n = ap load (sym (fill-spot t n)) ∙ load-fill (wayTo t n) (sub t n
 
 -- what the records that move weigh
 weighs-kill : (s : Term) (k : ℕ) → kills s ≡ some k → load s ≡ 1
-unfolding load weightBasic
+unfolding load open-kinds
 weighs-kill s k e = ap load (kills-is s k e)
 
 weighs-invoke : (s : Term) (m : Ends) → invokes s ≡ some m → load s ≡ 1
-unfolding load weightBasic
+unfolding load open-kinds
 weighs-invoke s m e = ap load (invokes-is s m e)
 
 -- a record before a continuation weighs 1
 abbrev pub Weighty : {A : Type 0} → (Prefix → Option A) → Type 0
-Weighty {A} f = (u : Prefix) (x : A) → f u ≡ some x → weight u ≡ 1
+Weighty {A} f = (u : Prefix) (x : A) → f u ≡ some x → weightOf (kind (prefix u)) ≡ 1
 
 weighty-receive : Weighty receives
-unfolding receives weight
+unfolding receives open-kinds
 weighty-receive (receive p o ws) x e = refl
 weighty-receive (wait n) x e = refl
 weighty-receive protection x e = cc
@@ -97,7 +97,7 @@ weighty-receive (delimitation d) x e = cc
 weighty-receive replication x e = cc
 
 weighty-wait : Weighty waits
-unfolding waits weight
+unfolding waits open-kinds
 weighty-wait (receive p o ws) x e = refl
 weighty-wait (wait n) x e = refl
 weighty-wait protection x e = cc
@@ -127,13 +127,13 @@ load-inside k (f ∷ w) =
     (λ e. unfold loadWay in omega arith) (λ e. unfold loadWay in omega (arith, load-beside f, load-inside k w))
 
 pub load-kill : (t : Term) (a k : ℕ) → kills (sub t a) ≡ some k → load t ≡ load (afterKill k t a) + 1 + ended k (wayTo t a)
-unfolding afterKill load weightBasic
+unfolding afterKill load open-kinds
 load-kill t a k e =
     omega (arith, load-spot t a, weighs-kill (sub t a) k e, load-inside k (wayTo t a), load-fill (haltInside k (wayTo t a)) (leaf nil))
 
 -- A guard that continues: before = after + 1 + what the arms not taken held.
 load-around : (w : Way) → loadWay w ≡ loadWay (aroundChoice w) + dropped w
-unfolding loadWay aroundChoice dropped frameChooses loadFrame arm
+unfolding loadWay aroundChoice dropped frameChooses loadFrame arm open-kinds
 load-around [] = refl
 load-around (inside u ∷ w) = omega arith
 load-around (leftOf choice t ∷ w) = omega (arith, load-around w)
@@ -148,35 +148,21 @@ load-continue f g t a x e =
 
 -- Communicate: before = after + 2 + what the arms not taken held.
 load-silence : (t : Term) (b : ℕ) (m : Ends) → invokes (sub t b) ≡ some m → load t ≡ load (silence t b) + 1
-unfolding silence load weightBasic
+unfolding silence load open-kinds
 load-silence t b m e = omega (arith, load-spot t b, weighs-invoke (sub t b) m e, load-fill (wayTo t b) (leaf nil))
 
 -- a prefix stands where it stood before the invoke went
 pub prefix-silence : {A : Type 0} (f : Prefix → Option A) (t : Term) (a b : ℕ) (m : Ends) → invokes (sub t b) ≡ some m → prefixed f (sub (silence t b) a) ≡ prefixed f (sub t a)
 prefix-silence f t a b m e = silence-prefix f t b (invokeOf m) (invokes-is (sub t b) m e) a
 
-weight-mapBasic : (f : ℕ → ℕ) (x : Basic) → weightBasic (mapBasic f x) ≡ weightBasic x
-unfolding mapBasic weightBasic
-weight-mapBasic f nil = refl
-weight-mapBasic f (kill k) = refl
-weight-mapBasic f (invoke p o ws) = refl
-
-weight-mapPrefix : (f : ℕ → ℕ) (u : Prefix) → weight (mapPrefix f u) ≡ weight u
-unfolding mapPrefix weight
-weight-mapPrefix f (receive p o ws) = refl
-weight-mapPrefix f (wait n) = refl
-weight-mapPrefix f protection = refl
-weight-mapPrefix f (delimitation d) = refl
-weight-mapPrefix f replication = refl
-
 load-mapAtoms : (f : ℕ → ℕ) (t : Term) → load (mapAtoms f t) ≡ load t
-unfolding load mapAtoms
-load-mapAtoms f (leaf x) = weight-mapBasic f x
-load-mapAtoms f (under u t) = rw (weight-mapPrefix f u, load-mapAtoms f t)
+unfolding load mapAtoms mapNode
+load-mapAtoms f (leaf x) = ap weightOf (mapped-kind f (basic x))
+load-mapAtoms f (under u t) = cc (mapped-kind f (prefix u), load-mapAtoms f t)
 load-mapAtoms f (both j s t) = rw (load-mapAtoms f s, load-mapAtoms f t)
 
-weight-delimits : (d : ℕ) (u : Prefix) → delimitsAtom d u ≡ true → weight u ≡ 0
-unfolding delimitsAtom delimits holds weight
+weight-delimits : (d : ℕ) (u : Prefix) → delimitsAtom d u ≡ true → weightOf (kind (prefix u)) ≡ 0
+unfolding delimitsAtom delimits holds open-kinds
 weight-delimits d (receive p o ws) e = cc
 weight-delimits d (wait n) e = cc
 weight-delimits d protection e = refl
@@ -187,7 +173,7 @@ load-instantiate : (x v : ℕ) (t : Term) → load (instantiate x v t) ≡ load 
 unfolding load instantiate
 load-instantiate x v (leaf b) = refl
 load-instantiate x v (under u t) =
-    cond-case (λ r. load r ≡ weight u + load t) (delimitsAtom x u)
+    cond-case (λ r. load r ≡ weightOf (kind (prefix u)) + load t) (delimitsAtom x u)
     (λ e. omega (arith, load-mapAtoms (image ((x, v) ∷ [])) t, weight-delimits x u e))
     (λ e. unfold load in omega (arith, load-instantiate x v t))
 load-instantiate x v (both j s t) = rw (load-instantiate x v s, load-instantiate x v t)
@@ -208,20 +194,12 @@ pub load-timeout : (t : Term) (a i : ℕ) → prefixed waits (sub t a) ≡ some 
 load-timeout t a i e = load-continue waits weighty-wait t a i e
 
 -- Elapse: nothing changes.
-weight-lower : (d : ℕ) (u : Prefix) → weight (lower d u) ≡ weight u
-unfolding lower weight
-weight-lower d (receive p o ws) = refl
-weight-lower d (wait n) = refl
-weight-lower d protection = refl
-weight-lower d (delimitation a) = refl
-weight-lower d replication = refl
-
 pub load-elapse : (d : ℕ) (t : Term) → load (elapse d t) ≡ load t
 unfolding load elapse
 load-elapse d (leaf x) = refl
 load-elapse d (under u t) =
-    rw weight-lower
-    (cond-case (λ r. weight u + load r ≡ weight u + load t) (passesLive u) (λ e. rw (load-elapse d t)) (λ e. refl))
+    rw (lowered-kind d u)
+    (cond-case (λ r. weightOf (kind (prefix u)) + load r ≡ weightOf (kind (prefix u)) + load t) (liveKind (kind (prefix u))) (λ e. rw (load-elapse d t)) (λ e. refl))
 load-elapse d (both j s t) = rw (load-elapse d s, load-elapse d t)
 
 -- Unfold: the load of the body is added.
@@ -230,18 +208,18 @@ unfolding copy
 load-copy t body = load-mapAtoms _ body
 
 pub load-unfold : (t : Term) (a : ℕ) → load (afterUnfold t a) ≡ load t + load (below (sub t a))
-unfolding afterUnfold load
+unfolding afterUnfold load open-kinds
 load-unfold t a =
     load-fill (wayTo t a) (both parallel (copy t (below (sub t a))) (sub t a))
     ∙ omega (arith, load-spot t a, load-copy t (below (sub t a)))
 
 -- Extrude: nothing changes.
 weighs-delimitation : (s : Term) (d : ℕ) → prefixed delimits s ≡ some d → load s ≡ load (below s)
-unfolding load weight
+unfolding load open-kinds
 weighs-delimitation s d e = ap load (prefixed-is delimits delimitation delimits-is s d e) ∙ omega arith
 
 load-exchange : (d : ℕ) (s : Term) (w : Way) → load (exchange d s w) ≡ loadWay w + load s
-unfolding exchange load weight loadWay
+unfolding exchange load open-kinds loadWay
 load-exchange d s [] = omega arith
 load-exchange d s (f ∷ w) = load-fill w (under (delimitation d) (plug f s)) ∙ omega (arith, load-plug f s)
 

@@ -1,5 +1,5 @@
 -- Laws of mapAtoms (specs/Moves), for substitutions and renamings alike: guards, scopes, delimitations and the table of kinds after every atom is mapped.
-use mathlib.Core.Path.{_≡_, refl, ap}
+use mathlib.Core.Path.{_≡_, refl, ap, _∙_}
 use mathlib.Core.Bool.{Bool, true, false, not, _&&_}
 use mathlib.Core.List.{List, [], _∷_, map}
 use Prim.Native.Nat.{ℕ, zero, suc, _≤_}
@@ -8,26 +8,20 @@ use lib.Dec.{eqb}
 use lib.ListN.{length-map}
 use borrow.Author.Tests.{eqb-true, eq-eqb}
 use Rattle.cows.specs.Basics.{any, every, member, holds, All}
-use Rattle.cows.specs.Terms.{Basic, nil, kill, invoke, Prefix, receive, wait, protection, delimitation, replication, choice, parallel, Term, leaf, under, both, value, variable, label, datum, atom, delimits, delimitsAtom, guard, usesBasic, usesPrefix}
-use Rattle.cows.specs.Format.{distinct}
+use Rattle.cows.specs.Terms.{Basic, nil, kill, invoke, Prefix, receive, wait, protection, delimitation, replication, choice, parallel, Term, leaf, under, both, value, variable, label, datum, atom, delimits, delimitsAtom, usesBasic, usesPrefix}
+use Rattle.cows.specs.Kinds.{guard, distinct, kindOf, root, basic, prefix, guardKind}
 use Rattle.cows.specs.Within.{RightTuple, RightBasic, RightPrefix, Right, Guarded, one, counts}
-use Rattle.cows.specs.Moves.{mapBasic, mapPrefix, mapAtoms, image}
+use Rattle.cows.specs.Moves.{mapBasic, mapPrefix, mapAtoms, image, mapNode}
 use Rattle.cows.proofs.Basics.{never, cond-case, and-true, true-and, not-mono, or-left, or-both, or-case}
 use Rattle.cows.proofs.Scopes.{Rule, inner, Used}
+use Rattle.cows.proofs.Rows.{mapped-kind}
 
 -- guards
 guard-mapped : (f : ℕ → ℕ) (t : Term) → guard t ≡ true → guard (mapAtoms f t) ≡ true
-unfolding guard mapAtoms mapBasic mapPrefix
-guard-mapped f (leaf nil) h = h
-guard-mapped f (leaf (kill k)) h = h
-guard-mapped f (leaf (invoke p o ws)) h = h
-guard-mapped f (under (receive p o ws) t) h = h
-guard-mapped f (under (wait n) t) h = h
-guard-mapped f (under protection t) h = h
-guard-mapped f (under (delimitation d) t) h = h
-guard-mapped f (under replication t) h = h
-guard-mapped f (both choice s t) h = h
-guard-mapped f (both parallel s t) h = h
+unfolding guard kindOf root mapAtoms mapNode
+guard-mapped f (leaf x) h = ap guardKind (mapped-kind f (basic x)) ∙ h
+guard-mapped f (under u t) h = ap guardKind (mapped-kind f (prefix u)) ∙ h
+guard-mapped f (both j s t) h = h
 
 pub guarded-mapped : (f : ℕ → ℕ) (t : Term) → Guarded t → Guarded (mapAtoms f t)
 unfolding mapAtoms

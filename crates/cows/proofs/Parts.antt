@@ -7,10 +7,10 @@ use Prim.Native.Nat.{ℕ, _-_, _≤_}
 use native.Mathlib.Omega.{arith}
 use lib.Dec.{eqb}
 use Rattle.cows.specs.Basics.{holds}
-use Rattle.cows.specs.Terms.{nil, Prefix, receive, wait, protection, delimitation, replication, choice, parallel, Term, leaf, under, both, prefixed, delimits, delimitsAtom, below, guard, usesBasic, usesPrefix}
+use Rattle.cows.specs.Terms.{nil, Prefix, receive, wait, protection, delimitation, replication, choice, parallel, Term, leaf, under, both, prefixed, delimits, delimitsAtom, below, usesBasic, usesPrefix}
+use Rattle.cows.specs.Kinds.{guard, prefix, kind, liveKind, open-kinds}
 use Rattle.cows.specs.Places.{Frame, inside, leftOf, rightOf, plug, Way, fill, wayTo, sub, frameDelimits, frameChooses}
 use Rattle.cows.specs.Within.{Right, Guarded, Scoped, counts, restricted, nowhere, Formed}
-use Rattle.cows.specs.Active.{passesLive}
 use Rattle.cows.specs.Moves.{haltUnder, haltBoth, halt, haltBeside, haltInside, afterKill, silence, aroundChoice, continue, lower, elapse}
 use Rattle.cows.proofs.Basics.{never, cond-case, or-right, or-swap}
 use Rattle.cows.proofs.Places.{fill-spot, fill-ind, replaced}
@@ -40,7 +40,7 @@ pub data Part : Bool → Term → Term → Type 0 where
 
 -- guards
 part-guard : {t r : Term} → Part true t r → guard t ≡ true → guard r ≡ true
-unfolding guard plug
+unfolding open-kinds plug
 part-guard whole h = h
 part-guard cut h = refl
 part-guard (down {u = u} {t = t} {r = r} same p) h = sym (guard-plug (inside u) t r) ∙ h
@@ -50,7 +50,7 @@ part-guard (either p q) h = h
 part-guard (outward d f s e) h = never (sym e ∙ (guard-plug f s (under (delimitation d) s) ∙ h))
 
 part-guarded : {g : Bool} {t r : Term} → Part g t r → Guarded t → Guarded r
-unfolding guard
+unfolding open-kinds
 part-guarded whole h = h
 part-guarded cut h = tt
 part-guarded (down l p) h = part-guarded p h
@@ -205,7 +205,7 @@ lowered-lower d replication = same
 pub part-elapse : (d : ℕ) (t : Term) → Part true t (elapse d t)
 unfolding elapse
 part-elapse d (leaf x) = whole
-part-elapse d (under u t) = down (lowered-lower d u) (cond-case (Part true t) (passesLive u) (λ e. part-elapse d t) (λ e. whole))
+part-elapse d (under u t) = down (lowered-lower d u) (cond-case (Part true t) (liveKind (kind (prefix u))) (λ e. part-elapse d t) (λ e. whole))
 part-elapse d (both choice s t) = either (part-elapse d s) (part-elapse d t)
 part-elapse d (both parallel s t) = beside (part-elapse d s) (part-elapse d t)
 

@@ -10,7 +10,8 @@ use lib.Seq.{drop-cons}
 use borrow.Author.Tests.{eqb-true, leb-true, ltb-true, le-leb, lt-ltb}
 use Rattle.cows.specs.Basics.{every}
 use Rattle.cows.specs.Terms.{nil, kill, invoke, receive, wait, protection, delimitation, replication, choice, parallel, label, datum, atom}
-use Rattle.cows.specs.Format.{Bytes, bytes2, byte, word, Node, basic, prefix, join, layout, record16, unused, interval, distinct, data4, pattern4, empty4, Row, kinds, row, rowOf, slots, rightRow, rightRecord, tuple, node}
+use Rattle.cows.specs.Kinds.{Node, basic, prefix, join, unused, interval, distinct, data4, pattern4, empty4, Row, kinds, rowOf}
+use Rattle.cows.specs.Format.{Bytes, bytes2, byte, word, layout, record16, slots, rightRow, rightRecord, tuple, node}
 use Rattle.cows.specs.Within.{RightTuple, RightBasic, RightPrefix}
 use Rattle.cows.proofs.Basics.{and-true, true-and, or-left}
 use Rattle.cows.proofs.Sets.{set-case, value-range, variable-range, label-range}
@@ -157,8 +158,8 @@ bare : (b : List ℕ) (k a i : ℕ) → a ≡ word b 2 → unused (word b 4) ≡
 unfolding slots
 bare b k a i p h e q = raw-layout b k a 0 i [] p (unused-zero (word b 4) h) (empty4-fills (byte b 1) (word b 6) (word b 8) (word b 10) (word b 12) e) q
 
-plain : (b : List ℕ) (k : ℕ) → Fits (row unused unused empty4 unused) b → layout k 0 0 [] 0 ≡ raw k b
-plain b k h = bare b k 0 0 (unused-zero (word b 2) (h .0)) (h .1) (h .2) (unused-zero (word b 14) (h .3))
+plain : (b : List ℕ) (k : ℕ) → unused (word b 2) ≡ true → unused (word b 4) ≡ true → empty4 (byte b 1) (slots b) ≡ true → unused (word b 14) ≡ true → layout k 0 0 [] 0 ≡ raw k b
+plain b k p q e r = bare b k 0 0 (unused-zero (word b 2) p) q e (unused-zero (word b 14) r)
 
 pattern-data : (b : List ℕ) → pattern4 (byte b 1) (slots b) ≡ true → (data4 (byte b 1) (slots b) ≡ true) × (distinct (tuple b) ≡ true)
 unfolding pattern4 tuple
@@ -167,16 +168,16 @@ pattern-data b h = and-true (data4 (byte b 1) (slots b)) _ h
 -- A right record is what is read off it, written again; and what is read off it is right.
 right-kind : (b : List ℕ) (k : ℕ) → byte b 0 ≡ k → k < 10 → Fits (rowOf k) b → (record16 (node b) ≡ raw k b) × RightNode (node b)
 unfolding kinds rowOf node record16 interval unused empty4
-right-kind b zero e l h = rw e (plain b 0 h, tt)
+right-kind b zero e l h = rw e (plain b 0 (h .0) (h .1) (h .2) (h .3), tt)
 right-kind b (suc zero) e l h = rw e (bare b 1 (word b 2) 0 refl (h .1) (h .2) (unused-zero (word b 14) (h .3)), h .0)
 right-kind b (suc (suc zero)) e l h = let (r, t) = tupled b 2 (h .2) (h .3) in rw e (r, (h .0, h .1, t))
 right-kind b (suc (suc (suc zero))) e l h = let (f, d) = pattern-data b (h .2) in let (r, t) = tupled b 3 f (h .3) in rw e (r, (h .0, h .1, t, d))
 right-kind b (suc (suc (suc (suc zero)))) e l h = rw e (bare b 4 0 (word b 14) (unused-zero (word b 2) (h .0)) (h .1) (h .2) refl, ltb-true (word b 14) 65536 (h .3))
-right-kind b (suc (suc (suc (suc (suc zero))))) e l h = rw e (plain b 5 h, tt)
-right-kind b (suc (suc (suc (suc (suc (suc zero)))))) e l h = rw e (plain b 6 h, tt)
-right-kind b (suc (suc (suc (suc (suc (suc (suc zero))))))) e l h = rw e (plain b 7 h, tt)
+right-kind b (suc (suc (suc (suc (suc zero))))) e l h = rw e (plain b 5 (h .0) (h .1) (h .2) (h .3), tt)
+right-kind b (suc (suc (suc (suc (suc (suc zero)))))) e l h = rw e (plain b 6 (h .0) (h .1) (h .2) (h .3), tt)
+right-kind b (suc (suc (suc (suc (suc (suc (suc zero))))))) e l h = rw e (plain b 7 (h .0) (h .1) (h .2) (h .3), tt)
 right-kind b (suc (suc (suc (suc (suc (suc (suc (suc zero)))))))) e l h = rw e (bare b 8 (word b 2) 0 refl (h .1) (h .2) (unused-zero (word b 14) (h .3)), h .0)
-right-kind b (suc (suc (suc (suc (suc (suc (suc (suc (suc zero))))))))) e l h = rw e (plain b 9 h, tt)
+right-kind b (suc (suc (suc (suc (suc (suc (suc (suc (suc zero))))))))) e l h = rw e (plain b 9 (h .0) (h .1) (h .2) (h .3), tt)
 right-kind b (suc (suc (suc (suc (suc (suc (suc (suc (suc (suc k)))))))))) e l h = absurd (omega arith)
 
 pub right-record : (b : List ℕ) → length b ≡ 16 → Bytes b → rightRecord b ≡ true → (record16 (node b) ≡ b) × RightNode (node b)

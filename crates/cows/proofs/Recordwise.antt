@@ -10,10 +10,11 @@ use lib.ListN.{getD}
 use lib.Seq.{ext-getD, getD-at}
 use borrow.Author.Tests.{eqb-true, eqb-false, eq-eqb, ne-eqb}
 use Rattle.cows.specs.Basics.{every}
-use Rattle.cows.specs.Terms.{nil, kill, invoke, receive, wait, protection, delimitation, replication, Term, leaf, under, both, size}
-use Rattle.cows.specs.Places.{inside, leftOf, rightOf, Way, Spot, descend, spot, wayTo, sub}
-use Rattle.cows.specs.Format.{Node, basic, prefix, join, nodes, root, decode}
-use Rattle.cows.specs.Active.{passesLive, onPrefix, live}
+use Rattle.cows.specs.Terms.{nil, kill, invoke, receive, wait, protection, delimitation, replication, Term, leaf, under, both, size, Join, choice, parallel}
+use Rattle.cows.specs.Kinds.{Node, basic, prefix, join, root, kind, liveKind, open-kinds}
+use Rattle.cows.specs.Places.{inside, leftOf, rightOf, Way, Spot, descend, spot, wayTo, sub, passed}
+use Rattle.cows.specs.Format.{nodes, decode}
+use Rattle.cows.specs.Active.{live, onKind}
 use Rattle.cows.specs.Moves.{Substitution, mapBasic, mapPrefix, mapNode, mapAtoms, image, lower, elapse}
 use Rattle.cows.specs.Allows.{Live, Becomes, itself, by-pair, by-others, AllBecome, no-more, and-more, Rewritten, as-nil, as-kill, as-invoke, as-receive, as-wait, as-protection, as-delimitation, as-replication, as-join, Replaced, Elapsed}
 use Rattle.cows.proofs.Basics.{clash, cond-case, cond-case₂, true-and}
@@ -128,8 +129,14 @@ lowerNode d (join j) = join j
 pub size-elapse : (d : ℕ) (t : Term) → size (elapse d t) ≡ size t
 unfolding size elapse
 size-elapse d (leaf x) = refl
-size-elapse d (under u t) = ap suc (cond-case (λ r. size r ≡ size t) (passesLive u) (λ e. size-elapse d t) (λ e. refl))
+size-elapse d (under u t) = ap suc (cond-case (λ r. size r ≡ size t) (liveKind (kind (prefix u))) (λ e. size-elapse d t) (λ e. refl))
 size-elapse d (both j s t) = omega (arith, size-elapse d s, size-elapse d t)
+
+-- a join on the way does not stop it
+join-live : (j : Join) (t : Term) (w : Way) → live w ≡ true → (live (leftOf j t ∷ w) ≡ true) × (live (rightOf j t ∷ w) ≡ true)
+unfolding live every onKind passed open-kinds
+join-live choice t w h = (h, h)
+join-live parallel t w h = (h, h)
 
 -- the record at a place when d has passed
 timed : ℕ → Bool → Node → Node
@@ -140,15 +147,15 @@ unfolding descend elapse root lowerNode timed
 root-elapse d v w h (leaf x) n = rw h
 root-elapse d v w h (under u t) zero = rw h
 root-elapse d v w h (under u t) (suc n) =
-    cond-case (λ r. root (descend (inside (lower d u) ∷ v) r n .here) ≡ timed d (live (descend (inside u ∷ w) t n .way)) (root (descend (inside u ∷ w) t n .here))) (passesLive u)
-    (λ e. root-elapse d (inside (lower d u) ∷ v) (inside u ∷ w) (unfold live every onPrefix in true-and e h) t n)
-    (λ e. rw (dormant (inside u ∷ w) (unfold live every onPrefix in rw e) t n) (ap root (descend-here (inside (lower d u) ∷ v) (inside u ∷ w) t n)))
+    cond-case (λ r. root (descend (inside (lower d u) ∷ v) r n .here) ≡ timed d (live (descend (inside u ∷ w) t n .way)) (root (descend (inside u ∷ w) t n .here))) (liveKind (kind (prefix u)))
+    (λ e. root-elapse d (inside (lower d u) ∷ v) (inside u ∷ w) (unfold live every onKind passed in true-and e h) t n)
+    (λ e. rw (dormant (inside u ∷ w) (unfold live every onKind passed in rw e) t n) (ap root (descend-here (inside (lower d u) ∷ v) (inside u ∷ w) t n)))
 root-elapse d v w h (both j s t) zero = rw h
 root-elapse d v w h (both j s t) (suc n) =
     rw (size-elapse d s)
     (cond-case₂ (λ (x y : Spot). root (x .here) ≡ timed d (live (y .way)) (root (y .here))) (ltb n (size s))
-    (λ e. root-elapse d (leftOf j (elapse d t) ∷ v) (leftOf j t ∷ w) (unfold live every onPrefix in h) s n)
-    (λ e. root-elapse d (rightOf j (elapse d s) ∷ v) (rightOf j s ∷ w) (unfold live every onPrefix in h) t (n - size s)))
+    (λ e. root-elapse d (leftOf j (elapse d t) ∷ v) (leftOf j t ∷ w) (join-live j t w h .0) s n)
+    (λ e. root-elapse d (rightOf j (elapse d s) ∷ v) (rightOf j s ∷ w) (join-live j s w h .1) t (n - size s)))
 
 root-elapsed : (d : ℕ) (t : Term) (n : ℕ) → root (sub (elapse d t) n) ≡ timed d (live (wayTo t n)) (root (sub t n))
 unfolding sub spot wayTo

@@ -11,7 +11,8 @@ use lib.Dec.{ltb, eqb}
 use lib.ListN.{length}
 use borrow.Author.Tests.{le-ltb, ltb-true, ltb-false, eqb-true, eq-eqb, not-false}
 use Rattle.cows.specs.Basics.{any, holds, found, firstFrom}
-use Rattle.cows.specs.Terms.{choice, parallel, Term, leaf, under, both, size, depth, prefixed, delimits, delimitsAtom, delimitsAt, guard, usesBasic, usesPrefix, uses, bindable}
+use Rattle.cows.specs.Terms.{choice, parallel, Term, leaf, under, both, size, depth, prefixed, delimits, delimitsAtom, delimitsAt, usesBasic, usesPrefix, uses, bindable}
+use Rattle.cows.specs.Kinds.{guard}
 use Rattle.cows.specs.Places.{inside, leftOf, rightOf, Way, Spot, descend, spot, sub, first, frameDelimits, enclosed, frameChooses}
 use Rattle.cows.specs.Tables.{tooDeep, inChoice, noGuard, unbound, delimitedBefore, again, escaped, clash}
 use Rattle.cows.specs.Within.{Guarded, Bound, Scoped, one, counts, restricted, Formed}

@@ -13,10 +13,11 @@ use lib.ListN.{length, getD, take, drop, set, length-append, length-drop}
 use lib.Seq.{take-at, take-all, getD-take, getD-drop, length-take-le, set-split, getD-set-same, getD-set-other}
 use borrow.Author.Tests.{eqb-true, eqb-false, eq-eqb, lt-ltb, le-ltb}
 use Rattle.cows.specs.Basics.{any, member, holds, accept}
-use Rattle.cows.specs.Terms.{Basic, nil, Prefix, delimitation, choice, Term, leaf, under, both, Ends, size, prefixed, receives, invokes, delimitsAtom, delimits, below, guard}
+use Rattle.cows.specs.Terms.{Basic, nil, Prefix, delimitation, choice, Term, leaf, under, both, Ends, size, prefixed, receives, invokes, delimitsAtom, delimits, below}
+use Rattle.cows.specs.Kinds.{Node, basic, prefix, join, root, kind, liveKind, open-kinds}
 use Rattle.cows.specs.Places.{Frame, leftOf, rightOf, inside, plug, Way, fill, Spot, descend, spot, wayTo, sub, frameChooses}
-use Rattle.cows.specs.Format.{Node, basic, prefix, join, nodes, root}
-use Rattle.cows.specs.Active.{passesLive, live}
+use Rattle.cows.specs.Format.{nodes}
+use Rattle.cows.specs.Active.{live}
 use Rattle.cows.specs.Within.{Within}
 use Rattle.cows.specs.Moves.{Substitution, silence, continue, bind, aroundChoice, communicateAt}
 use Rattle.cows.specs.Allows.{Meets, gathered, InOrder, Choices, no-choice, left-choice, right-choice, Choice, as-nil}
@@ -121,7 +122,7 @@ module _ (x : Basic) (w : Way) where
   abbrev Free : Term → Type 0
   Free s = (i : ℕ) → descend w s i .here ≡ leaf x → live (descend w s i .way) ≡ true → any frameChooses (descend w s i .way) ≡ false → ⊥
 
-  under-free : (g : Prefix) (r : Term) → passesLive g ≡ false → Free (under g r)
+  under-free : (g : Prefix) (r : Term) → liveKind (kind (prefix g)) ≡ false → Free (under g r)
   unfolding descend
   under-free g r e zero h l f = never (cc)
   under-free g r e (suc i) h l f = clash l (dormant (inside g ∷ w) (stopped g w e) r i)
@@ -146,7 +147,7 @@ module _ (x : Basic) (w : Way) where
   choices-free (right-choice {s = r} k) s h = choices-free k (both choice r s) (choice-free r s)
 
 -- the place b of such a leaf is not in the choice
-module _ (t : Term) (a b : ℕ) (g : Prefix) (r : Term) (x : Basic) (l : a < size t) (k : b < size t) (ea : sub t a ≡ under g r) (stops : passesLive g ≡ false) (eb : sub t b ≡ leaf x)
+module _ (t : Term) (a b : ℕ) (g : Prefix) (r : Term) (x : Basic) (l : a < size t) (k : b < size t) (ea : sub t a ≡ under g r) (stops : liveKind (kind (prefix g)) ≡ false) (eb : sub t b ≡ leaf x)
     (lb : live (wayTo t b) ≡ true) (free : any frameChooses (wayTo t b) ≡ false) where
   pub invoke-outside : (let c = length (ahead (aroundChoice (wayTo t a))) in InTerm t c b) → ⊥
   unfolding wayTo sub
@@ -216,7 +217,7 @@ bound-one σ (is-replaced {x = n} {y = m} h r) =
     rw (not-so {a = binder σ n} (λ e. let (d, q) = binder-is σ n e in clash (sym (binder-member σ n d q) ∙ e) (h d q))) (ap (λ k. k ∷ []) (rewritten-is r))
 
 -- The receive at place a and the invoke at place b meet.
-module _ (t : Term) (a b : ℕ) (g : Prefix) (r : Term) (x : Basic) (σ : Substitution) (l : a < size t) (k : b < size t) (ea : sub t a ≡ under g r) (stops : passesLive g ≡ false)
+module _ (t : Term) (a b : ℕ) (g : Prefix) (r : Term) (x : Basic) (σ : Substitution) (l : a < size t) (k : b < size t) (ea : sub t a ≡ under g r) (stops : liveKind (kind (prefix g)) ≡ false)
     (eb : sub t b ≡ leaf x) (lb : live (wayTo t b) ≡ true) (free : any frameChooses (wayTo t b) ≡ false) where
   abbrev N : List Node
   N = nodes (silence t b)
@@ -384,16 +385,16 @@ module _ (t : Term) (a b : ℕ) (σ : Substitution) (w : Within t) (h : Meets t 
   after-nodes = let (sound, binds) = met-binds t a b σ w h in bind-nodes σ (continue (silence t b) a) sound binds
 
   free-invoke : any frameChooses (wayTo t b) ≡ false
-  free-invoke = live-unchosen t b _ (w .formed .guarded) (h .sender) (unfold guard in refl)
+  free-invoke = live-unchosen t b _ (w .formed .guarded) (h .sender) (unfold open-kinds in refl)
 
   meets-leave : MeetingLeaves t a b σ after
   meets-leave =
-      meeting-in-order t a b _ (h .body) _ σ (h .receiver .at .placed) (h .sender .at .placed) (h .receiver .at .stands) (unfold passesLive in refl) (h .sender .at .stands) (h .sender .live)
+      meeting-in-order t a b _ (h .body) _ σ (h .receiver .at .placed) (h .sender .at .placed) (h .receiver .at .stands) (unfold open-kinds in refl) (h .sender .at .stands) (h .sender .live)
       free-invoke after after-nodes
 
   leave-one : (s : Term) → MeetingLeaves t a b σ s → after ≡ s
   leave-one =
-      meeting-one t a b _ (h .body) _ σ (h .receiver .at .placed) (h .sender .at .placed) (h .receiver .at .stands) (unfold passesLive in refl) (h .sender .at .stands) (h .sender .live)
+      meeting-one t a b _ (h .body) _ σ (h .receiver .at .placed) (h .sender .at .placed) (h .receiver .at .stands) (unfold open-kinds in refl) (h .sender .at .stands) (h .sender .live)
       free-invoke after after-nodes
 
 -- An accepted meeting leaves such records, and what has such records is what it leaves.

@@ -9,7 +9,8 @@ use native.Mathlib.Nat.{zero-add}
 use lib.Dec.{ltb, eqb}
 use borrow.Author.Tests.{lt-ltb, ltb-true}
 use Rattle.cows.specs.Basics.{any, member, holds, All}
-use Rattle.cows.specs.Terms.{Prefix, receive, wait, protection, delimitation, replication, choice, parallel, Term, leaf, under, both, value, variable, label, delimits, delimitsAtom, guard, usesBasic, usesPrefix, optional, binders}
+use Rattle.cows.specs.Terms.{Prefix, receive, wait, protection, delimitation, replication, choice, parallel, Term, leaf, under, both, value, variable, label, delimits, delimitsAtom, usesBasic, usesPrefix, optional, binders}
+use Rattle.cows.specs.Kinds.{guard, open-kinds}
 use Rattle.cows.specs.Places.{Frame, inside, leftOf, rightOf, plug, Way, fill, frameDelimits, enclosed}
 use Rattle.cows.specs.Within.{Scoped, Right, Guarded, nowhere, one, counts, restricted}
 use Rattle.cows.proofs.Places.{fill-ind}
@@ -97,7 +98,7 @@ used-any P f E (both j s t) = (used-any P f E s, used-any P f E t)
 
 -- What stands in a frame decides nothing of whether the whole is a guard; a guard in place of a guard keeps a choice right.
 pub guard-plug : (f : Frame) (s r : Term) → guard (plug f s) ≡ guard (plug f r)
-unfolding plug guard
+unfolding plug open-kinds
 guard-plug (inside (receive p o ws)) s r = refl
 guard-plug (inside (wait n)) s r = refl
 guard-plug (inside protection) s r = refl

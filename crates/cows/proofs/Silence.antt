@@ -8,8 +8,9 @@ use lib.Dec.{ltb}
 use lib.ListN.{length, take, drop, length-append}
 use Rattle.cows.specs.Basics.{any}
 use Rattle.cows.specs.Terms.{Basic, nil, Prefix, Join, choice, parallel, Term, leaf, under, both, size, prefixed}
+use Rattle.cows.specs.Kinds.{basic}
 use Rattle.cows.specs.Places.{Frame, inside, leftOf, rightOf, plug, Way, Spot, descend, spot, wayTo, sub, frameDelimits, enclosed, frameChooses}
-use Rattle.cows.specs.Format.{basic, nodes}
+use Rattle.cows.specs.Format.{nodes}
 use Rattle.cows.specs.Moves.{silence, aroundChoice}
 use Rattle.cows.proofs.Basics.{cond-case₂}
 use Rattle.cows.proofs.Places.{replaced}

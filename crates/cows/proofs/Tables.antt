@@ -10,8 +10,9 @@ use lib.ListN.{length}
 use borrow.Author.Tests.{eqb-true, ltb-false, eq-eqb, ne-eqb, le-ltb, not-false}
 use Rattle.cows.specs.Basics.{accept, placeIf, _>>_, forbid}
 use Rattle.cows.specs.Terms.{Term, size, depth}
+use Rattle.cows.specs.Kinds.{Node}
 use Rattle.cows.specs.Places.{first}
-use Rattle.cows.specs.Format.{Bytes, Node, nodes, record16, bytes, encode, rightRecord, node, records, decode}
+use Rattle.cows.specs.Format.{Bytes, nodes, record16, bytes, encode, rightRecord, node, records, decode}
 use Rattle.cows.specs.Tables.{wrongLength, firstWrong, misshapen, tooDeep, noGuard, unbound, clash, judgeTerm, judge}
 use Rattle.cows.specs.Within.{Right, Formed, Within}
 use Rattle.cows.proofs.Basics.{or-false, placeIf-none, forbid-accept, same-accept}

@@ -8,7 +8,8 @@ use lib.Dec.{eqb}
 use lib.ListN.{length}
 use borrow.Author.Tests.{eqb-true, eq-eqb}
 use Rattle.cows.specs.Basics.{member, holds}
-use Rattle.cows.specs.Terms.{replication, parallel, Term, under, both, value, variable, datum, size, delimits, delimitsAtom, below, guard, binders, atoms}
+use Rattle.cows.specs.Terms.{replication, parallel, Term, under, both, value, variable, datum, size, delimits, delimitsAtom, below, binders, atoms}
+use Rattle.cows.specs.Kinds.{open-kinds}
 use Rattle.cows.specs.Places.{inside, plug, Way, fill, wayTo, sub, enclosed}
 use Rattle.cows.specs.Within.{Right, Guarded, Scoped, counts, restricted, nowhere, Formed}
 use Rattle.cows.specs.Moves.{mapAtoms, image, renaming, copy, afterUnfold}
@@ -60,7 +61,7 @@ module _ (w : Way) (body : Term) (ρ : ℕ → ℕ) (new : Renews (replicated w 
           }
 
   guarded-unfolded : Guarded (unfolded w body ρ)
-  unfolding guard
+  unfolding open-kinds
   guarded-unfolded = guarded-fill w (under replication body) _ never (λ h. (tt, guarded-mapped ρ body h, h)) (formed .guarded)
 
   -- the copy delimits each atom at most once, and none of the table's

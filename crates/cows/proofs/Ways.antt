@@ -7,8 +7,9 @@ use native.Mathlib.Omega.{arith}
 use lib.ListN.{length, take, drop, length-append}
 use lib.Seq.{take-at, drop-at, drop-drop}
 use Rattle.cows.specs.Terms.{Term, leaf, under, both, size, depth}
+use Rattle.cows.specs.Kinds.{prefix, join}
 use Rattle.cows.specs.Places.{Frame, inside, leftOf, rightOf, plug, Way, fill, Spot, descend, spot, wayTo, sub}
-use Rattle.cows.specs.Format.{prefix, join, nodes, bytes, encode}
+use Rattle.cows.specs.Format.{nodes, bytes, encode}
 use Rattle.cows.proofs.Basics.{lt-case}
 use Rattle.cows.specs.Records.{At, opens, closes, ahead, behind}
 use Rattle.cows.proofs.Places.{size-pos, fill-spot, fill-ind, descend-here, descend-first, Inherited, inherited-spot, PartOf, part-inherited, part-first, spot-fits}

@@ -3,6 +3,7 @@ use mathlib.Core.Path.{_≡_}
 use mathlib.Core.Option.{some}
 use mathlib.Core.List.{List}
 use Prim.Native.Nat.{ℕ, _*_, _≤_}
+use Rattle.cows.specs.Limits.{maxRecords, maxDepth}
 use Rattle.cows.specs.Terms.{Term, size, depth}
 use Rattle.cows.specs.Format.{encode}
 use Rattle.cows.specs.Within.{Within}
@@ -19,6 +20,6 @@ pub record Accepts (table m : List ℕ) (room : ℕ) (s : Term) : Type 0 where
   pub move : Move
   pub reads : readMove m ≡ some move
   pub allows : Allows term move s
-  pub small : size s ≤ 2048
-  pub shallow : depth s ≤ 256
+  pub small : size s ≤ maxRecords
+  pub shallow : depth s ≤ maxDepth
   pub fits : 16 * size s ≤ room

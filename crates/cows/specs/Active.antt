@@ -1,31 +1,24 @@
 -- Live and ready records: the active contexts of COWS (01, Live and ready). Only live records move; ready ones count when a move is held back.
-use mathlib.Core.Bool.{Bool, true, false, _&&_, _||_}
+use mathlib.Core.Bool.{Bool, _&&_}
 use mathlib.Core.Option.{Option}
 use Prim.Native.Nat.{ℕ}
 use lib.Dec.{ltb}
-use Rattle.cows.specs.Basics.{every, found, only, Result, need}
-use Rattle.cows.specs.Terms.{Prefix, receive, wait, protection, delimitation, replication, Term, size, replicates}
-use Rattle.cows.specs.Places.{Frame, inside, leftOf, rightOf, Way, wayTo, sub}
+use Rattle.cows.specs.Basics.{every, only, Result, need}
+use Rattle.cows.specs.Terms.{Term, size}
+use Rattle.cows.specs.Kinds.{kind, liveKind, readyKind}
+use Rattle.cows.specs.Places.{Frame, passed, Way, wayTo, sub}
+
+-- A way passes only records of kinds that a test allows.
+unfoldable pub onKind : (ℕ → Bool) → Frame → Bool
+onKind allows f = allows (kind (passed f))
 
 -- Live: the way passes only parallel, protection, delimitation and choice.
-unfoldable pub passesLive : Prefix → Bool
-passesLive (receive p o ws) = false
-passesLive (wait n) = false
-passesLive protection = true
-passesLive (delimitation d) = true
-passesLive replication = false
-
-unfoldable pub onPrefix : (Prefix → Bool) → Frame → Bool
-onPrefix f (inside u) = f u
-onPrefix f (leftOf j t) = true
-onPrefix f (rightOf j s) = true
-
 unfoldable pub live : Way → Bool
-live w = every (onPrefix passesLive) w
+live w = every (onKind liveKind) w
 
 -- Ready: replication is allowed on that way too.
 unfoldable pub ready : Way → Bool
-ready w = every (onPrefix (λ u. passesLive u || found (replicates u))) w
+ready w = every (onKind readyKind) w
 
 -- 11: no live record of the kind wanted stands at place n.
 unfoldable pub wanted : {A : Type 0} → (Term → Option A) → Term → ℕ → Result A
@@ -33,5 +26,5 @@ wanted kind t n = need 11 n (only (ltb n (size t) && live (wayTo t n)) (kind (su
 
 -- (for computed checks) to unfold this is to unfold every definition of this file
 unfoldable pub open-active : Unit {0}
-unfolding passesLive onPrefix live ready wanted
+unfolding onKind live ready wanted
 open-active = tt

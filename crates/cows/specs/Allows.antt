@@ -9,8 +9,9 @@ use Prim.Native.Nat.{ℕ, zero, suc, _+_, _-_, _≤_, _<_}
 use lib.ListN.{length}
 use Rattle.cows.specs.Basics.{any, member, All}
 use Rattle.cows.specs.Terms.{nil, kill, invoke, Prefix, receive, wait, protection, delimitation, replication, Join, choice, parallel, Term, leaf, under, both, value, variable, label, size, atoms, binders}
-use Rattle.cows.specs.Places.{Frame, inside, leftOf, rightOf, plug, Way, fill, wayTo, sub, enclosed}
-use Rattle.cows.specs.Format.{Node, basic, prefix, join, nodes, root}
+use Rattle.cows.specs.Places.{Frame, inside, leftOf, rightOf, passed, plug, Way, fill, wayTo, sub, enclosed}
+use Rattle.cows.specs.Kinds.{Node, basic, prefix, join, root}
+use Rattle.cows.specs.Format.{nodes}
 use Rattle.cows.specs.Active.{live, ready}
 use Rattle.cows.specs.Proposed.{Substitution, Move, Kill, Communicate, Timeout, Elapse, Unfold, Extrude}
 
@@ -115,12 +116,7 @@ pub data Halts : Node → Type 0 where
   halts-receive : {p o : ℕ} {ws : List ℕ} → Halts (prefix (receive p o ws))
   halts-wait : {n : ℕ} → Halts (prefix (wait n))
 
--- the record of a frame; a way that halting takes, from the root of what is halted: it goes through every record
-unfoldable pub passed : Frame → Node
-passed (inside u) = prefix u
-passed (leftOf j t) = join j
-passed (rightOf j s) = join j
-
+-- a way that halting takes, from the root of what is halted: it goes through every record
 pub data Reached : Way → Type 0 where
   at-root : Reached []
   goes-through : (f : Frame) {w : Way} → Through (passed f) → Reached w → Reached (f ∷ w)

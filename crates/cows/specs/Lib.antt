@@ -1,6 +1,8 @@
+pub mod Limits
 pub mod Basics
 pub mod Cut
 pub mod Terms
+pub mod Kinds
 pub mod Places
 pub mod Format
 pub mod Tables

@@ -3,26 +3,15 @@ use mathlib.Core.Bool.{cond}
 use mathlib.Core.List.{[], _∷_}
 use mathlib.Core.Option.{Option, none, some}
 use Prim.Native.Nat.{ℕ, _+_, _-_}
-use Rattle.cows.specs.Terms.{Basic, nil, kill, invoke, Prefix, receive, wait, protection, delimitation, replication, Join, choice, parallel, Term, leaf, under, both, kills, below}
+use Rattle.cows.specs.Terms.{Prefix, receive, wait, protection, delimitation, replication, Join, choice, parallel, Term, leaf, under, both, kills, below}
+use Rattle.cows.specs.Kinds.{basic, prefix, join, kind, weightOf}
 use Rattle.cows.specs.Places.{Frame, inside, leftOf, rightOf, Way, wayTo, sub, frameDelimits, frameChooses}
 use Rattle.cows.specs.Moves.{Move, Kill, Communicate, Timeout, Elapse, Unfold, Extrude, silence}
 
-unfoldable pub weightBasic : Basic → ℕ
-weightBasic nil = 0
-weightBasic (kill k) = 1
-weightBasic (invoke p o ws) = 1
-
-unfoldable pub weight : Prefix → ℕ
-weight (receive p o ws) = 1
-weight (wait n) = 1
-weight protection = 0
-weight (delimitation d) = 0
-weight replication = 0
-
 unfoldable pub load : Term → ℕ
-load (leaf x) = weightBasic x
-load (under u t) = weight u + load t
-load (both j s t) = load s + load t
+load (leaf x) = weightOf (kind (basic x))
+load (under u t) = weightOf (kind (prefix u)) + load t
+load (both j s t) = weightOf (kind (join j)) + (load s + load t)
 
 -- What of a term is protected: the load of the protections reached from its root through parallels, delimitations and replications only.
 unfoldable pub shieldedUnder : Prefix → ℕ → ℕ → ℕ
@@ -95,5 +84,5 @@ copies t (Extrude a) = 0
 
 -- (for computed checks) to unfold this is to unfold every definition of this file
 unfoldable pub open-load : Unit {0}
-unfolding weightBasic weight load shieldedUnder shieldedBoth shielded endedBeside ended endedBy arm dropped lost spent copies
+unfolding load shieldedUnder shieldedBoth shielded endedBeside ended endedBy arm dropped lost spent copies
 open-load = tt

@@ -1,15 +1,16 @@
 -- The six moves (01, Moves): what each asks, with refusals 11 to 18 in their order, and the successor.
 -- Names of the calculus stand for the paper's: kill (stop fires), communicate (meeting), timeout (expiry), elapse (time), unfold (unfolding), extrude (floating).
-use mathlib.Core.Bool.{Bool, true, false, cond, not, _&&_, _||_}
+use mathlib.Core.Bool.{Bool, false, cond, not, _&&_, _||_}
 use mathlib.Core.List.{List, [], _∷_, map}
 use Prim.Native.Nat.{ℕ, zero, suc, _-_}
 use lib.Dec.{ltb, eqb}
 use lib.ListN.{length}
+use Rattle.cows.specs.Limits.{firstVariable, firstLabel}
 use Rattle.cows.specs.Basics.{any, every, member, holds, found, placeIf, Result, refuse, accept, _>>=_, _>>_, forbid}
 use Rattle.cows.specs.Terms.{Basic, nil, kill, invoke, Prefix, receive, wait, protection, delimitation, replication, Join, choice, parallel, Term, leaf, under, both, Ends, value, variable, label, atoms, binders, kills, invokes, prefixed, receives, waits, delimits, replicates, delimitsAtom, delimitsAt, below}
 use Rattle.cows.specs.Places.{Frame, inside, leftOf, rightOf, plug, Way, fill, Spot, wayTo, sub, first, encloses, frameDelimits, enclosed, frameChooses}
-use Rattle.cows.specs.Format.{Node, basic, prefix, join}
-use Rattle.cows.specs.Active.{passesLive, live, ready, wanted}
+use Rattle.cows.specs.Kinds.{Node, basic, prefix, join, kind, liveKind, floatsOver}
+use Rattle.cows.specs.Active.{onKind, live, ready, wanted}
 pub use Rattle.cows.specs.Proposed.{Substitution, Move, Kill, Communicate, Timeout, Elapse, Unfold, Extrude}
 
 -- Kill. Halting (001) makes nil of kills, invokes and whole choices, receives and waits; it goes down both sides of a parallel,
@@ -184,7 +185,7 @@ lower d replication = replication
 
 unfoldable pub elapse : ℕ → Term → Term
 elapse d (leaf x) = leaf x
-elapse d (under u t) = under (lower d u) (cond (passesLive u) (elapse d t) t)
+elapse d (under u t) = under (lower d u) (cond (liveKind (kind (prefix u))) (elapse d t) t)
 elapse d (both j s t) = both j (elapse d s) (elapse d t)
 
 -- 17: a time of 0, or above a live wait.
@@ -203,7 +204,7 @@ smallest zero n taken = n
 smallest (suc tries) n taken = let r = smallest tries (suc n) taken in cond (member n taken) r n
 
 unfoldable pub least : ℕ → ℕ
-least a = cond (value a) 1 (cond (variable a) 32768 49152)
+least a = cond (value a) 1 (cond (variable a) firstVariable firstLabel)
 
 -- a new atom of d's set; new atoms for a list of atoms in its order, none of them taken and no two the same
 unfoldable pub fresh : List ℕ → ℕ → ℕ
@@ -227,18 +228,9 @@ unfoldAt t a = do
   accept (afterUnfold t a)
 
 -- Extrude. The parent fits: it is a parallel, a protection or a delimitation.
-unfoldable pub fitsPrefix : Prefix → Bool
-fitsPrefix (receive p o ws) = false
-fitsPrefix (wait n) = false
-fitsPrefix protection = true
-fitsPrefix (delimitation d) = true
-fitsPrefix replication = false
-
 unfoldable pub fitting : Way → Bool
 fitting [] = false
-fitting (inside u ∷ w) = fitsPrefix u
-fitting (leftOf j t ∷ w) = not (frameChooses (leftOf j t))
-fitting (rightOf j s ∷ w) = not (frameChooses (rightOf j s))
+fitting (f ∷ w) = onKind floatsOver f
 
 -- the delimitation of d around s changes places with its parent
 unfoldable pub exchange : ℕ → Term → Way → Term
@@ -266,5 +258,5 @@ successor t (Extrude a) = extrudeAt t a
 
 -- (for computed checks) to unfold this is to unfold every definition of this file
 unfoldable pub open-moves : Unit {0}
-unfolding haltUnder haltBoth halt haltBeside haltInside afterKill killAt extend match closedEnds fit matched outside inScope readyKill heldBack fewer tighter silence aroundChoice continue mapBasic mapPrefix mapNode mapAtoms image instantiate bind communicateAt timeoutAt lower elapse shorter elapseBy smallest least fresh renaming copy afterUnfold unfoldAt fitsPrefix fitting exchange afterExtrude extrudeAt successor
+unfolding haltUnder haltBoth halt haltBeside haltInside afterKill killAt extend match closedEnds fit matched outside inScope readyKill heldBack fewer tighter silence aroundChoice continue mapBasic mapPrefix mapNode mapAtoms image instantiate bind communicateAt timeoutAt lower elapse shorter elapseBy smallest least fresh renaming copy afterUnfold unfoldAt fitting exchange afterExtrude extrudeAt successor
 open-moves = tt

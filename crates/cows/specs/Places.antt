@@ -6,12 +6,19 @@ use Prim.Native.Nat.{ℕ, zero, suc, _+_, _-_}
 use lib.Dec.{ltb}
 use Rattle.cows.specs.Basics.{any, firstFrom}
 use Rattle.cows.specs.Terms.{Prefix, Join, choice, parallel, Term, leaf, under, both, size, delimitsAtom}
+use Rattle.cows.specs.Kinds.{Node, prefix, join}
 
 -- A frame is a record passed on the way down, with the child that is not taken.
 pub data Frame : Type 0 where
   inside : Prefix → Frame
   leftOf : Join → Term → Frame
   rightOf : Join → Term → Frame
+
+-- the record passed
+unfoldable pub passed : Frame → Node
+passed (inside u) = prefix u
+passed (leftOf j t) = join j
+passed (rightOf j s) = join j
 
 -- the term that a frame makes of the child on the way
 unfoldable pub plug : Frame → Term → Term
@@ -77,5 +84,5 @@ frameChooses (rightOf parallel s) = false
 
 -- (for computed checks) to unfold this is to unfold every definition of this file
 unfoldable pub open-places : Unit {0}
-unfolding plug fill descend spot wayTo sub first encloses frameDelimits enclosed frameChooses
+unfolding passed plug fill descend spot wayTo sub first encloses frameDelimits enclosed frameChooses
 open-places = tt

@@ -6,7 +6,8 @@ use Prim.Native.Nat.{ℕ, zero, suc, _+_, _<_, max}
 use Rattle.cows.specs.Basics.{any}
 use Rattle.cows.specs.Terms.{Term, size, delimitsAtom, delimitsAt}
 use Rattle.cows.specs.Places.{Frame, inside, leftOf, rightOf, Way, wayTo, sub}
-use Rattle.cows.specs.Format.{Node, basic, prefix, join, nodes}
+use Rattle.cows.specs.Kinds.{Node, basic, prefix, join}
+use Rattle.cows.specs.Format.{nodes}
 use Rattle.cows.specs.Moves.{Substitution, mapNode, image}
 
 -- At place n of t stands s, and w is the way to it.

@@ -8,7 +8,7 @@ use Prim.Native.Nat.{ℕ, _+_, _≤_, _<_}
 use Rattle.cows.specs.Basics.{member}
 use Rattle.cows.specs.Terms.{nil, delimitation, Term, size}
 use Rattle.cows.specs.Places.{Way, wayTo, sub}
-use Rattle.cows.specs.Format.{Node, basic, prefix, root}
+use Rattle.cows.specs.Kinds.{Node, basic, prefix, root}
 use Rattle.cows.specs.Proposed.{Substitution}
 use Rattle.cows.specs.Allows.{Choice, Rewritten, InOrder}
 

@@ -5,6 +5,7 @@ use mathlib.Core.Option.{Option, none, some}
 use Prim.Native.Nat.{ℕ, _+_, _-_, _*_, _/_}
 use lib.Dec.{ltb}
 use lib.ListN.{length, drop, replicate}
+use Rattle.cows.specs.Limits.{maxBytes, maxListBytes}
 use Rattle.cows.specs.Basics.{placeIf, Result, refuse, accept, _>>=_, _>>_, forbid}
 use Rattle.cows.specs.Cut.{cut}
 use Rattle.cows.specs.Terms.{Term, size, below}
@@ -51,7 +52,7 @@ start t = record { table = t; tally = noTally }
 
 -- It judges each move singly on that table, with 32,768 bytes of output. Refused: table and tally stay. Accepted: the successor is kept and counted.
 unfoldable pub judgement : Run → List ℕ → Result Term
-judgement r m = stepTerm (r .table) m 32768
+judgement r m = stepTerm (r .table) m maxBytes
 
 unfoldable pub enter : Run → Option Move → Result Term → Run
 enter r move (refuse n p) = r
@@ -107,8 +108,8 @@ played t ms = record { last = run (start t) ms; answers = replies (start t) ms }
 unfoldable pub judgePlay : (table moves : List ℕ) → (room slots : ℕ) → Result Played
 judgePlay table moves room slots = do
   t ← judge table
-  forbid 19 (placeIf (ltb 60000 (length moves)) 0)
-  forbid 21 (placeIf (ltb room 32768 || ltb slots (6 * (length moves / 6))) 0)
+  forbid 19 (placeIf (ltb maxListBytes (length moves)) 0)
+  forbid 21 (placeIf (ltb room maxBytes || ltb slots (6 * (length moves / 6))) 0)
   accept (played t (movesOf moves))
 
 unfoldable pub playedReply : Result Played → Reply
@@ -123,7 +124,7 @@ playedTally (accept r) = r .last .tally
 unfoldable pub playedOutput : Result Played → List ℕ → List ℕ
 playedOutput (refuse n p) out = out
 playedOutput (accept r) out =
-    encode (r .last .table) ++ replicate (32768 - 16 * size (r .last .table)) 0 ++ drop 32768 out
+    encode (r .last .table) ++ replicate (maxBytes - 16 * size (r .last .table)) 0 ++ drop maxBytes out
 
 unfoldable pub playedReplies : Result Played → List ℕ → List ℕ
 playedReplies (refuse n p) slots = slots

@@ -5,6 +5,7 @@ use mathlib.Core.Option.{Option}
 use Prim.Native.Nat.{ℕ, _*_}
 use lib.Dec.{ltb, eqb}
 use lib.ListN.{length, drop, getElem?}
+use Rattle.cows.specs.Limits.{maxRecords, maxDepth}
 use Rattle.cows.specs.Basics.{placeIf, only, Result, refuse, accept, _>>=_, _>>_, forbid, need}
 use Rattle.cows.specs.Terms.{Term, size, depth}
 use Rattle.cows.specs.Format.{byte, word, encode}
@@ -30,7 +31,7 @@ readMove m =
 
 -- 20: successor over 2,048 records or depth 256.
 unfoldable pub overLimits : Term → Bool
-overLimits s = ltb 2048 (size s) || ltb 256 (depth s)
+overLimits s = ltb maxRecords (size s) || ltb maxDepth (depth s)
 
 -- A move on a term, with no word of an output: refusals 10 to 20.
 unfoldable pub allowed : Term → List ℕ → Result Term

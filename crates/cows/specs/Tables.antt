@@ -5,15 +5,17 @@ use mathlib.Core.Option.{Option, none, some}
 use Prim.Native.Nat.{ℕ, zero, suc, _+_, _%_}
 use lib.Dec.{ltb, eqb}
 use lib.ListN.{length}
+use Rattle.cows.specs.Limits.{maxBytes, maxDepth}
 use Rattle.cows.specs.Basics.{any, member, holds, found, placeIf, firstFrom, Result, accept, _>>=_, _>>_, forbid}
-use Rattle.cows.specs.Cut.{firstFailing}
-use Rattle.cows.specs.Terms.{Term, value, bindable, guard, uses, binders, delimits, delimitsAt, prefixed}
+use Rattle.cows.specs.Terms.{Term, value, bindable, uses, binders, delimits, delimitsAt, prefixed}
+use Rattle.cows.specs.Kinds.{Node, kind, childrenOf, guard}
 use Rattle.cows.specs.Places.{Way, Spot, sub, first, enclosed, frameChooses}
-use Rattle.cows.specs.Format.{Node, rightRecord, node, records, children, decode}
+use Rattle.cows.specs.Format.{rightRecord, node, records, decode}
+use Rattle.cows.specs.Cut.{firstFailing}
 
 -- 1: zero bytes, over 32,768, or not a multiple of 16.
 unfoldable pub wrongLength : List ℕ → Bool
-wrongLength b = eqb (length b) 0 || ltb 32768 (length b) || not (eqb (length b % 16) 0)
+wrongLength b = eqb (length b) 0 || ltb maxBytes (length b) || not (eqb (length b % 16) 0)
 
 -- 2: the first record, of all that there are, that is not right.
 abbrev pub firstWrong : ℕ → List (List ℕ) → Option ℕ
@@ -24,11 +26,11 @@ unfoldable pub misshapen : ℕ → ℕ → List Node → Option ℕ
 misshapen zero n [] = none
 misshapen zero n (r ∷ rs) = some n
 misshapen (suc wanted) n [] = some n
-misshapen (suc wanted) n (r ∷ rs) = misshapen (children r + wanted) (suc n) rs
+misshapen (suc wanted) n (r ∷ rs) = misshapen (childrenOf (kind r) + wanted) (suc n) rs
 
 -- 4: depth over 256; the root has depth 1.
 unfoldable pub tooDeep : ℕ → Spot → Bool
-tooDeep n z = ltb 256 (suc (length (z .way)))
+tooDeep n z = ltb maxDepth (suc (length (z .way)))
 
 -- 5: a choice's child that is no guard.
 unfoldable pub inChoice : Way → Bool

@@ -1,9 +1,10 @@
 -- Terms: the services of COWS with waits (source documents 000 and 001), their atoms, and what is read off them.
-use mathlib.Core.Bool.{Bool, true, false, _&&_, _||_}
+use mathlib.Core.Bool.{Bool, _&&_, _||_}
 use mathlib.Core.List.{List, [], _∷_, _++_}
 use mathlib.Core.Option.{Option, none, some}
 use Prim.Native.Nat.{ℕ, suc, _+_, max}
 use lib.Dec.{leb, ltb, eqb}
+use Rattle.cows.specs.Limits.{firstVariable, firstLabel, noAtom}
 use Rattle.cows.specs.Basics.{holds}
 
 -- The ten kinds of record by their number of children; an atom is a number.
@@ -33,13 +34,13 @@ pub data Term : Type 0 where
 
 -- The three disjoint sets of atoms (01, Records): values, variables, labels. A datum is a value or a variable; 0 is no atom.
 unfoldable pub value : ℕ → Bool
-value a = leb 1 a && ltb a 32768
+value a = leb 1 a && ltb a firstVariable
 
 unfoldable pub variable : ℕ → Bool
-variable a = leb 32768 a && ltb a 49152
+variable a = leb firstVariable a && ltb a firstLabel
 
 unfoldable pub label : ℕ → Bool
-label a = leb 49152 a && ltb a 65536
+label a = leb firstLabel a && ltb a noAtom
 
 unfoldable pub datum : ℕ → Bool
 datum a = value a || variable a
@@ -137,19 +138,6 @@ below (leaf x) = leaf nil
 below (under u t) = t
 below (both j s t) = leaf nil
 
--- A guard is a nil, a receive, a wait, or a choice (01, Records).
-unfoldable pub guard : Term → Bool
-guard (leaf nil) = true
-guard (leaf (kill k)) = false
-guard (leaf (invoke p o ws)) = false
-guard (under (receive p o ws) t) = true
-guard (under (wait n) t) = true
-guard (under protection t) = false
-guard (under (delimitation d) t) = false
-guard (under replication t) = false
-guard (both choice s t) = true
-guard (both parallel s t) = false
-
 -- The atoms that a record uses; a delimitation is no use of its own atom.
 unfoldable pub usesBasic : Basic → List ℕ
 usesBasic nil = []
@@ -185,5 +173,5 @@ atoms (both j s t) = atoms s ++ atoms t
 
 -- (for computed checks) to unfold this is to unfold every definition of this file
 unfoldable pub open-terms : Unit {0}
-unfolding value variable label datum atom size depth kills invokes prefixed receives waits delimits replicates delimitsAtom below guard usesBasic usesPrefix uses optional binders atoms
+unfolding value variable label datum atom size depth kills invokes prefixed receives waits delimits replicates delimitsAtom below usesBasic usesPrefix uses optional binders atoms
 open-terms = tt

@@ -4,13 +4,14 @@ use mathlib.Core.Bool.{Bool, true, false, _&&_, _||_}
 use mathlib.Core.List.{List}
 use Prim.Native.Nat.{ℕ, _+_, _≤_, _<_}
 use lib.ListN.{length}
+use Rattle.cows.specs.Limits.{maxRecords, maxDepth, maxSlots, noInterval}
 use Rattle.cows.specs.Basics.{every, member, All}
-use Rattle.cows.specs.Terms.{Basic, nil, kill, invoke, Prefix, receive, wait, protection, delimitation, replication, Join, choice, parallel, Term, leaf, under, both, value, label, datum, atom, bindable, size, depth, delimitsAtom, guard, usesBasic, usesPrefix, binders}
-use Rattle.cows.specs.Format.{distinct}
+use Rattle.cows.specs.Terms.{Basic, nil, kill, invoke, Prefix, receive, wait, protection, delimitation, replication, Join, choice, parallel, Term, leaf, under, both, value, label, datum, atom, bindable, size, depth, delimitsAtom, usesBasic, usesPrefix, binders}
+use Rattle.cows.specs.Kinds.{distinct, guard}
 
 -- The table of kinds: what each uses. A tuple is at most four values and variables.
 abbrev pub RightTuple : List ℕ → Type 0
-RightTuple ws = (length ws ≤ 4) × (every datum ws ≡ true)
+RightTuple ws = (length ws ≤ maxSlots) × (every datum ws ≡ true)
 
 abbrev pub RightBasic : Basic → Type 0
 RightBasic nil = Unit {0}
@@ -19,7 +20,7 @@ RightBasic (invoke p o ws) = (datum p ≡ true) × (datum o ≡ true) × RightTu
 
 abbrev pub RightPrefix : Prefix → Type 0
 RightPrefix (receive p o ws) = (value p ≡ true) × (value o ≡ true) × RightTuple ws × (distinct ws ≡ true)
-RightPrefix (wait n) = n < 65536
+RightPrefix (wait n) = n < noInterval
 RightPrefix protection = Unit {0}
 RightPrefix (delimitation d) = atom d ≡ true
 RightPrefix replication = Unit {0}
@@ -77,5 +78,5 @@ pub record Formed (t : Term) : Type 0 where
 pub record Within (t : Term) : Type 0 where
   pub right : Right t
   pub formed : Formed t
-  pub small : size t ≤ 2048
-  pub shallow : depth t ≤ 256
+  pub small : size t ≤ maxRecords
+  pub shallow : depth t ≤ maxDepth

@@ -11,7 +11,6 @@ use Rattle.cows.specs.Basics.{placeIf, refuse, accept, _>>_, forbid}
 use Rattle.cows.specs.Terms.{Term, leaf, under, both, size, depth}
 use Rattle.cows.specs.Places.{first}
 use Rattle.cows.specs.Format.{encode}
-use Rattle.cows.specs.Active.{passesLive}
 use Rattle.cows.specs.Moves.{elapse, shorter, elapseBy}
 use Rattle.cows.proofs.Basics.{forbid-accept, same-accept}
 use Rattle.cows.proofs.Format.{length-encode}

@@ -8,8 +8,9 @@ use native.Mathlib.Omega.{arith}
 use lib.ListN.{length, getD, length-map}
 use Rattle.cows.specs.Basics.{placeIf, Result, refuse, accept, _>>=_, _>>_, forbid}
 use Rattle.cows.specs.Terms.{Term, size}
+use Rattle.cows.specs.Kinds.{Node}
 use Rattle.cows.specs.Places.{Spot, spot, first}
-use Rattle.cows.specs.Format.{Bytes, Node, byte, word, rightRecord, node, records, children, decode}
+use Rattle.cows.specs.Format.{Bytes, byte, word, node, records, decode, rightRecord}
 use Rattle.cows.specs.Tables.{firstWrong, misshapen, judgeTerm, judge}
 use Rattle.cows.specs.Step.{stepTerm, judgeStep, reply, stepReply}
 use Rattle.cows.specs.Run.{movesOf, Played, played, judgePlay, playedReply, play}

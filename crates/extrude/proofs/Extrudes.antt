@@ -12,10 +12,11 @@ use lib.ListN.{length, getD, take, drop, length-append, length-drop, drop-of-len
 use borrow.Author.Tests.{eq-eqb, ne-eqb, eqb-true, eqb-false, not-false, lt-ltb, le-ltb}
 use Rattle.cows.specs.Basics.{placeIf, refuse, accept, _>>=_, _>>_, forbid}
 use Rattle.cows.specs.Terms.{Prefix, receive, wait, protection, delimitation, replication, choice, parallel, Term, under, size, depth, prefixed, delimits, atom, label, below}
+use Rattle.cows.specs.Kinds.{prefix, root, kindOf}
 use Rattle.cows.specs.Places.{Frame, inside, leftOf, rightOf, plug, Way, fill, wayTo, sub, frameChooses}
-use Rattle.cows.specs.Format.{byte, word, prefix, root, layout, record16, kindOf, bytes, encode}
+use Rattle.cows.specs.Format.{byte, word, layout, record16, bytes, encode}
 use Rattle.cows.specs.Active.{live, wanted}
-use Rattle.cows.specs.Moves.{fitsPrefix, fitting, exchange, afterExtrude, extrudeAt}
+use Rattle.cows.specs.Moves.{fitting, exchange, afterExtrude, extrudeAt}
 use Rattle.cows.specs.Step.{overLimits}
 use Rattle.cows.proofs.Basics.{never, bind-accept, forbid-accept, same-accept, or-right, or-case, or-false, placeIf-none}
 use Rattle.cows.specs.Records.{At, opens, closes, ahead, behind}

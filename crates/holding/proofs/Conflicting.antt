@@ -10,8 +10,9 @@ use lib.Dec.{ltb}
 use lib.ListN.{length, getD}
 use Rattle.cows.specs.Basics.{holds}
 use Rattle.cows.specs.Terms.{Term, Ends, size, prefixed, receives, below, receiveOf}
+use Rattle.cows.specs.Kinds.{root, kindOf}
 use Rattle.cows.specs.Places.{sub}
-use Rattle.cows.specs.Format.{byte, root, layout, record16, kindOf}
+use Rattle.cows.specs.Format.{byte, layout, record16}
 use Rattle.cows.specs.Moves.{Matching, binds, differs, fit, fewer}
 use Rattle.cows.proofs.Fields.{kind-receive}
 use Rattle.cows.proofs.Stands.{receives-is, prefixed-is}

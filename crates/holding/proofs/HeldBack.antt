@@ -10,7 +10,7 @@ use borrow.Author.Tests.{ltb-true, eqb-true, eq-eqb}
 use Rattle.cows.specs.Basics.{every, holds, found}
 use Rattle.cows.specs.Terms.{kill, Prefix, Term, leaf, size, label, variable, bindable, kills, uses, usesBasic, prefixed, delimits, replicates}
 use Rattle.cows.specs.Places.{Frame, inside, leftOf, rightOf, Way, Spot, spot, wayTo, sub, first, encloses, enclosed}
-use Rattle.cows.specs.Active.{passesLive, onPrefix, live, ready}
+use Rattle.cows.specs.Active.{live, ready}
 use Rattle.cows.specs.Moves.{readyKill, heldBack}
 use Rattle.cows.specs.Within.{Right, Bound, Within}
 use Rattle.cows.proofs.Basics as basics

@@ -12,9 +12,10 @@ use lib.Seq.{getD-set-same, getD-set-other}
 use borrow.Author.Tests.{eqb-true, eq-eqb}
 use Rattle.cows.specs.Basics.{holds, found}
 use Rattle.cows.specs.Terms.{nil, kill, invoke, receive, wait, protection, delimitation, replication, choice, parallel, Term, leaf, under, both, size, label, kills, prefixed, delimits, replicates}
+use Rattle.cows.specs.Kinds.{root, kindOf, readyKind}
 use Rattle.cows.specs.Places.{spot, sub, first, encloses}
-use Rattle.cows.specs.Format.{byte, word, root, layout, record16, kindOf}
-use Rattle.cows.specs.Active.{passesLive, ready}
+use Rattle.cows.specs.Format.{byte, word, layout, record16}
+use Rattle.cows.specs.Active.{ready}
 use Rattle.cows.specs.Moves.{readyKill, heldBack}
 use Rattle.cows.proofs.Basics.{clash, bool-case, not-so, and-none, none-found}
 use Rattle.cows.proofs.Fields.{kind-kill, kind-delimitation, first-kill, first-delimitation}
@@ -22,7 +23,7 @@ use Rattle.cows.proofs.Scans.{passing}
 use Rattle.cows.proofs.Sets.{in-labels, label-range}
 use Rattle.records.proofs.Stands.{holds-kind, holds-word}
 use Rattle.ways.specs.Known.{Table}
-use Rattle.holding.specs.Holding.{readyKind, Blank, Marked, Parties, Sides}
+use Rattle.holding.specs.Holding.{Blank, Marked, Parties, Sides}
 use Rattle.ways.proofs.Tables.{table-ended, table-inside}
 use Rattle.ways.proofs.Seeking.{Seeking, seeking-start, seeking-end, seeking-through, Tells}
 use Rattle.holding.proofs.HeldBack.{passesReady, is-kill, kill-label, kills-labelled, held-none, held-delimitation}

@@ -14,12 +14,13 @@ ghost use Prim.Native.Nat.{_-_, _/_, _<_, _≤_};
 ghost use lib.Dec.{eqb};
 ghost use lib.ListN.{length, getD, set};
 ghost use Rattle.cows.specs.Terms.{Term};
+ghost use Rattle.cows.specs.Kinds.{readyKind};
 ghost use Rattle.cows.specs.Places.{spot, wayTo, first};
 ghost use Rattle.cows.specs.Active.{live};
 ghost use Rattle.cows.specs.Moves.{heldBack};
 ghost use Rattle.records.specs.Answers.{foundOf};
 ghost use Rattle.ways.specs.Known.{Table, Known};
-ghost use Rattle.holding.specs.Holding.{readyKind, Blank, Marked, Parties, Sides};
+ghost use Rattle.holding.specs.Holding.{Blank, Marked, Parties, Sides};
 
 // Whether the way to a ready record may pass a record of this kind.
 pub fn ready_kind(kind: u8) -> bool

@@ -11,8 +11,9 @@ use lib.ListN.{length, getD}
 use borrow.Author.Tests.{ltb-true, leb-true, eqb-true, eqb-false, not-true}
 use Rattle.cows.specs.Basics.{any, member}
 use Rattle.cows.specs.Terms.{delimitation, Term, under, size, value, variable, label, bindable, below, binders, uses, delimits, prefixed}
+use Rattle.cows.specs.Kinds.{root, kindOf}
 use Rattle.cows.specs.Places.{spot, wayTo, sub, enclosed, first}
-use Rattle.cows.specs.Format.{byte, word, root, layout, record16, kindOf}
+use Rattle.cows.specs.Format.{byte, word, layout, record16}
 use Rattle.cows.specs.Tables.{unbound, escaped, again, delimitedBefore, clash}
 use Rattle.cows.proofs.Basics.{clash as refute, bool-case, and-true, or-case, or-false, not-so, holds-some, none-firstFrom}
 use Rattle.cows.proofs.Sets.{variable-range, label-range}

@@ -10,10 +10,11 @@ use lib.Dec.{ltb, leb}
 use lib.ListN.{take, drop}
 use borrow.Author.Tests.{ltb-true, ltb-false, leb-true, leb-false}
 use Rattle.cows.specs.Basics.{every}
-use Rattle.cows.specs.Terms.{kill, receive, wait, protection, delimitation, replication, choice, parallel, Term, leaf, under, both, size, depth, kills, guard, label, variable, bindable, below, uses, usesBasic}
+use Rattle.cows.specs.Terms.{kill, receive, wait, protection, delimitation, replication, choice, parallel, Term, leaf, under, both, size, depth, kills, label, variable, bindable, below, uses, usesBasic}
+use Rattle.cows.specs.Kinds.{guard}
 use Rattle.cows.specs.Places.{inside, leftOf, rightOf, Way, fill, plug, Spot, descend, spot, wayTo, sub, enclosed}
 use Rattle.cows.specs.Format.{encode}
-use Rattle.cows.specs.Active.{live, passesLive, onPrefix}
+use Rattle.cows.specs.Active.{live}
 use Rattle.cows.specs.Allows.{Stands, Live}
 use Rattle.cows.specs.Moves.{halt, haltUnder, haltBoth, afterKill}
 use Rattle.cows.specs.Step.{overLimits}

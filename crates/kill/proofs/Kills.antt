@@ -10,8 +10,9 @@ use lib.ListN.{length, take, drop, length-drop}
 use lib.Seq.{take-all, length-take-le}
 use Rattle.cows.specs.Basics.{refuse, accept, _>>=_}
 use Rattle.cows.specs.Terms.{kill, Term, leaf, size, kills}
+use Rattle.cows.specs.Kinds.{root, kindOf}
 use Rattle.cows.specs.Places.{wayTo, sub}
-use Rattle.cows.specs.Format.{byte, word, root, layout, record16, kindOf, encode}
+use Rattle.cows.specs.Format.{byte, word, layout, record16, encode}
 use Rattle.cows.specs.Active.{live, wanted}
 use Rattle.cows.specs.Allows.{Live}
 use Rattle.cows.specs.Moves.{afterKill, killAt}

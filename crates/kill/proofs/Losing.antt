@@ -8,8 +8,9 @@ use native.Mathlib.Numerals.{add-one}
 use lib.Dec.{leb, ltb}
 use lib.ListN.{length, getD}
 use Rattle.cows.specs.Terms.{Prefix, receive, wait, protection, delimitation, replication, Join, choice, parallel, Term, leaf, under, both, size}
+use Rattle.cows.specs.Kinds.{root, kindOf}
 use Rattle.cows.specs.Places.{sub}
-use Rattle.cows.specs.Format.{byte, root, layout, record16, kindOf}
+use Rattle.cows.specs.Format.{byte, layout, record16}
 use Rattle.cows.proofs.Format.{length-encode}
 use Rattle.cows.proofs.Places.{size-pos, spot-fits}
 use Rattle.records.specs.Ends.{EndsFrom}

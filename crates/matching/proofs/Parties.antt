@@ -5,8 +5,9 @@ use Prim.Native.Nat.{ℕ, _+_, _*_, _≤_, _<_}
 use native.Mathlib.Omega.{arith}
 use lib.ListN.{length, getD}
 use Rattle.cows.specs.Terms.{Term, leaf, under, Ends, size, receiveOf, invokeOf}
+use Rattle.cows.specs.Kinds.{root}
 use Rattle.cows.specs.Places.{sub}
-use Rattle.cows.specs.Format.{byte, word, root, layout, record16}
+use Rattle.cows.specs.Format.{byte, word, layout, record16}
 use Rattle.cows.specs.Within.{Right}
 use Rattle.cows.proofs.Fields.{byte-at, layout-first, layout-second, layout-slot}
 use Rattle.cows.proofs.Stands.{right-at}

@@ -9,8 +9,9 @@ use lib.Dec.{ltb, eqb}
 use borrow.Author.Tests.{le-ltb, eq-eqb}
 use Rattle.cows.specs.Basics.{only, placeIf, Result, refuse, accept, _>>=_, _>>_, forbid, need}
 use Rattle.cows.specs.Terms.{Term, size, depth}
+use Rattle.cows.specs.Kinds.{kindOf}
 use Rattle.cows.specs.Places.{wayTo, sub}
-use Rattle.cows.specs.Format.{kindOf, encode}
+use Rattle.cows.specs.Format.{encode}
 use Rattle.cows.specs.Active.{live, wanted}
 use Rattle.cows.specs.Step.{overLimits}
 use Rattle.cows.proofs.Basics.{clash, same-accept}

@@ -10,10 +10,11 @@ use lib.ListN.{length, getD}
 use mir.Val.{boolByte}
 use Rattle.cows.specs.Basics.{Result, refuse, accept}
 use Rattle.cows.specs.Terms.{Basic, nil, kill, invoke, Prefix, receive, wait, protection, delimitation, replication, Join, choice, parallel, Term, leaf, under, both, size, below}
+use Rattle.cows.specs.Kinds.{root, kindOf, weightOf}
 use Rattle.cows.specs.Places.{sub}
-use Rattle.cows.specs.Format.{byte, root, layout, record16, kindOf, encode}
+use Rattle.cows.specs.Format.{byte, layout, record16, encode}
 use Rattle.cows.specs.Tables.{judge}
-use Rattle.cows.specs.Load.{weightBasic, weight, load}
+use Rattle.cows.specs.Load.{load}
 use Rattle.cows.proofs.Places.{spot-fits, spot-under}
 use Rattle.cows.proofs.Format.{length-encode}
 use Rattle.records.specs.Holds.{Holds}
@@ -25,7 +26,7 @@ use Rattle.ways.proofs.Tables.{table-size, table-ended}
 use Rattle.tables.specs.declared.Reply.{Reply}
 use Rattle.tables.specs.Verdict.{checkReply, Checked}
 use Rattle.stepper.proofs.Stepping.{Read}
-use Rattle.player.specs.Loads.{weighs, weightOf, loadFrom, loadBetween, loadReply}
+use Rattle.player.specs.Loads.{weighs, loadFrom, loadBetween, loadReply}
 
 -- what the first record of a term weighs
 weight-leaf : (x : Basic) → weightOf (kindOf (leaf x)) ≡ weightBasic x

@@ -2,7 +2,8 @@
 ghost use mathlib.Core.Path.{_≡_};
 ghost use Prim.Native.Nat.{_*_, _≤_};
 ghost use lib.ListN.{length};
-ghost use Rattle.player.specs.Loads.{weightOf, loadBetween};
+ghost use Rattle.cows.specs.Kinds.{weightOf};
+ghost use Rattle.player.specs.Loads.{loadBetween};
 
 // What a record of this kind weighs. No branch on the kind, which is hard to predict.
 fn weight(kind: u8) -> u32

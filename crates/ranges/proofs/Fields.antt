@@ -10,7 +10,8 @@ use lib.ListN.{getD}
 use borrow.Author.Tests.{leb-true, ltb-true, le-leb, lt-ltb, eq-eqb}
 use Rattle.cows.specs.Basics.{every}
 use Rattle.cows.specs.Terms.{label, datum, atom}
-use Rattle.cows.specs.Format.{byte, word, unused, interval, distinct, empty4, row, kinds, rowOf, rightRow, rightRecord}
+use Rattle.cows.specs.Kinds.{unused, interval, distinct, empty4, kinds, rowOf}
+use Rattle.cows.specs.Format.{byte, word, rightRow, rightRecord}
 use Rattle.cows.proofs.Basics.{and-true, true-and}
 use Rattle.rows.specs.Rows.{slotRight, tupleRow}
 use Rattle.rows.proofs.Checks.{datum-range, atom-range, tupleTest, invoke-code, receive-code}

@@ -4,7 +4,8 @@ use mathlib.Core.List.{List, [], _∷_}
 use Prim.Native.Nat.{ℕ, _+_, _%_}
 use lib.Dec.{leb, ltb}
 use lib.ListN.{getD}
-use Rattle.cows.specs.Format.{word, distinct}
+use Rattle.cows.specs.Kinds.{distinct}
+use Rattle.cows.specs.Format.{word}
 
 -- the lowest and the greatest number in each field, by the kind (those from 10 on are told apart by themselves) ..
 unfoldable pub kindLowest : List (List ℕ)

@@ -7,8 +7,9 @@ use native.Mathlib.Omega.{arith}
 use lib.ListN.{length, getD, set}
 use lib.Seq.{getD-set-same, getD-set-other}
 use borrow.Author.Tests.{le-leb, ne-eqb}
+use Rattle.cows.specs.Kinds.{childrenOf}
 use Rattle.cows.proofs.Basics.{lt-case}
-use Rattle.records.specs.Ends.{childrenOf, endAt, pickEnd}
+use Rattle.records.specs.Ends.{endAt, pickEnd}
 use Rattle.records.proofs.Shapes.{end-pick}
 use Rattle.readers.specs.Reads.{Reading, Reads, Read}
 use Rattle.readers.specs.Chains.{Chain, Put}

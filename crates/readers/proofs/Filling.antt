@@ -10,11 +10,12 @@ use lib.Dec.{eqb}
 use lib.ListN.{length, getD, set}
 use lib.Seq.{getD-set-same, getD-set-other}
 use borrow.Author.Tests.{lt-ltb, le-ltb, eqb-true}
+use Rattle.cows.specs.Kinds.{childrenOf, guardKind}
 use Rattle.cows.proofs.Basics.{never, clash, bool-case, lt-case}
-use Rattle.records.specs.Ends.{oneIf, childrenOf, endAt, pickEnd}
+use Rattle.records.specs.Ends.{oneIf, endAt, pickEnd}
 use Rattle.records.proofs.Shapes.{end-over, end-pick}
 use Rattle.records.proofs.Laws.{children-two}
-use Rattle.readers.specs.Reads.{byGuard, guardKind, earlierOf, Reads, Filled, Read}
+use Rattle.readers.specs.Reads.{byGuard, earlierOf, Reads, Filled, Read}
 use Rattle.readers.proofs.Readings.{kindAt, joined, reads-out, reads-deep, reads-leaf, reads-one, reads-choice, reads-parallel, reads-noted, reads-guard}
 
 -- The first of faults: of one after the other, and with the record's own place before the rest's.

@@ -10,22 +10,22 @@ use native.Mathlib.Nat.{zero-add}
 use lib.ListN.{length, getD}
 use borrow.Author.Tests.{lt-ltb, le-ltb}
 use Rattle.cows.specs.Basics.{placeIf, orElse}
-use Rattle.cows.specs.Terms.{Basic, Prefix, Join, choice, parallel, Term, leaf, under, both, size, below, guard}
-use Rattle.cows.specs.Format.{kindOf, encode}
+use Rattle.cows.specs.Terms.{Basic, Prefix, Join, choice, parallel, Term, leaf, under, both, size, below}
+use Rattle.cows.specs.Kinds.{guard, kindOf, childrenOf, guardKind}
+use Rattle.cows.specs.Format.{encode}
 use Rattle.cows.specs.Places.{first}
 use Rattle.cows.specs.Tables.{tooDeep, noGuard}
 use Rattle.cows.proofs.Basics.{same-some, orElse-none}
 use Rattle.cows.proofs.Places.{size-pos}
 use Rattle.cows.proofs.Format.{length-encode}
 use Rattle.cows.proofs.Fields.{kind-leaf, kind-prefix, kind-choice, kind-parallel, guard-kind}
-use Rattle.records.specs.Ends.{childrenOf}
 use Rattle.records.specs.Answers.{placeOr}
 use Rattle.records.specs.Rewrites.{Stands}
 use Rattle.records.specs.Holds.{Holds}
 use Rattle.records.proofs.Laws.{children-none, children-one, place-tells}
 use Rattle.records.proofs.Stands.{holds-size, stands-kind, stands-fits, stands-under, stands-left, stands-right}
 use Rattle.readers.proofs.Seeking.{deep-first, fault-first, fault-below}
-use Rattle.readers.specs.Reads.{Reading, guardKind, earlierOf, deepIn, chooses, faultIn, nextOf, About, Reads}
+use Rattle.readers.specs.Reads.{Reading, earlierOf, deepIn, chooses, faultIn, nextOf, About, Reads}
 
 -- the kind of the record at a place: its first byte
 abbrev pub kindAt : List ℕ → ℕ → ℕ

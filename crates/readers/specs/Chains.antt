@@ -3,7 +3,7 @@ use mathlib.Core.Path.{_≡_}
 use mathlib.Core.List.{List}
 use Prim.Native.Nat.{ℕ, _+_, _-_, _*_, _/_, _≤_, _<_}
 use lib.ListN.{length, getD}
-use Rattle.records.specs.Ends.{childrenOf}
+use Rattle.cows.specs.Kinds.{childrenOf}
 
 -- the records from place `at`, of depth d, up to place i have one child each, and none of them is too deep
 pub record Chain (s : List ℕ) (at d i : ℕ) : Type 0 where

@@ -7,7 +7,8 @@ use Prim.Native.Nat.{ℕ, _+_, _*_, _/_, _≤_, _<_}
 use lib.Dec.{ltb, eqb}
 use lib.ListN.{length, getD}
 use Rattle.cows.specs.Basics.{placeIf, orElse}
-use Rattle.cows.specs.Terms.{Join, choice, parallel, Term, leaf, under, both, size, guard}
+use Rattle.cows.specs.Terms.{Join, choice, parallel, Term, leaf, under, both, size}
+use Rattle.cows.specs.Kinds.{guard}
 use Rattle.records.specs.Answers.{placeOr}
 use Rattle.records.specs.Ends.{endAt}
 use Rattle.records.specs.Rewrites.{Stands}

@@ -5,7 +5,8 @@ ghost use mathlib.Core.Path.{_≡_};
 ghost use mathlib.Core.Bool.{true, false, cond};
 ghost use Prim.Native.Nat.{_+_, _/_, _<_, _≤_};
 ghost use lib.ListN.{length};
-ghost use Rattle.readers.specs.Reads.{byGuard, guardKind, earlierOf, Read};
+ghost use Rattle.cows.specs.Kinds.{guardKind};
+ghost use Rattle.readers.specs.Reads.{byGuard, earlierOf, Read};
 ghost use Rattle.readers.specs.Chains.{Chain, Put};
 
 // The greatest depth that a record may have.

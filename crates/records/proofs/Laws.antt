@@ -1,20 +1,17 @@
--- Laws of the numbers that code makes of tests, and of the number of children.
+-- Laws of the numbers that code makes of tests, and of places that may be missing.
 use mathlib.Core.Path.{_≡_, refl, sym, ap}
 use mathlib.Core.Logic.{_≢_}
 use mathlib.Core.Bool.{Bool, true, false}
 use mathlib.Core.List.{[], _∷_}
 use Prim.Native.Nat.{ℕ, zero, suc, _+_, _≤_, _<_}
 use native.Mathlib.Omega.{arith}
-use lib.Dec.{leb, eqb}
 use lib.ListN.{getD}
 use mir.Syntax.{w64}
 use mir.Val.{Fits, boolByte}
-use borrow.Author.Tests.{le-leb, lt-leb, ne-eqb, eqb-true}
 use mathlib.Core.Option.{Option, none, some}
 use Rattle.records.specs.declared.Found.the-variants.{At, Nothing}
 use Rattle.records.specs.Answers.{foundOf, placeOr}
-use Rattle.cows.proofs.Basics.{bool-case, lt-case}
-use Rattle.records.specs.Ends.{oneIf, childrenOf, pickEnd}
+use Rattle.records.specs.Ends.{oneIf, pickEnd}
 
 pub test-sum : (a b : Bool) → (boolByte a + boolByte b ≡ oneIf a + oneIf b) × (boolByte a + boolByte b ≤ 2)
 test-sum true true = (refl, omega arith)
@@ -28,23 +25,6 @@ sum-fits a b = omega (arith, test-sum a b)
 pub test-small : (b : Bool) → oneIf b ≤ 1
 test-small true = omega arith
 test-small false = omega arith
-
--- which kinds have no child, one, or two
-pub children-none : (k : ℕ) → childrenOf k ≡ 0 → k < 3
-unfolding childrenOf
-children-none k e = lt-case (k < 3) k 3 (λ h. h) (λ h. absurd (omega (arith, rw (le-leb 3 k h) at e)))
-
-pub children-one : (k : ℕ) → childrenOf k ≡ 1 → (3 ≤ k) × (k ≢ 5) × (k ≢ 6)
-unfolding childrenOf
-children-one k e = (
-  lt-case (3 ≤ k) k 3 (λ h. absurd (omega (arith, rw (lt-leb 3 k h, ne-eqb k 5 (λ z. omega arith), ne-eqb k 6 (λ z. omega arith)) at e))) (λ h. h),
-  λ z. omega (arith, rw z at e),
-  λ z. omega (arith, rw z at e),
-)
-
-pub children-two : (k : ℕ) → childrenOf k ≡ 2 → k ≢ 5 → k ≡ 6
-unfolding childrenOf
-children-two k e h = bool-case (k ≡ 6) (eqb k 6) (eqb-true k 6) (λ z. absurd (omega (arith, test-small (leb 3 k), rw (ne-eqb k 5 h, z) at e)))
 
 -- the choice among three ends, as a lookup
 pub pick-at : (c x a b : ℕ) → c ≤ 2 → getD (x ∷ a ∷ b ∷ []) c 0 ≡ pickEnd c x a b

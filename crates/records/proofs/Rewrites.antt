@@ -1,17 +1,17 @@
 -- Rewriting (specs/Rewrites), once for every f: what one step of a recursion asks and gives, at a leaf, at one child and at two.
 use mathlib.Core.Path.{_≡_, sym, ap, _∙_}
-use mathlib.Core.Logic.{_≢_}
 use mathlib.Core.List.{List, _++_}
-use Prim.Native.Nat.{ℕ, _+_, _*_, _-_, _≤_, _<_}
+use Prim.Native.Nat.{ℕ, _+_, _*_, _-_, _≤_}
 use native.Mathlib.Omega.{arith}
 use lib.ListN.{length, take, drop, getD, length-append}
 use Rattle.cows.specs.Terms.{Basic, nil, Prefix, Join, Term, leaf, under, both, size}
-use Rattle.cows.specs.Format.{root, record16, encode}
+use Rattle.cows.specs.Kinds.{root, childrenOf}
+use Rattle.cows.specs.Format.{record16, encode}
 use Rattle.cows.proofs.Format.{length-encode}
 use Rattle.records.specs.Rewrites.{put, Stands, Passes, Ready, Done, Rewrites, same, gone}
 use Rattle.records.proofs.Put.{and-then, has-take}
 use Rattle.records.proofs.Shapes.{end-stands}
-use Rattle.records.proofs.Stands.{long, leaf-kind, under-kind, both-kind, stands-kind, stands-record, stands-fits, stands-under, stands-left, stands-right}
+use Rattle.records.proofs.Stands.{long, stands-children, stands-record, stands-fits, stands-under, stands-left, stands-right}
 
 -- what is asked, with the fields that follow filled in
 pub ready : {f : Term → Term} {s : List ℕ} {i : ℕ} {d : List ℕ} {j : ℕ} (t : Term) → Stands s i t → j + length (encode (f t)) ≤ length d → Ready f s i d j
@@ -96,33 +96,33 @@ module _ (f g k : Term → Term) (h : Term → List ℕ) (K : Term → Type 0) (
 
   -- what is asked for the first child, whether there is one or two
   pub first-asks : {s : List ℕ} {i : ℕ} {d d′ : List ℕ} {j j′ : ℕ}
-      → Ready f s i d j → ((t : Term) → Stands s i t → K t) → 3 ≤ getD s i 0 → j′ ≡ j + n → length d′ ≡ length d → Ready g s (i + 16) d′ j′
-  first-asks {s} {i} {d} {d′} {j} {j′} r know kind at keep = go (r .term) (r .stands) (r .room)
+      → Ready f s i d j → ((t : Term) → Stands s i t → K t) → 1 ≤ childrenOf (getD s i 0) → j′ ≡ j + n → length d′ ≡ length d → Ready g s (i + 16) d′ j′
+  first-asks {s} {i} {d} {d′} {j} {j′} r know some at keep = go (r .term) (r .stands) (r .room)
     where
       go : (t : Term) → Stands s i t → j + length (encode (f t)) ≤ length d → Ready g s (i + 16) d′ j′
-      go (leaf x) y room = absurd (omega (arith, stands-kind (leaf x) y, leaf-kind x))
+      go (leaf x) y room = absurd (omega (arith, stands-children (leaf x) y))
       go (under u t) y room = ready t (stands-under u t y) (omega (arith, step-under u t (know (under u t) y)))
       go (both o l m) y room = ready l (stands-left o l m y) (omega (arith, step-both o l m (know (both o l m) y)))
 
   -- what is asked for the second, when the first is rewritten
   pub second-asks : {s : List ℕ} {i : ℕ} {d d′ e : List ℕ} {j j′ p q : ℕ}
-      → Ready f s i d j → Rewrites g s (i + 16) d′ j′ e p q → ((t : Term) → Stands s i t → K t) → 5 ≤ getD s i 0 → getD s i 0 < 7 → j′ ≡ j + n → length e ≡ length d → Ready k s p e q
-  second-asks {s} {i} {d} {d′} {e} {j} {j′} {p} {q} r w know low high at keep = go (r .term) (r .stands) (r .room)
+      → Ready f s i d j → Rewrites g s (i + 16) d′ j′ e p q → ((t : Term) → Stands s i t → K t) → childrenOf (getD s i 0) ≡ 2 → j′ ≡ j + n → length e ≡ length d → Ready k s p e q
+  second-asks {s} {i} {d} {d′} {e} {j} {j′} {p} {q} r w know two at keep = go (r .term) (r .stands) (r .room)
     where
       go : (t : Term) → Stands s i t → j + length (encode (f t)) ≤ length d → Ready k s p e q
-      go (leaf x) y room = absurd (omega (arith, stands-kind (leaf x) y, leaf-kind x))
-      go (under u t) y room = absurd (omega (arith, stands-kind (under u t) y, under-kind u t))
+      go (leaf x) y room = absurd (omega (arith, stands-children (leaf x) y))
+      go (under u t) y room = absurd (omega (arith, stands-children (under u t) y))
       go (both o l m) y room =
           let a = w .done l (stands-left o l m y) in
           ready m (stands-right o l m p (a .next) y) (omega (arith, a .then, step-both o l m (know (both o l m) y)))
 
   pub one-gives : {s : List ℕ} {i : ℕ} {d d′ e : List ℕ} {j j′ p q : ℕ}
       → ((t : Term) → Stands s i t → d′ ≡ put d j (h t)) → Rewrites g s (i + 16) d′ j′ e p q → ((t : Term) → Stands s i t → K t)
-      → 3 ≤ getD s i 0 → getD s i 0 ≢ 5 → getD s i 0 ≢ 6 → j′ ≡ j + n → Rewrites f s i d j e p q
-  one-gives {s} {i} {d} {d′} {e} {j} {j′} {p} {q} w a know some choice parallel at = record { past = omega (arith, a .past); done = go }
+      → childrenOf (getD s i 0) ≡ 1 → j′ ≡ j + n → Rewrites f s i d j e p q
+  one-gives {s} {i} {d} {d′} {e} {j} {j′} {p} {q} w a know one at = record { past = omega (arith, a .past); done = go }
     where
       go : (t : Term) → Stands s i t → Done f t i d j e p q
-      go (leaf x) y = absurd (omega (arith, stands-kind (leaf x) y, leaf-kind x))
+      go (leaf x) y = absurd (omega (arith, stands-children (leaf x) y))
       go (under u t) y =
           let z = know (under u t) y in
           let b = a .done t (stands-under u t y) in
@@ -131,16 +131,16 @@ module _ (f g k : Term → Term) (h : Term → List ℕ) (K : Term → Type 0) (
             then = omega (arith, b .then, step-under u t z);
             bytes = and-then d j j′ (h (under u t)) (encode (g t)) (omega (arith, wide (under u t))) (w (under u t) y) (b .bytes) ∙ ap (put d j) (sym (step (under u t) z));
           }
-      go (both o l m) y = let c = stands-kind (both o l m) y in absurd (omega (arith, c, both-kind o l m))
+      go (both o l m) y = absurd (omega (arith, stands-children (both o l m) y))
 
   pub both-gives : {s : List ℕ} {i : ℕ} {d d′ m e : List ℕ} {j j′ p′ q′ p q : ℕ}
       → ((t : Term) → Stands s i t → d′ ≡ put d j (h t)) → Rewrites g s (i + 16) d′ j′ m p′ q′ → Rewrites k s p′ m q′ e p q → ((t : Term) → Stands s i t → K t)
-      → 5 ≤ getD s i 0 → getD s i 0 < 7 → j′ ≡ j + n → Rewrites f s i d j e p q
-  both-gives {s} {i} {d} {d′} {m} {e} {j} {j′} {p′} {q′} {p} {q} w a b know low high at = record { past = omega (arith, a .past, b .past); done = go }
+      → childrenOf (getD s i 0) ≡ 2 → j′ ≡ j + n → Rewrites f s i d j e p q
+  both-gives {s} {i} {d} {d′} {m} {e} {j} {j′} {p′} {q′} {p} {q} w a b know two at = record { past = omega (arith, a .past, b .past); done = go }
     where
       go : (t : Term) → Stands s i t → Done f t i d j e p q
-      go (leaf x) y = absurd (omega (arith, stands-kind (leaf x) y, leaf-kind x))
-      go (under u t) y = absurd (omega (arith, stands-kind (under u t) y, under-kind u t))
+      go (leaf x) y = absurd (omega (arith, stands-children (leaf x) y))
+      go (under u t) y = absurd (omega (arith, stands-children (under u t) y))
       go (both o l r) y =
           let z = know (both o l r) y in
           let x = a .done l (stands-left o l r y) in

@@ -11,17 +11,19 @@ use lib.ListN.{length, getD, set, drop, length-set, length-drop, length-map, dro
 use lib.Seq.{drop-drop, drop-nil, getD-set-same, getD-set-other}
 use borrow.Author.Tests.{ltb-true, eqb-true, eqb-false}
 use Rattle.cows.specs.Basics.{All}
-use Rattle.cows.specs.Terms.{nil, kill, invoke, receive, wait, protection, delimitation, replication, choice, parallel, Term, leaf, under, both, size}
+use Rattle.cows.specs.Terms.{Term, leaf, under, both, size}
+use Rattle.cows.specs.Kinds.{kinds, Node, childrenOf, kind}
 use Rattle.cows.specs.Places.{sub}
-use Rattle.cows.specs.Format.{byte, rightRecord, kinds, Node, basic, prefix, join, root, layout, record16, kindOf, encode, node, children, records}
+use Rattle.cows.specs.Format.{byte, rightRecord, encode, node, records}
 use Rattle.cows.specs.Tables.{firstWrong, misshapen}
-use Rattle.cows.proofs.Cut.{length-cut, cut-cons, failing-none}
+use Rattle.cows.proofs.Rows.{kind-cases, arity, children-few}
 use Rattle.cows.proofs.Format.{length-encode}
 use Rattle.cows.proofs.Basics.{bool-case, and-true}
-use Rattle.records.specs.Ends.{childrenOf, after, kindsOf, endAt, pickEnd, EndsFrom}
+use Rattle.cows.proofs.Cut.{length-cut, cut-cons, failing-none}
+use Rattle.records.specs.Ends.{after, kindsOf, endAt, pickEnd, EndsFrom}
 use Rattle.records.specs.Rewrites.{Stands}
 use Rattle.records.proofs.Pieces.{first-piece}
-use Rattle.records.proofs.Stands.{long, stands-kind, stands-fits, stands-under, stands-left, stands-right, part-stands}
+use Rattle.records.proofs.Stands.{long, stands-children, stands-fits, stands-under, stands-left, stands-right, part-stands}
 
 -- Terms read from place n on in records rs, with `over` past the last of them.
 module _ {A : Type 0} (wants : A → ℕ) (over : ℕ) where
@@ -160,14 +162,14 @@ module _ (s : List ℕ) where
 abbrev pub Shape : ℕ → ℕ → Option ℕ → Type 0
 Shape e n o = (e ≡ n → o ≡ none) × (e < n → o ≡ some e) × (n < e → o ≡ some n)
 
-shape-after : (over w n : ℕ) (rs : List Node) → n + length rs < over → Shape (after children over w n rs) (n + length rs) (misshapen w n rs)
+shape-after : (over w n : ℕ) (rs : List Node) → n + length rs < over → Shape (after (λ r. childrenOf (kind r)) over w n rs) (n + length rs) (misshapen w n rs)
 unfolding after misshapen
 shape-after over zero n [] h = (λ e. refl, λ l. absurd (omega arith), λ l. absurd (omega arith))
 shape-after over zero n (r ∷ rs) h = (λ e. absurd (omega arith), λ l. refl, λ l. absurd (omega arith))
 shape-after over (suc w) n [] h = (λ e. absurd (omega arith), λ l. absurd (omega arith), λ l. ap some (let z : n ≡ n + 0 = omega arith in z))
 shape-after over (suc w) n (r ∷ rs) h =
     let z : n + length (r ∷ rs) ≡ suc n + length rs = omega arith in
-    rw z (shape-after over (children r + w) (suc n) rs (omega arith))
+    rw z (shape-after over (childrenOf (kind r) + w) (suc n) rs (omega arith))
 
 -- what counts is the numbers of children
 after-numbers : {A : Type 0} (wants : A → ℕ) (over w n : ℕ) (rs : List A) → after wants over w n rs ≡ after (λ c. c) over w n (map wants rs)
@@ -180,65 +182,36 @@ after-numbers wants over (suc w) n (r ∷ rs) = after-numbers wants over (wants 
 after-same : {A B : Type 0} (f : A → ℕ) (g : B → ℕ) (over w n : ℕ) (rs : List A) (ts : List B) → map f rs ≡ map g ts → after f over w n rs ≡ after g over w n ts
 after-same f g over w n rs ts e = after-numbers f over w n rs ∙ (ap (after (λ c. c) over w n) e ∙ sym (after-numbers g over w n ts))
 
-right-children : (b : List ℕ) → rightRecord b ≡ true → childrenOf (byte b 0) ≡ children (node b)
-unfolding rightRecord kinds childrenOf node children
-right-children b h = go (byte b 0) refl (ltb-true (byte b 0) 10 (and-true (ltb (byte b 0) 10) _ h .0))
-  where
-    go : (k : ℕ) → byte b 0 ≡ k → k < 10 → childrenOf (byte b 0) ≡ children (node b)
-    go zero e l = rw e
-    go (suc zero) e l = rw e
-    go (suc (suc zero)) e l = rw e
-    go (suc (suc (suc zero))) e l = rw e
-    go (suc (suc (suc (suc zero)))) e l = rw e
-    go (suc (suc (suc (suc (suc zero))))) e l = rw e
-    go (suc (suc (suc (suc (suc (suc zero)))))) e l = rw e
-    go (suc (suc (suc (suc (suc (suc (suc zero))))))) e l = rw e
-    go (suc (suc (suc (suc (suc (suc (suc (suc zero)))))))) e l = rw e
-    go (suc (suc (suc (suc (suc (suc (suc (suc (suc zero))))))))) e l = rw e
-    go (suc (suc (suc (suc (suc (suc (suc (suc (suc (suc k)))))))))) e l = absurd (omega arith)
+right-kind : (b : List ℕ) → rightRecord b ≡ true → byte b 0 ≡ kind (node b)
+unfolding rightRecord kinds node
+right-kind b h =
+    kind-cases (λ k. byte b 0 ≡ k → k < 10 → byte b 0 ≡ kind (node b))
+    (λ e l. rw e, λ e l. rw e, λ e l. rw e, λ e l. rw e, λ e l. rw e, λ e l. rw e, λ e l. rw e, λ e l. rw e, λ e l. rw e, λ e l. rw e) (λ n e l. absurd (omega arith))
+    (byte b 0) refl (ltb-true (byte b 0) 10 (and-true (ltb (byte b 0) 10) _ h .0))
 
-map-children : (rs : List (List ℕ)) → All (λ b. rightRecord b ≡ true) rs → map childrenOf (map (λ b. byte b 0) rs) ≡ map children (map node rs)
+map-children : (rs : List (List ℕ)) → All (λ b. rightRecord b ≡ true) rs → map childrenOf (map (λ b. byte b 0) rs) ≡ map (λ r. childrenOf (kind r)) (map node rs)
 map-children [] h = refl
-map-children (b ∷ rs) h = rw (right-children b (h .0), map-children rs (h .1))
+map-children (b ∷ rs) h = rw (right-kind b (h .0), map-children rs (h .1))
 
 pub end-shape : (s : List ℕ) → firstWrong 0 (records s) ≡ none → Shape (endAt s 0) (length s / 16) (misshapen 1 0 (map node (records s)))
 unfolding endAt kindsOf
 end-shape s h =
     let l : 0 + length (map node (records s)) ≡ length s / 16 = rw (zero-add, length-map) (length-cut 16 s) in
-    rw (after-same childrenOf children (suc (length s / 16)) 1 0 _ (map node (records s)) (map-children (records s) (failing-none rightRecord 0 (records s) h)), ← l)
+    rw (after-same childrenOf (λ r. childrenOf (kind r)) (suc (length s / 16)) 1 0 _ (map node (records s)) (map-children (records s) (failing-none rightRecord 0 (records s) h)), ← l)
     (shape-after (suc (0 + length (map node (records s)))) 1 0 (map node (records s)) (omega arith))
 
 -- A term that stands at a place ends its size behind it.
-pub node-children : (r : Node) → childrenOf (byte (record16 r) 0) ≡ children r
-unfolding record16 layout byte childrenOf children
-node-children (basic nil) = refl
-node-children (basic (kill k)) = refl
-node-children (basic (invoke p o ws)) = refl
-node-children (prefix (receive p o ws)) = refl
-node-children (prefix (wait n)) = refl
-node-children (prefix protection) = refl
-node-children (prefix (delimitation d)) = refl
-node-children (prefix replication) = refl
-node-children (join choice) = refl
-node-children (join parallel) = refl
-
-few-children : (r : Node) → children r ≤ 2
-unfolding children
-few-children (basic x) = omega arith
-few-children (prefix u) = omega arith
-few-children (join j) = omega arith
-
 module _ (s : List ℕ) where
-  end-first : (t : Term) (m : ℕ) → Stands s (16 * m) t → endAt s m ≡ pickEnd (children (root t)) (suc m) (endAt s (suc m)) (endAt s (endAt s (suc m)))
-  unfolding kindOf
+  end-first : (t : Term) (m : ℕ) → Stands s (16 * m) t → endAt s m ≡ pickEnd (arity t) (suc m) (endAt s (suc m)) (endAt s (endAt s (suc m)))
   end-first t m h =
-      end-pick s m (children (root t)) (omega (arith, long t, stands-fits t h)) (sym (ap childrenOf (stands-kind t h) ∙ node-children (root t))) (few-children (root t))
+      let e = stands-children t h in
+      end-pick s m (arity t) (omega (arith, long t, stands-fits t h)) (sym e) (omega (arith, e, children-few (getD s (16 * m) 0)))
 
   stands-next : (t : Term) (m : ℕ) → Stands s (16 * m + 16) t → Stands s (16 * suc m) t
   stands-next t m h = subst (λ i. Stands s i t) (omega arith) h
 
   pub end-stands : (t : Term) (m : ℕ) → Stands s (16 * m) t → endAt s m ≡ m + size t
-  unfolding size root children pickEnd
+  unfolding size pickEnd
   end-stands (leaf x) m h = end-first (leaf x) m h ∙ omega arith
   end-stands (under u t) m h = end-first (under u t) m h ∙ (end-stands t (suc m) (stands-next t m (stands-under u t h)) ∙ omega arith)
   end-stands (both j l r) m h =

@@ -1,14 +1,15 @@
 -- Terms that stand at a byte of a table (specs/Rewrites): their first record, their children, their places in a table that holds a term.
 use mathlib.Core.Path.{_≡_, refl, ap, subst, _∙_}
-use mathlib.Core.Logic.{_≢_}
 use mathlib.Core.List.{List, _++_, append-nil, flatMap}
 use Prim.Native.Nat.{ℕ, _+_, _*_, _/_, _≤_, _<_}
 use native.Mathlib.Omega.{arith}
 use lib.ListN.{length, take, drop, getD}
-use Rattle.cows.specs.Terms.{Basic, nil, kill, invoke, Prefix, receive, wait, protection, delimitation, replication, Join, choice, parallel, Term, leaf, under, both, size}
+use Rattle.cows.specs.Terms.{Basic, Prefix, Join, Term, leaf, under, both, size}
+use Rattle.cows.specs.Kinds.{basic, prefix, join, root, kindOf, childrenOf}
 use Rattle.cows.specs.Places.{sub}
-use Rattle.cows.specs.Format.{byte, word, basic, prefix, join, nodes, root, layout, record16, kindOf, encode}
+use Rattle.cows.specs.Format.{byte, word, nodes, record16, encode}
 use Rattle.cows.proofs.Places.{size-pos}
+use Rattle.cows.proofs.Rows.{record-kind, arity, children-of}
 use Rattle.cows.proofs.Records.{length-record16}
 use Rattle.cows.proofs.Format.{length-encode}
 use Rattle.cows.proofs.Fields.{append-bytes, first-bytes, table-at, kind-at, word-at}
@@ -32,26 +33,6 @@ encode-both j s t = ap (λ l. record16 (join j) ++ l) (append-bytes (nodes s) (n
 pub long : (t : Term) → 16 ≤ length (encode t)
 long t = omega (arith, length-encode t, size-pos t)
 
--- the kinds by the number of children
-pub leaf-kind : (x : Basic) → kindOf (leaf x) < 3
-unfolding kindOf root record16 layout byte
-leaf-kind nil = omega arith
-leaf-kind (kill k) = omega arith
-leaf-kind (invoke p o ws) = omega arith
-
-pub under-kind : (u : Prefix) (t : Term) → (3 ≤ kindOf (under u t)) × (kindOf (under u t) ≢ 5) × (kindOf (under u t) ≢ 6)
-unfolding kindOf root record16 layout byte
-under-kind (receive p o ws) t = omega arith
-under-kind (wait n) t = omega arith
-under-kind protection t = omega arith
-under-kind (delimitation d) t = omega arith
-under-kind replication t = omega arith
-
-pub both-kind : (j : Join) (s t : Term) → (5 ≤ kindOf (both j s t)) × (kindOf (both j s t) < 7)
-unfolding kindOf root record16 layout byte
-both-kind choice s t = omega arith
-both-kind parallel s t = omega arith
-
 -- A term at byte i of s.
 module _ {s : List ℕ} {i : ℕ} where
   pub stands-first : (t : Term) → Stands s i t → Has s i (record16 (root t))
@@ -64,7 +45,10 @@ module _ {s : List ℕ} {i : ℕ} where
   unfolding kindOf byte
   stands-kind t h =
       let z : i ≡ i + 0 = omega arith in
-      ap (λ k. getD s k 0) z ∙ has-byte (record16 (root t)) 0 (omega (arith, length-record16 (root t))) (stands-first t h)
+      ap (λ k. getD s k 0) z ∙ (has-byte (record16 (root t)) 0 (omega (arith, length-record16 (root t))) (stands-first t h) ∙ record-kind (root t))
+
+  pub stands-children : (t : Term) → Stands s i t → childrenOf (getD s i 0) ≡ arity t
+  stands-children t h = ap childrenOf (stands-kind t h) ∙ children-of t
 
   pub stands-fits : (t : Term) → Stands s i t → i + length (encode t) ≤ length s
   stands-fits t h = has-fits (encode t) (omega (arith, long t)) h

@@ -1,19 +1,17 @@
 -- Where terms end: records in prefix order, each wanting as many terms behind it as it has children.
 use mathlib.Core.Path.{_≡_}
 use Prim.Native.Nat.{ℕ, zero, suc, _+_, _/_, _<_, _≤_}
-use mathlib.Core.Bool.{Bool, true, false, cond, _||_}
+use mathlib.Core.Bool.{Bool, true, false, cond}
 use mathlib.Core.List.{List, [], _∷_, map}
 use lib.ListN.{length, getD, drop}
-use lib.Dec.{leb, eqb}
+use lib.Dec.{eqb}
+use Rattle.cows.specs.Kinds.{childrenOf}
 use Rattle.cows.specs.Format.{byte, records}
 
--- Kinds 3 and up have a child, 5 and 6 one more (01, Records). What it gives for every byte.
+-- 1 where a test holds, else 0
 abbrev pub oneIf : Bool → ℕ
 oneIf true = 1
 oneIf false = 0
-
-unfoldable pub childrenOf : ℕ → ℕ
-childrenOf kind = oneIf (leb 3 kind) + oneIf (eqb kind 5 || eqb kind 6)
 
 -- The place behind so many terms, read from place n on in records of which `wants` tells the children; `over` where the records run out.
 -- Over any kinds of record.

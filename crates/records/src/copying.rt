@@ -3,7 +3,8 @@ ghost use mathlib.Core.Path.{_≡_};
 ghost use Prim.Native.Nat.{_+_, _≤_, _<_};
 ghost use lib.ListN.{length, take, drop};
 ghost use Rattle.cows.specs.Terms.{nil};
-ghost use Rattle.cows.specs.Format.{bytes2, basic, record16};
+ghost use Rattle.cows.specs.Kinds.{basic};
+ghost use Rattle.cows.specs.Format.{bytes2, record16};
 ghost use Rattle.records.specs.Rewrites.{put, Passes, Ready, Rewrites, same, gone};
 
 // Where reading and writing go on.

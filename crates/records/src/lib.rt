@@ -6,9 +6,9 @@ ghost use mathlib.Core.Path.{_≡_};
 ghost use Prim.Native.Nat.{_+_, _-_, _<_, _≤_};
 ghost use lib.Dec.{eqb};
 ghost use lib.ListN.{length};
+ghost use Rattle.cows.specs.Kinds.{childrenOf};
 ghost use Rattle.cows.specs.Format.{word};
 ghost use Rattle.records.specs.Atoms.{classOf, numberOf, isVariable, closedAt, takesVariable, imageOf};
-ghost use Rattle.records.specs.Ends.{childrenOf};
 
 // The three disjoint sets of atoms, each with a type of its own. Atoms are made only by the classifying read.
 pub struct Value(u16);

@@ -9,7 +9,8 @@ use lib.Dec.{eqb}
 use lib.ListN.{length, getD}
 use borrow.Author.Tests.{eq-eqb, ne-eqb, not-true}
 use Rattle.cows.specs.Terms.{nil, variable}
-use Rattle.cows.specs.Format.{byte, word, basic, record16}
+use Rattle.cows.specs.Kinds.{basic}
+use Rattle.cows.specs.Format.{byte, word, record16}
 use Rattle.cows.proofs.Basics.{clash, and-none, or-false}
 use Rattle.cows.proofs.Records.{length-record16}
 use Rattle.records.specs.declared.Atom.{Atom}

@@ -11,8 +11,9 @@ use lib.ListN.{length, getD}
 use borrow.Author.Tests.{eq-eqb, ne-eqb}
 use Rattle.cows.specs.Basics.{any, every, member, holds}
 use Rattle.cows.specs.Terms.{nil, kill, invoke, receive, wait, protection, delimitation, replication, choice, parallel, Term, leaf, under, both, atom, size, delimits, delimitsAtom, optional, binders, atoms}
+use Rattle.cows.specs.Kinds.{Node, basic, prefix, join}
 use Rattle.cows.specs.Places.{wayTo, sub}
-use Rattle.cows.specs.Format.{byte, word, Node, basic, prefix, join, nodes, layout, record16}
+use Rattle.cows.specs.Format.{byte, word, nodes, layout, record16}
 use Rattle.cows.specs.Within.{one, counts}
 use Rattle.cows.specs.Moves.{image, fresh, renaming}
 use Rattle.cows.proofs.Basics.{never, bool-case, cond-case, and-true, or-left, or-right}

@@ -10,7 +10,8 @@ use lib.Seq.{take-take, take-add, drop-at, drop-drop, length-take-le}
 use borrow.Author.Tests.{eq-eqb}
 use Rattle.cows.specs.Basics.{any, member}
 use Rattle.cows.specs.Terms.{Basic, nil, kill, invoke, Prefix, receive, wait, protection, delimitation, replication, choice, parallel, Term, leaf, under, both, size, delimits, usesBasic, usesPrefix, optional, atoms}
-use Rattle.cows.specs.Format.{bytes2, word, Node, basic, prefix, join, nodes, layout, record16, bytes, encode}
+use Rattle.cows.specs.Kinds.{Node, basic, prefix, join}
+use Rattle.cows.specs.Format.{bytes2, word, nodes, layout, record16, bytes, encode}
 use Rattle.cows.specs.Moves.{mapBasic, mapPrefix, mapAtoms}
 use Rattle.cows.proofs.Basics.{or-left, or-right, member-append}
 use Rattle.cows.proofs.Fields.{layout-first, layout-second, layout-slot}

@@ -11,7 +11,8 @@ use lib.Seq.{getD-set-same, getD-set-other}
 use borrow.Author.Tests.{eqb-true, eqb-false, eq-eqb, ne-eqb}
 use Rattle.cows.specs.Basics.{any, every, member}
 use Rattle.cows.specs.Terms.{Basic, nil, kill, invoke, Prefix, receive, wait, protection, delimitation, replication, Join, choice, parallel, Term, leaf, under, both, value, variable, label, datum, atom, size, delimits, usesBasic, usesPrefix, optional, atoms}
-use Rattle.cows.specs.Format.{word, basic, prefix, join, nodes, layout, record16, slots, encode}
+use Rattle.cows.specs.Kinds.{basic, prefix, join}
+use Rattle.cows.specs.Format.{word, nodes, layout, record16, slots, encode}
 use Rattle.cows.specs.Within.{RightBasic, RightPrefix, Right}
 use Rattle.cows.proofs.Basics.{never, bool-case, and-true, true-and, or-left, or-right, or-case, member-append, every-append}
 use Rattle.cows.proofs.Records.{small-atom}

@@ -4,7 +4,8 @@ use mathlib.Core.List.{List, []}
 use Prim.Native.Nat.{ℕ}
 use lib.Dec.{eqb}
 use Rattle.cows.specs.Terms.{nil}
-use Rattle.cows.specs.Format.{byte, word, basic, record16}
+use Rattle.cows.specs.Kinds.{basic}
+use Rattle.cows.specs.Format.{byte, word, record16}
 use Rattle.records.specs.declared.Atom.{Atom}
 use Rattle.records.specs.declared.Atom.the-variants.{None, Value, Variable, Label}
 use Rattle.records.specs.declared.Takes.{Takes}

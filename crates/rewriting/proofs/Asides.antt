@@ -7,17 +7,17 @@ use native.Mathlib.Omega.{arith}
 use lib.ListN.{length, take, drop, getD}
 use borrow.Author.Tests.{lt-ltb, le-ltb}
 use Rattle.cows.specs.Terms.{Basic, Term, leaf, under, both, size}
-use Rattle.cows.specs.Format.{root, encode}
+use Rattle.cows.specs.Kinds.{root, childrenOf}
+use Rattle.cows.specs.Format.{encode}
 use Rattle.cows.specs.Moves.{halt}
 use Rattle.cows.proofs.Format.{length-encode}
-use Rattle.records.specs.Ends.{childrenOf}
 use Rattle.records.specs.Rewrites.{put, Stands, Ready, Rewrites, gone}
-use Rattle.records.proofs.Stands.{under-kind, both-kind, encode-under, encode-both, stands-kind, stands-under, stands-left, stands-right}
+use Rattle.records.proofs.Stands.{encode-under, encode-both, stands-children, stands-under, stands-left, stands-right}
 use Rattle.records.proofs.Rewrites.{Step}
 use Rattle.rewriting.specs.Placed.{Placed}
 use Rattle.rewriting.specs.Halting.{haltAside, placeIn, PlaceOf}
 use Rattle.rewriting.proofs.Placed.{end-placed, first-placed}
-use Rattle.rewriting.proofs.Children.{head, Two, two, first-child, second-child, two-children, one-child}
+use Rattle.rewriting.proofs.Children.{head, first-child, second-child, two-children, one-child}
 
 -- the way ends here
 pub aside-here : (n : ℕ) (t : Term) → n ≡ 0 → haltAside n t ≡ gone t
@@ -53,15 +53,15 @@ aside-second k n m e (both j l r) h =
 
 -- what a branch knows of the term tells its kind
 module _ {s : List ℕ} {i : ℕ} where
-  first-kind : (n : ℕ) (t : Term) → Stands s i t → InFirst n t → 3 ≤ getD s i 0
+  first-kind : (n : ℕ) (t : Term) → Stands s i t → InFirst n t → 1 ≤ childrenOf (getD s i 0)
   first-kind n (leaf x) y h = absurd h
-  first-kind n (under u t) y h = omega (arith, stands-kind (under u t) y, under-kind u t)
-  first-kind n (both o l r) y h = omega (arith, stands-kind (both o l r) y, both-kind o l r)
+  first-kind n (under u t) y h = omega (arith, stands-children (under u t) y)
+  first-kind n (both o l r) y h = omega (arith, stands-children (both o l r) y)
 
-  second-kind : (n m : ℕ) (t : Term) → Stands s i t → InSecond n m t → Two (getD s i 0)
+  second-kind : (n m : ℕ) (t : Term) → Stands s i t → InSecond n m t → childrenOf (getD s i 0) ≡ 2
   second-kind n m (leaf x) y h = absurd h
   second-kind n m (under u t) y h = absurd h
-  second-kind n m (both o l r) y h = omega (arith, stands-kind (both o l r) y, both-kind o l r)
+  second-kind n m (both o l r) y h = stands-children (both o l r) y
 
 -- The byte a below the term at byte i: what the calls are asked and what they give.
 module _ {s ends : List ℕ} {i a : ℕ} {d : List ℕ} {j : ℕ}
@@ -83,27 +83,27 @@ module _ {s ends : List ℕ} {i a : ℕ} {d : List ℕ} {j : ℕ}
     in-first (under u t) y = tt
     in-first (both o m q) y = omega (arith, first-end m (stands-left o m q y), length-encode m)
 
-    low : 3 ≤ getD s i 0
-    low = first-kind _ (r .term) (r .stands) (in-first (r .term) (r .stands))
+    some : 1 ≤ childrenOf (getD s i 0)
+    some = first-kind _ (r .term) (r .stands) (in-first (r .term) (r .stands))
 
     step : (t : Term) → InFirst (placeIn (i + 16) a) t → Step (haltAside (placeIn i a)) (haltAside (placeIn (i + 16) a)) halt (head t) t
     step = aside-first (placeIn i a) (placeIn (i + 16) a) further
 
     pub way-first-asks : {d′ : List ℕ} {j′ : ℕ} → j′ ≡ j + 16 → length d′ ≡ length d → Ready (haltAside (placeIn (i + 16) a)) s (i + 16) d′ j′ × PlaceOf s ends (i + 16) a
     way-first-asks at keep = (
-      first-child _ _ halt _ step r (b .at) in-first low at keep .0,
+      first-child _ _ halt _ step r (b .at) in-first some at keep .0,
       record { at = first-placed (b .at); from = omega arith; before = h; whole = b .whole },
     )
 
     module _ {d′ e : List ℕ} {j′ p q : ℕ} (w : Rewrites (haltAside (placeIn (i + 16) a)) s (i + 16) d′ j′ e p q) (at : j′ ≡ j + 16) where
       pub halt-second-asks : childrenOf (getD s i 0) ≡ 2 → length e ≡ length d → Ready halt s p e q × Placed s ends p
-      halt-second-asks c keep = second-child _ _ halt _ step r (b .at) in-first low w at (two _ c) keep
+      halt-second-asks c keep = second-child _ _ halt _ step r (b .at) in-first some w at c keep
 
       pub way-first-both : {e′ : List ℕ} {p′ q′ : ℕ} → childrenOf (getD s i 0) ≡ 2 → d′ ≡ put d j (take 16 (drop i s)) → Rewrites halt s p e q e′ p′ q′ → Rewrites (haltAside (placeIn i a)) s i d j e′ p′ q′
-      way-first-both c x v = two-children _ _ halt _ step r (b .at) in-first low w at (two _ c) x v
+      way-first-both c x v = two-children _ _ halt _ step r (b .at) in-first some w at c x v
 
       pub way-first-one : childrenOf (getD s i 0) ≢ 2 → d′ ≡ put d j (take 16 (drop i s)) → Rewrites (haltAside (placeIn i a)) s i d j e p q
-      way-first-one c x = one-child _ _ halt _ step r (b .at) in-first low w at c x
+      way-first-one c x = one-child _ _ halt _ step r (b .at) in-first some w at c x
 
   -- a is a place of the second child, which stands at byte p: the first is halted, and the way goes on in the second
   module _ (h : 16 * getD ends ((i + 16) / 16) 0 ≤ a) where
@@ -115,7 +115,7 @@ module _ {s ends : List ℕ} {i a : ℕ} {d : List ℕ} {j : ℕ}
     in-second p at (both o m q) y =
         let z = stands-left o m q y in omega (arith, at m z, first-end m z, length-encode m)
 
-    kinds : Two (getD s i 0)
+    kinds : childrenOf (getD s i 0) ≡ 2
     kinds = second-kind _ _ (r .term) (r .stands) (in-second _ first-end (r .term) (r .stands))
 
     rest : (p : ℕ) (t : Term) → InSecond (placeIn (i + 16) a) (placeIn p a) t → Step (haltAside (placeIn i a)) halt (haltAside (placeIn p a)) (head t) t

@@ -8,16 +8,17 @@ use native.Mathlib.Omega.{arith}
 use lib.Dec.{ltb, eqb}
 use lib.ListN.{length, take, drop, getD}
 use borrow.Author.Tests.{le-ltb, ltb-false, eqb-true, eqb-false}
-use Rattle.cows.specs.Terms.{receive, wait, protection, delimitation, replication, Term, leaf, under, both, below}
-use Rattle.cows.specs.Active.{passesLive}
-use Rattle.cows.specs.Format.{bytes2, byte, word, prefix, root, layout, record16, kindOf}
+use Rattle.cows.specs.Terms.{receive, wait, protection, delimitation, replication, choice, parallel, Term, leaf, under, both, below}
+use Rattle.cows.specs.Kinds.{prefix, root, kindOf, open-kinds}
+use Rattle.cows.specs.Format.{bytes2, word, layout, record16}
 use Rattle.cows.specs.Moves.{lower, elapse}
 use Rattle.cows.proofs.Basics.{or-false, or-second}
+use Rattle.cows.proofs.Rows.{children-some}
 use Rattle.cows.proofs.Fields.{kind-wait, interval-wait}
 use Rattle.records.specs.Rewrites.{put, Has, Stands, Passes, Ready, Rewrites, same}
 use Rattle.records.proofs.Put.{and-then, has-left, has-take}
 use Rattle.records.proofs.Pieces.{word-piece}
-use Rattle.records.proofs.Stands.{encode-leaf, encode-under, both-kind, encode-both, stands-kind, stands-first, stands-record}
+use Rattle.records.proofs.Stands.{encode-leaf, encode-under, encode-both, stands-kind, stands-first, stands-record}
 use Rattle.records.proofs.Rewrites.{Step, first-asks, one-gives}
 use Rattle.rewriting.specs.Placed.{Placed}
 use Rattle.rewriting.proofs.Placed.{first-placed, passes-placed}
@@ -45,29 +46,30 @@ Through t = Passed (kindOf t)
 
 module _ (d : ℕ) where
   pub elapse-still : (t : Term) → Still t → elapse d t ≡ same t
-  unfolding elapse lower passesLive kindOf root record16 layout byte
+  unfolding elapse lower open-kinds
   elapse-still (leaf x) h = refl
   elapse-still (under (receive p o ws) t) h = refl
   elapse-still (under (wait n) t) h = absurd (omega (arith, h (omega arith)))
   elapse-still (under protection t) h = absurd (omega (arith, h (omega arith)))
   elapse-still (under (delimitation a) t) h = absurd (omega (arith, h (omega arith)))
   elapse-still (under replication t) h = refl
-  elapse-still (both j l r) h = absurd (omega (arith, both-kind j l r, h (omega (arith, both-kind j l r))))
+  elapse-still (both choice l r) h = absurd (omega (arith, h (omega arith)))
+  elapse-still (both parallel l r) h = absurd (omega (arith, h (omega arith)))
 
   pub elapse-wait : (t : Term) → Wait t → Step (elapse d) same same (head (elapse d t)) t
-  unfolding elapse lower passesLive root
+  unfolding elapse lower open-kinds
   elapse-wait t h =
       let (n, e) = kind-wait t h in
       subst (λ r. Step (elapse d) same same (head (elapse d r)) r) (sym e) (encode-under (wait (n - d)) (below t))
 
   pub elapse-through : (t : Term) → Through t → Step (elapse d) (elapse d) (elapse d) (head t) t
-  unfolding elapse lower passesLive kindOf root
+  unfolding elapse lower open-kinds
   elapse-through (leaf x) h = encode-leaf x
-  elapse-through (under (receive p o ws) t) h = absurd (unfold record16 layout byte in omega arith)
-  elapse-through (under (wait n) t) h = absurd (unfold record16 layout byte in omega arith)
+  elapse-through (under (receive p o ws) t) h = absurd (omega arith)
+  elapse-through (under (wait n) t) h = absurd (omega arith)
   elapse-through (under protection t) h = encode-under protection (elapse d t)
   elapse-through (under (delimitation a) t) h = encode-under (delimitation a) (elapse d t)
-  elapse-through (under replication t) h = absurd (unfold record16 layout byte in omega arith)
+  elapse-through (under replication t) h = absurd (omega arith)
   elapse-through (both j l r) h = encode-both j (elapse d l) (elapse d r)
 
 -- a wait's record is 14 bytes and its interval
@@ -110,10 +112,10 @@ module _ {s : List ℕ} {i : ℕ} {d : List ℕ} {j : ℕ} (x : ℕ) (k : getD s
   pub continuation-asks : {ends d′ : List ℕ} {j′ p : ℕ} → Ready (elapse x) s i d j → Placed s ends i → j′ ≡ j + 16 → length d′ ≡ length d → p ≡ 16 * getD ends ((i + 16) / 16) 0
       → Ready same s (i + 16) d′ j′ × Passes s (i + 16) p
   continuation-asks {d′ = d′} {j′ = j′} r l at keep e =
-      let a : Ready same s (i + 16) d′ j′ = first-asks (elapse x) same same (λ t. head (elapse x t)) Wait 16 (λ t. length-head (elapse x t)) (elapse-wait x) r (wait-at k) (omega arith) at keep in
+      let a : Ready same s (i + 16) d′ j′ = first-asks (elapse x) same same (λ t. head (elapse x t)) Wait 16 (λ t. length-head (elapse x t)) (elapse-wait x) r (wait-at k) (children-some _ (omega arith)) at keep in
       (a, passes-placed (first-placed l) a e)
 
   pub wait-gives : {d′ e : List ℕ} {j′ p q : ℕ} → ((t : Term) → Stands s i t → Wait t → d′ ≡ put d j (head (elapse x t))) → Rewrites same s (i + 16) d′ j′ e p q → j′ ≡ j + 16 → Rewrites (elapse x) s i d j e p q
   wait-gives b w at =
       one-gives (elapse x) same same (λ t. head (elapse x t)) Wait 16 (λ t. length-head (elapse x t)) (elapse-wait x) (λ t y. b t y (wait-at k t y)) w (wait-at k)
-      (omega arith) (λ z. omega arith) (λ z. omega arith) at
+      (rw k (unfold open-kinds in refl)) at

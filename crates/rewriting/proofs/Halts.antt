@@ -5,12 +5,13 @@ use mathlib.Core.List.{List}
 use Prim.Native.Nat.{ℕ, _≤_, _<_}
 use native.Mathlib.Omega.{arith}
 use lib.ListN.{getD}
-use Rattle.cows.specs.Terms.{receive, wait, protection, delimitation, replication, choice, parallel, Term, leaf, under, both}
-use Rattle.cows.specs.Format.{byte, root, layout, record16, kindOf}
+use Rattle.cows.specs.Terms.{nil, kill, invoke, receive, wait, protection, delimitation, replication, choice, parallel, Term, leaf, under, both}
+use Rattle.cows.specs.Kinds.{root, kindOf, open-kinds}
+use Rattle.cows.specs.Format.{record16}
 use Rattle.cows.specs.Moves.{haltUnder, haltBoth, halt}
 use Rattle.cows.proofs.Fields.{kind-is}
 use Rattle.records.specs.Rewrites.{Stands, same, gone}
-use Rattle.records.proofs.Stands.{leaf-kind, encode-under, encode-both, stands-kind}
+use Rattle.records.proofs.Stands.{encode-under, encode-both, stands-kind}
 use Rattle.records.proofs.Rewrites.{Step}
 
 -- the kinds of which halting makes nil, which it keeps whole, and which it goes through
@@ -24,7 +25,7 @@ abbrev pub Through : Term → Type 0
 Through t = (6 ≤ kindOf t) × (kindOf t ≢ 7)
 
 pub halt-gone : (t : Term) → Gone t → halt t ≡ gone t
-unfolding halt haltUnder haltBoth kindOf root record16 layout byte
+unfolding halt haltUnder haltBoth open-kinds
 halt-gone (leaf x) h = refl
 halt-gone (under (receive p o ws) t) h = refl
 halt-gone (under (wait n) t) h = refl
@@ -39,14 +40,16 @@ unfolding halt haltUnder
 halt-kept t h = subst (λ r. halt r ≡ r) (sym (kind-is 7 t h)) refl
 
 pub halt-step : (t : Term) → Through t → Step halt halt halt (record16 (root t)) t
-unfolding halt haltUnder haltBoth kindOf root
-halt-step (leaf x) h = absurd (omega (arith, leaf-kind x))
-halt-step (under (receive p o ws) t) h = absurd (unfold record16 layout byte in omega arith)
-halt-step (under (wait n) t) h = absurd (unfold record16 layout byte in omega arith)
-halt-step (under protection t) h = absurd (unfold record16 layout byte in omega arith)
+unfolding halt haltUnder haltBoth open-kinds
+halt-step (leaf nil) h = absurd (omega arith)
+halt-step (leaf (kill k)) h = absurd (omega arith)
+halt-step (leaf (invoke p o ws)) h = absurd (omega arith)
+halt-step (under (receive p o ws) t) h = absurd (omega arith)
+halt-step (under (wait n) t) h = absurd (omega arith)
+halt-step (under protection t) h = absurd (omega arith)
 halt-step (under (delimitation d) t) h = encode-under (delimitation d) (halt t)
 halt-step (under replication t) h = encode-under replication (halt t)
-halt-step (both choice l r) h = absurd (unfold record16 layout byte in omega arith)
+halt-step (both choice l r) h = absurd (omega arith)
 halt-step (both parallel l r) h = encode-both parallel (halt l) (halt r)
 
 -- the kind, read at a byte, is that of the term there

@@ -7,10 +7,11 @@ use native.Mathlib.Omega.{arith}
 use lib.Dec.{ltb}
 use borrow.Author.Tests.{eq-eqb}
 use Rattle.cows.specs.Basics.{any, every, holds}
-use Rattle.cows.specs.Terms.{Basic, nil, kill, invoke, Prefix, receive, wait, protection, delimitation, replication, Join, choice, parallel, Term, leaf, under, both, size, delimits, delimitsAtom, guard}
-use Rattle.cows.specs.Places.{Frame, inside, leftOf, rightOf, plug, Way, fill, Spot, descend, spot, wayTo, sub, frameDelimits, enclosed}
+use Rattle.cows.specs.Terms.{Basic, nil, kill, invoke, Prefix, receive, wait, protection, delimitation, replication, Join, choice, parallel, Term, leaf, under, both, size, delimits, delimitsAtom}
+use Rattle.cows.specs.Kinds.{guard, open-kinds}
+use Rattle.cows.specs.Places.{Frame, inside, leftOf, rightOf, plug, Way, fill, Spot, descend, spot, wayTo, sub, frameDelimits, enclosed, passed}
 use Rattle.cows.specs.Within.{Guarded, one, counts, Within}
-use Rattle.cows.specs.Active.{passesLive, onPrefix, live}
+use Rattle.cows.specs.Active.{live, onKind}
 use Rattle.cows.specs.Moves.{haltBeside, haltInside, afterKill}
 use Rattle.cows.specs.Allows.{Stands, Live}
 use Rattle.cows.proofs.Basics.{never, cond-case, cond-case₂, and-true, or-false, not-so, every-append}
@@ -36,7 +37,7 @@ pub no-both : {j : Join} {s t : Term} {x : Basic} → both j s t ≡ leaf x → 
 no-both e = let z : _≡_ {A = ℕ} 0 1 = cc in omega arith
 
 pub guard-kill : (w : Way) (s : Term) (n k : ℕ) → guard s ≡ true → Guarded s → live (descend w s n .way) ≡ true → descend w s n .here ≡ leaf (kill k) → ⊥
-unfolding guard descend live every onPrefix passesLive
+unfolding descend live every onKind passed open-kinds
 guard-kill w (leaf nil) n k g h l e = let z : _≡_ {A = ℕ} 0 1 = cc in omega arith
 guard-kill w (leaf (kill i)) n k g h l e = never g
 guard-kill w (leaf (invoke p o ws)) n k g h l e = never g
@@ -56,7 +57,7 @@ guard-kill w (both parallel s t) n k g h l e = never g
 -- So the way to a live kill passes no choice, and what is beside the way is halted.
 aside-fill : (w : Way) (t : Term) (n k : ℕ) → Guarded t → live (descend w t n .way) ≡ true → descend w t n .here ≡ leaf (kill k)
     → fill (map haltBeside (descend w t n .way)) (leaf nil) ≡ fill (map haltBeside w) (haltAside n t)
-unfolding descend haltAside fill plug haltBeside
+unfolding descend haltAside fill plug haltBeside open-kinds
 aside-fill w (leaf x) n k g l e = refl
 aside-fill w (under u t) zero k g l e = absurd (no-under e)
 aside-fill w (under u t) (suc n) k g l e = aside-fill (inside u ∷ w) t n k g l e

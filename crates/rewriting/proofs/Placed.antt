@@ -5,6 +5,7 @@ use Prim.Native.Nat.{ℕ, _+_, _*_, _/_, _≤_, _<_}
 use native.Mathlib.Omega.{arith}
 use lib.ListN.{length, getD}
 use Rattle.cows.specs.Terms.{Term, leaf, under, both, size}
+use Rattle.cows.specs.Kinds.{childrenOf}
 use Rattle.cows.specs.Places.{sub}
 use Rattle.cows.specs.Format.{encode}
 use Rattle.cows.proofs.Format.{length-encode}
@@ -12,7 +13,7 @@ use Rattle.records.specs.Ends.{EndsFrom}
 use Rattle.records.specs.Holds.{Holds}
 use Rattle.records.specs.Rewrites.{Stands, Passes, Ready, Rewrites}
 use Rattle.records.proofs.Shapes.{end-stands}
-use Rattle.records.proofs.Stands.{long, leaf-kind, under-kind, stands-kind, stands-fits, stands-left, holds-stands}
+use Rattle.records.proofs.Stands.{long, stands-children, stands-fits, stands-left, holds-stands}
 use Rattle.records.proofs.Rewrites.{passes}
 use Rattle.rewriting.specs.Placed.{Placed}
 use Rattle.rewriting.specs.Halting.{PlaceOf}
@@ -39,12 +40,12 @@ module _ {s ends : List ℕ} {i : ℕ} (l : Placed s ends i) where
 
   -- the second child, when the first is rewritten
   pub second-placed : {f g : Term → Term} {d d′ e : List ℕ} {j j′ p q : ℕ}
-      → Ready f s i d j → Rewrites g s (i + 16) d′ j′ e p q → 5 ≤ getD s i 0 → getD s i 0 < 7 → Placed s ends p
-  second-placed {p = p} r w low high = go (r .term) (r .stands)
+      → Ready f s i d j → Rewrites g s (i + 16) d′ j′ e p q → childrenOf (getD s i 0) ≡ 2 → Placed s ends p
+  second-placed {p = p} r w two = go (r .term) (r .stands)
     where
       go : (t : Term) → Stands s i t → Placed s ends p
-      go (leaf x) y = absurd (omega (arith, stands-kind (leaf x) y, leaf-kind x))
-      go (under u t) y = absurd (omega (arith, stands-kind (under u t) y, under-kind u t))
+      go (leaf x) y = absurd (omega (arith, stands-children (leaf x) y))
+      go (under u t) y = absurd (omega (arith, stands-children (under u t) y))
       go (both o m v) y = record { from = l .from; whole = omega (arith, w .done m (stands-left o m v y) .next, length-encode m) }
 
 -- the parts of the term that a table holds

@@ -9,7 +9,8 @@ use lib.ListN.{take, drop, take-append-drop}
 use borrow.Author.Tests.{eqb-true, leb-true, ltb-true, eq-eqb, ne-eqb, le-leb, lt-leb, lt-ltb, le-ltb}
 use Rattle.cows.specs.Basics.{any, every, member}
 use Rattle.cows.specs.Terms.{value, variable, label, datum, atom}
-use Rattle.cows.specs.Format.{byte, word, unused, interval, distinct, data4, pattern4, empty4, row, kinds, rowOf, slots, rightRow, rightRecord}
+use Rattle.cows.specs.Kinds.{unused, interval, distinct, data4, pattern4, empty4, kinds, rowOf}
+use Rattle.cows.specs.Format.{byte, word, slots, rightRow, rightRecord}
 use Rattle.cows.proofs.Basics.{and-true as and-parts, true-and, lt-case, same-test, member-append}
 use Rattle.cows.proofs.Sets.{variable-range}
 use Rattle.rows.specs.Rows.{quad, inRange, slotRight, tupleRow, plainRight}

@@ -4,7 +4,8 @@ use mathlib.Core.Bool.{Bool, cond, _&&_}
 use mathlib.Core.List.{List}
 use lib.Dec.{leb, ltb, eqb}
 use Rattle.cows.specs.Terms.{datum}
-use Rattle.cows.specs.Format.{word, unused, data4, Row, row}
+use Rattle.cows.specs.Kinds.{unused, data4, Row}
+use Rattle.cows.specs.Format.{word}
 
 -- the 64-bit number at byte k
 unfoldable pub quad : List ℕ → ℕ → ℕ

@@ -7,7 +7,8 @@ ghost use Prim.Native.Nat.{_+_, _*_, _<_};
 ghost use lib.ListN.{length, take, drop};
 ghost use lib.Dec.{eqb};
 ghost use Rattle.cows.specs.Terms.{variable};
-ghost use Rattle.cows.specs.Format.{word, distinct, rightRow, rightRecord};
+ghost use Rattle.cows.specs.Kinds.{distinct};
+ghost use Rattle.cows.specs.Format.{word, rightRow, rightRecord};
 ghost use Rattle.rows.specs.Rows.{quad, slotRight, tupleRow, plainRight};
 
 fn wide8(x: u8) -> u64

@@ -9,8 +9,9 @@ use lib.Dec.{ltb, leb}
 use borrow.Author.Tests.{lt-ltb, le-ltb, le-leb, lt-leb, ne-eqb}
 use Rattle.cows.specs.Basics.{member, holds}
 use Rattle.cows.specs.Terms.{delimitation, Term, under, size, prefixed, delimits, binders}
+use Rattle.cows.specs.Kinds.{root, kindOf}
 use Rattle.cows.specs.Places.{spot, sub}
-use Rattle.cows.specs.Format.{byte, root, layout, record16, kindOf}
+use Rattle.cows.specs.Format.{byte, layout, record16}
 use Rattle.cows.specs.Tables.{delimitedBefore, again}
 use Rattle.cows.specs.Within.{one}
 use Rattle.cows.proofs.Basics.{lt-case}

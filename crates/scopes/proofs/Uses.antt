@@ -12,8 +12,9 @@ use lib.Seq.{take-suc}
 use borrow.Author.Tests.{lt-ltb, le-ltb, le-leb, lt-leb, ne-eqb, eqb-true, eqb-false}
 use Rattle.cows.specs.Basics.{any, every, member}
 use Rattle.cows.specs.Terms.{nil, kill, invoke, receive, wait, protection, delimitation, replication, choice, parallel, Term, leaf, under, both, size, value, variable, label, datum, atom, bindable, below, binders, uses, usesBasic, usesPrefix}
+use Rattle.cows.specs.Kinds.{root, kindOf}
 use Rattle.cows.specs.Places.{spot, wayTo, sub, enclosed}
-use Rattle.cows.specs.Format.{byte, word, root, layout, record16, kindOf}
+use Rattle.cows.specs.Format.{byte, word, layout, record16}
 use Rattle.cows.specs.Tables.{unbound, escaped}
 use Rattle.cows.proofs.Basics.{lt-case, and-true, true-and, or-left, or-right, or-false, or-none, or-case, any-append}
 use Rattle.cows.proofs.Sets.{set-case, value-range, variable-range, label-range}

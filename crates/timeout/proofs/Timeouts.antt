@@ -11,8 +11,9 @@ use lib.ListN.{length, getD}
 use borrow.Author.Tests.{ne-eqb}
 use Rattle.cows.specs.Basics.{placeIf, refuse, accept, _>>=_, _>>_, forbid}
 use Rattle.cows.specs.Terms.{wait, Term, under, size, prefixed, waits, below}
+use Rattle.cows.specs.Kinds.{root, kindOf}
 use Rattle.cows.specs.Places.{wayTo, sub}
-use Rattle.cows.specs.Format.{byte, word, root, layout, record16, kindOf, encode}
+use Rattle.cows.specs.Format.{byte, word, layout, record16, encode}
 use Rattle.cows.specs.Active.{live, wanted}
 use Rattle.cows.specs.Moves.{continue, timeoutAt}
 use Rattle.cows.proofs.Basics.{bind-accept, forbid-accept, same-accept}

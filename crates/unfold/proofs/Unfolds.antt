@@ -12,8 +12,9 @@ use lib.Seq.{take-all, drop-at, drop-drop, length-take-le}
 use borrow.Author.Tests.{ltb-true, ltb-false, lt-ltb}
 use Rattle.cows.specs.Basics.{refuse, accept, _>>=_}
 use Rattle.cows.specs.Terms.{replication, parallel, Term, leaf, under, both, size, depth, prefixed, replicates, below}
+use Rattle.cows.specs.Kinds.{join, root, kindOf}
 use Rattle.cows.specs.Places.{wayTo, sub}
-use Rattle.cows.specs.Format.{byte, join, root, layout, record16, kindOf, encode}
+use Rattle.cows.specs.Format.{byte, layout, record16, encode}
 use Rattle.cows.specs.Active.{live, wanted}
 use Rattle.cows.specs.Within.{Within}
 use Rattle.cows.specs.Moves.{mapAtoms, copy, afterUnfold, unfoldAt}

@@ -1,17 +1,17 @@
 -- The depth of the term at a place, by the terms below it.
-use mathlib.Core.Path.{_≡_, refl, ap, subst, _∙_}
+use mathlib.Core.Path.{_≡_, refl, subst, _∙_}
 use mathlib.Core.Logic.{_≢_}
 use mathlib.Core.List.{List}
 use Prim.Native.Nat.{ℕ, _+_, _*_, _≤_, _<_, max}
 use native.Mathlib.Omega.{arith}
 use lib.ListN.{getD}
 use Rattle.cows.specs.Terms.{Join, Term, leaf, under, both, size, depth}
-use Rattle.cows.specs.Format.{root, kindOf, children}
+use Rattle.cows.specs.Kinds.{childrenOf}
 use Rattle.cows.proofs.Format.{length-encode}
-use Rattle.records.specs.Ends.{childrenOf, EndsFrom}
+use Rattle.records.specs.Ends.{EndsFrom}
 use Rattle.records.specs.Rewrites.{Stands}
-use Rattle.records.proofs.Stands.{long, stands-kind, stands-fits, stands-under, stands-left, stands-right}
-use Rattle.records.proofs.Shapes.{node-children, end-stands}
+use Rattle.records.proofs.Stands.{long, stands-children, stands-fits, stands-under, stands-left, stands-right}
+use Rattle.records.proofs.Shapes.{end-stands}
 use Rattle.ways.specs.Depths.{Standing}
 
 pub depth-size : (t : Term) → depth t ≤ size t
@@ -29,34 +29,29 @@ depth-few q d f = omega (arith, f (q .term) (q .stands), depth-size (q .term), l
 
 -- The record at place i has c children.
 module _ (s ends : List ℕ) (i c : ℕ) (q : Standing s ends i) (k : c ≡ childrenOf (getD s (16 * i) 0)) where
-  wants : (t : Term) → Stands s (16 * i) t → childrenOf (getD s (16 * i) 0) ≡ children (root t)
-  unfolding kindOf
-  wants t h = ap childrenOf (stands-kind t h) ∙ node-children (root t)
-
   first : (t : Term) → Stands s (16 * i + 16) t → Stands s (16 * (i + 1)) t
   first t h = subst (λ k. Stands s k t) (omega arith) h
 
   pub depth-none : c ≡ 0 → (t : Term) → Stands s (16 * i) t → 1 ≡ depth t
-  unfolding depth root children
+  unfolding depth
   depth-none e (leaf x) h = refl
-  depth-none e (under u t) h = absurd (omega (arith, wants (under u t) h))
-  depth-none e (both o l r) h = absurd (omega (arith, wants (both o l r) h))
+  depth-none e (under u t) h = absurd (omega (arith, stands-children (under u t) h))
+  depth-none e (both o l r) h = absurd (omega (arith, stands-children (both o l r) h))
 
   pub first-standing : c ≢ 0 → Standing s ends (i + 1)
-  unfolding root children
   first-standing e = go (q .term) (q .stands)
     where
       go : (t : Term) → Stands s (16 * i) t → Standing s ends (i + 1)
-      go (leaf x) h = absurd (e (k ∙ wants (leaf x) h))
+      go (leaf x) h = absurd (e (k ∙ stands-children (leaf x) h))
       go (under u t) h = standing t (first t (stands-under u t h)) (q .end)
       go (both o l r) h = standing l (first l (stands-left o l r h)) (q .end)
 
   module _ (d : ℕ) (f : (t : Term) → Stands s (16 * (i + 1)) t → d ≡ depth t) where
     pub depth-one : c ≡ 1 → (t : Term) → Stands s (16 * i) t → 1 + d ≡ depth t
-    unfolding depth root children
-    depth-one e (leaf x) h = absurd (omega (arith, wants (leaf x) h))
+    unfolding depth
+    depth-one e (leaf x) h = absurd (omega (arith, stands-children (leaf x) h))
     depth-one e (under u t) h = omega (arith, f t (first t (stands-under u t h)))
-    depth-one e (both o l r) h = absurd (omega (arith, wants (both o l r) h))
+    depth-one e (both o l r) h = absurd (omega (arith, stands-children (both o l r) h))
 
     module _ (no : c ≢ 0) (not : c ≢ 1) (p : ℕ) (at : p ≡ getD ends (i + 1) 0) where
       second : (o : Join) (l r : Term) → Stands s (16 * i) (both o l r) → (p ≡ i + 1 + size l) × Stands s (16 * p) r
@@ -65,16 +60,15 @@ module _ (s ends : List ℕ) (i c : ℕ) (q : Standing s ends i) (k : c ≡ chil
           (z, stands-right o l r (16 * p) (omega (arith, length-encode l)) h)
 
       pub second-standing : Standing s ends p × (i < p)
-      unfolding root children
       second-standing = go (q .term) (q .stands)
         where
           go : (t : Term) → Stands s (16 * i) t → Standing s ends p × (i < p)
-          go (leaf x) h = absurd (no (k ∙ wants (leaf x) h))
-          go (under u t) h = absurd (not (k ∙ wants (under u t) h))
+          go (leaf x) h = absurd (no (k ∙ stands-children (leaf x) h))
+          go (under u t) h = absurd (not (k ∙ stands-children (under u t) h))
           go (both o l r) h = let (z, y) = second o l r h in (standing r y (q .end), omega arith)
 
       pub depth-two : (g : ℕ) → ((t : Term) → Stands s (16 * p) t → g ≡ depth t) → (t : Term) → Stands s (16 * i) t → 1 + max d g ≡ depth t
-      unfolding depth root children
-      depth-two g e (leaf x) h = absurd (no (k ∙ wants (leaf x) h))
-      depth-two g e (under u t) h = absurd (not (k ∙ wants (under u t) h))
+      unfolding depth
+      depth-two g e (leaf x) h = absurd (no (k ∙ stands-children (leaf x) h))
+      depth-two g e (under u t) h = absurd (not (k ∙ stands-children (under u t) h))
       depth-two g e (both o l r) h = let (z, y) = second o l r h in rw (f l (first l (stands-left o l r h)), e r y) (omega arith)

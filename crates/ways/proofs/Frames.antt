@@ -11,32 +11,27 @@ use lib.ListN.{length, getD, take, drop, drop-of-length-le}
 use borrow.Author.Tests.{eq-eqb, ne-eqb, eqb-true}
 use Rattle.cows.specs.Basics.{every, holds}
 use Rattle.cows.specs.Terms.{nil, kill, invoke, receive, wait, protection, delimitation, replication, choice, parallel, Term, leaf, under, both, size, prefixed, delimits, delimitsAtom, delimitsAt}
-use Rattle.cows.specs.Places.{Frame, inside, leftOf, rightOf, plug, fill, wayTo, sub, frameDelimits, frameChooses}
-use Rattle.cows.specs.Format.{byte, word, root, layout, record16, kindOf}
-use Rattle.cows.specs.Active.{passesLive, onPrefix, live}
+use Rattle.cows.specs.Kinds.{root, kindOf, liveKind, kind}
+use Rattle.cows.specs.Places.{Frame, inside, leftOf, rightOf, plug, fill, wayTo, sub, frameDelimits, frameChooses, passed}
+use Rattle.cows.specs.Format.{word, record16}
+use Rattle.cows.specs.Active.{live, onKind}
 use Rattle.cows.proofs.Basics.{same-test}
 use Rattle.cows.proofs.Fields.{first-delimitation}
 use Rattle.cows.specs.Records.{ahead}
 use Rattle.cows.proofs.Ways.{length-ahead}
 use Rattle.records.specs.Holds.{Holds}
 use Rattle.records.proofs.Stands.{holds-kind, holds-word}
-use Rattle.ways.specs.Ways.{OnWay, Walks, liveKind, startOf, scopeOf}
+use Rattle.ways.specs.Ways.{OnWay, Walks, startOf, scopeOf}
 use Rattle.ways.proofs.Climbing.{split-at}
 
-frame-live : (f : Frame) (s : Term) → onPrefix passesLive f ≡ liveKind (kindOf (plug f s))
-unfolding onPrefix passesLive plug kindOf root record16 layout byte
-frame-live (inside (receive p o ws)) s = refl
-frame-live (inside (wait n)) s = refl
-frame-live (inside protection) s = refl
-frame-live (inside (delimitation d)) s = refl
-frame-live (inside replication) s = refl
-frame-live (leftOf choice t) s = refl
-frame-live (leftOf parallel t) s = refl
-frame-live (rightOf choice t) s = refl
-frame-live (rightOf parallel t) s = refl
+passed-kind : (f : Frame) (s : Term) → kind (passed f) ≡ kindOf (plug f s)
+unfolding passed plug kindOf root
+passed-kind (inside u) s = refl
+passed-kind (leftOf j t) s = refl
+passed-kind (rightOf j t) s = refl
 
 frame-choice : (f : Frame) (s : Term) → frameChooses f ≡ eqb (kindOf (plug f s)) 5
-unfolding frameChooses plug kindOf root record16 layout byte
+unfolding frameChooses plug kindOf root
 frame-choice (inside (receive p o ws)) s = refl
 frame-choice (inside (wait n)) s = refl
 frame-choice (inside protection) s = refl
@@ -58,7 +53,7 @@ eqb-flip : (a b : ℕ) → eqb a b ≡ eqb b a
 eqb-flip a b = same-test (λ e. eq-eqb b a (sym (eqb-true a b e))) (λ e. eq-eqb a b (sym (eqb-true b a e)))
 
 delimits-record : (s : Term) (d : ℕ) → (eqb (kindOf s) 8 && eqb (word (record16 (root s)) 2) d) ≡ delimitsAt d s
-unfolding kindOf root record16 layout byte prefixed delimits holds
+unfolding kindOf root prefixed delimits holds
 delimits-record (leaf nil) d = refl
 delimits-record (leaf (kill k)) d = refl
 delimits-record (leaf (invoke p o ws)) d = refl
@@ -99,12 +94,12 @@ module _ (s way : List ℕ) (n : ℕ) (t : Term) (a : ℕ) (h : Walks s way n t 
     way-place = ap (λ w. length (ahead w)) (sym (step .at .2)) ∙ length-ahead t p way-inside
 
     pub live-turn : liveKind (getD s (16 * p) 0) ≡ true → live (drop k (wayTo t a)) ≡ live (drop (k + 1) (wayTo t a))
-    unfolding live every
-    live-turn e = rw (step .way, way-next, frame-live (step .frame) inner, ← way-kind, e)
+    unfolding live every onKind
+    live-turn e = rw (step .way, way-next, passed-kind (step .frame) inner, ← way-kind, e)
 
     pub live-stop : liveKind (getD s (16 * p) 0) ≡ false → live (drop k (wayTo t a)) ≡ false
-    unfolding live every
-    live-stop e = rw (step .way, frame-live (step .frame) inner, ← way-kind, e)
+    unfolding live every onKind
+    live-stop e = rw (step .way, passed-kind (step .frame) inner, ← way-kind, e)
 
     pub start-turn : (c : ℕ) → getD s (16 * p) 0 ≡ 5 → startOf c (drop k (wayTo t a)) ≡ startOf p (drop (k + 1) (wayTo t a))
     unfolding startOf

@@ -1,6 +1,5 @@
 -- A walk for the first active record that passes a test (cows, proofs/Scans): what is found is what is found from the present place on.
 use mathlib.Core.Path.{_≡_, refl, sym, ap, _∙_}
-use mathlib.Core.Logic.{_≢_}
 use mathlib.Core.Bool.{Bool, true, false, _&&_}
 use mathlib.Core.List.{List, []}
 use mathlib.Core.Option.{Option, none, some}
@@ -10,21 +9,20 @@ use native.Mathlib.Numerals.{add-one}
 use lib.Dec.{ltb, eqb}
 use lib.ListN.{length, getD}
 use Rattle.cows.specs.Basics.{every, holds, firstFrom, placeIf, orElse}
-use Rattle.cows.specs.Terms.{nil, kill, invoke, Prefix, receive, wait, protection, delimitation, replication, choice, parallel, Term, leaf, under, both, size, prefixed, waits}
-use Rattle.cows.specs.Format.{byte, word, root, layout, record16, kindOf}
-use Rattle.cows.specs.Active.{passesLive}
+use Rattle.cows.specs.Terms.{nil, kill, invoke, receive, wait, protection, delimitation, replication, choice, parallel, Term, leaf, under, both, size, prefixed, waits}
+use Rattle.cows.specs.Kinds.{root, kindOf}
+use Rattle.cows.specs.Format.{word, record16}
 use Rattle.cows.specs.Places.{Spot, spot, wayTo, sub, first}
-use Rattle.cows.proofs.Basics.{clash, from-next, from-end, from-skip}
+use Rattle.cows.proofs.Basics.{from-next, from-end, from-skip}
 use Rattle.cows.proofs.Fields.{interval-wait}
 use Rattle.cows.proofs.Places.{size-pos, spot-fits, descend-first}
-use Rattle.cows.proofs.Scans.{active, passing, active-over, active-next, shut-below}
+use Rattle.cows.proofs.Scans.{active, active-over, active-next, shut-below}
 use Rattle.records.specs.Holds.{Holds}
 use Rattle.records.proofs.Stands.{holds-kind, holds-word}
 use Rattle.ways.specs.Known.{Table}
-use Rattle.ways.specs.Ways.{liveKind}
 use Rattle.ways.proofs.Tables.{table-size, table-ended, table-inside}
 
-module _ (P : Prefix → Bool) (test : Term → Bool) where
+module _ (P : ℕ → Bool) (test : Term → Bool) where
   -- an active record that passes
   abbrev pub picks : ℕ → Spot → Bool
   picks n z = active P (z .way) && test (z .here)
@@ -59,7 +57,7 @@ module _ (P : Prefix → Bool) (test : Term → Bool) where
       unfolding placeIf orElse
       seeking-found e = h .rest ∙ (from-here ∙ rw e)
 
-      pub seeking-through : test (sub t i) ≡ false → passing P (sub t i) ≡ true → Seeking t (i + 1)
+      pub seeking-through : test (sub t i) ≡ false → P (kindOf (sub t i)) ≡ true → Seeking t (i + 1)
       unfolding placeIf orElse
       seeking-through e p = record {
         few = omega arith;
@@ -67,7 +65,7 @@ module _ (P : Prefix → Bool) (test : Term → Bool) where
         rest = h .rest ∙ (from-here ∙ rw e);
       }
 
-      pub seeking-over : test (sub t i) ≡ false → (size (sub t i) ≢ 1 → passing P (sub t i) ≡ false) → Seeking t (i + size (sub t i))
+      pub seeking-over : test (sub t i) ≡ false → P (kindOf (sub t i)) ≡ false → Seeking t (i + size (sub t i))
       unfolding placeIf orElse wayTo sub
       seeking-over e p =
           let n = i + size (sub t i) in
@@ -75,13 +73,10 @@ module _ (P : Prefix → Bool) (test : Term → Bool) where
             few = spot-fits t i l;
             active = λ k. active-over P t i l (h .active l) k;
             rest = h .rest ∙ (from-here
-                ∙ rw e (from-skip _ (i + 1) n (size t) (omega (arith, size-pos (sub t i))) (spot-fits t i l) (λ m a b. rw (shut-below P t i l (p (λ z. omega arith)) m (omega arith) b))));
+                ∙ rw e (from-skip _ (i + 1) n (size t) (omega (arith, size-pos (sub t i))) (spot-fits t i l) (λ m a b. rw (shut-below P t i l p m (omega arith) b))));
           }
 
--- The same on a table, when K tells by its kind whether a record lets the walk through.
-abbrev pub Tells : (Prefix → Bool) → (ℕ → Bool) → Type 0
-Tells P K = (s : Term) → (K (kindOf s) ≡ true → passing P s ≡ true) × (K (kindOf s) ≡ false → size s ≢ 1 → passing P s ≡ false)
-
+-- The same on a table.
 module _ (s ends : List ℕ) (t : Term) (h : Table s ends t) (i : ℕ) (l : i < length s / 16) where
   inside : i < size t
   inside = table-inside s ends t h i l
@@ -90,31 +85,19 @@ module _ (s ends : List ℕ) (t : Term) (h : Table s ends t) (i : ℕ) (l : i < 
   pub table-next : (next : ℕ) → next ≡ getD ends i 0 → (i < next) × (next ≤ length s / 16)
   table-next next at = omega (arith, at, table-ended s ends t h i inside, table-size s ends t h, spot-fits t i inside, size-pos (sub t i))
 
-  module _ (P : Prefix → Bool) (K : ℕ → Bool) (tells : Tells P K) (test : Term → Bool) (k : Seeking P test t i) (no : test (sub t i) ≡ false) where
-    kind-is : K (kindOf (sub t i)) ≡ K (getD s (16 * i) 0)
-    kind-is = ap K (sym (holds-kind s t i (h .holds) inside))
+  module _ (P : ℕ → Bool) (test : Term → Bool) (k : Seeking P test t i) (no : test (sub t i) ≡ false) where
+    kind-is : P (kindOf (sub t i)) ≡ P (getD s (16 * i) 0)
+    kind-is = ap P (sym (holds-kind s t i (h .holds) inside))
 
-    pub table-through : K (getD s (16 * i) 0) ≡ true → Seeking P test t (i + 1)
-    table-through e = seeking-through P test t i k inside no (tells (sub t i) .0 (kind-is ∙ e))
+    pub table-through : P (getD s (16 * i) 0) ≡ true → Seeking P test t (i + 1)
+    table-through e = seeking-through P test t i k inside no (kind-is ∙ e)
 
-    pub table-over : K (getD s (16 * i) 0) ≡ false → (next : ℕ) → next ≡ getD ends i 0 → Seeking P test t next
-    table-over e next at = rw (at, table-ended s ends t h i inside) (seeking-over P test t i k inside no (tells (sub t i) .1 (kind-is ∙ e)))
-
--- so for the live records
-pub kind-live : Tells passesLive liveKind
-unfolding passesLive kindOf root record16 layout byte size
-kind-live (leaf x) = (λ e. refl, λ e n. absurd (n refl))
-kind-live (under (receive p o ws) t) = (λ e. e, λ e n. refl)
-kind-live (under (wait n) t) = (λ e. e, λ e n. refl)
-kind-live (under protection t) = (λ e. refl, λ e n. e)
-kind-live (under (delimitation d) t) = (λ e. refl, λ e n. e)
-kind-live (under replication t) = (λ e. e, λ e n. refl)
-kind-live (both choice l r) = (λ e. refl, λ e n. clash refl e)
-kind-live (both parallel l r) = (λ e. refl, λ e n. clash refl e)
+    pub table-over : P (getD s (16 * i) 0) ≡ false → (next : ℕ) → next ≡ getD ends i 0 → Seeking P test t next
+    table-over e next at = rw (at, table-ended s ends t h i inside) (seeking-over P test t i k inside no (kind-is ∙ e))
 
 -- a wait that is shorter, by its bytes
 shorter-record : (s : Term) (d : ℕ) → (eqb (kindOf s) 4 && ltb (word (record16 (root s)) 14) d) ≡ holds (λ i. ltb i d) (prefixed waits s)
-unfolding kindOf root record16 layout byte prefixed waits holds
+unfolding kindOf root prefixed waits holds
 shorter-record (leaf nil) d = refl
 shorter-record (leaf (kill k)) d = refl
 shorter-record (leaf (invoke p o ws)) d = refl

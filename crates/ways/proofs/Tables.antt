@@ -9,8 +9,8 @@ use lib.Dec.{ltb, eqb}
 use lib.ListN.{length, getD}
 use borrow.Author.Tests.{le-ltb, ne-eqb}
 use Rattle.cows.specs.Terms.{Term, size}
+use Rattle.cows.specs.Kinds.{kindOf}
 use Rattle.cows.specs.Places.{wayTo, sub}
-use Rattle.cows.specs.Format.{kindOf}
 use Rattle.cows.specs.Active.{live}
 use Rattle.cows.proofs.Basics.{and-none}
 use Rattle.cows.proofs.Format.{encode-injective}

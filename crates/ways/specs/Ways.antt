@@ -1,14 +1,14 @@
 -- The way from the root to a place, as the places of its records, the nearest first.
 use mathlib.Core.Path.{_≡_}
 use mathlib.Core.List.{List, [], _∷_}
-use mathlib.Core.Bool.{Bool, true, false, cond, _&&_}
+use mathlib.Core.Bool.{true, false, cond, _&&_}
 use mathlib.Core.Option.{Option, none, some}
 use Prim.Native.Nat.{ℕ, _/_, _≤_, _<_}
-use lib.Dec.{leb, ltb, eqb}
+use lib.Dec.{ltb, eqb}
 use lib.ListN.{length, getD, take, drop}
 use Rattle.cows.specs.Terms.{Term, size, depth}
+use Rattle.cows.specs.Kinds.{kindOf}
 use Rattle.cows.specs.Places.{Frame, plug, Way, fill, wayTo, sub, frameDelimits, frameChooses}
-use Rattle.cows.specs.Format.{kindOf}
 use Rattle.cows.specs.Active.{live}
 use Rattle.cows.specs.Records as places
 use Rattle.cows.specs.Records.{ahead}
@@ -52,10 +52,6 @@ pub record Walk (s way : List ℕ) (n : ℕ) : Type 0 where
   pub room : n ≤ length way
   pub short : n < 256
   pub small : (k : ℕ) → k < n → getD way k 0 < length s / 16
-
--- the kinds that the way to a live record may pass: choice, parallel, protection, delimitation
-abbrev pub liveKind : ℕ → Bool
-liveKind k = leb 5 k && leb k 8
 
 -- where the whole choice around a place begins, and where the nearest delimitation of an atom on a way stands
 unfoldable pub startOf : ℕ → Way → ℕ

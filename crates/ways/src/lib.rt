@@ -10,13 +10,14 @@ ghost use mathlib.Core.Path.{_≡_};
 ghost use Prim.Native.Nat.{ℕ, _+_, _*_, _≤_, _<_};
 ghost use lib.ListN.{length};
 ghost use Rattle.cows.specs.Terms.{Term, size, delimitsAt};
+ghost use Rattle.cows.specs.Kinds.{liveKind};
 ghost use Rattle.cows.specs.Places.{wayTo, sub};
 ghost use Rattle.cows.specs.Active.{live};
 ghost use Rattle.records.specs.Atoms.{numberOf};
 ghost use Rattle.records.specs.Holds.{Holds};
 ghost use Rattle.records.specs.Answers.{foundOf};
 ghost use Rattle.ways.specs.Known.{Table, Known, Ended};
-ghost use Rattle.ways.specs.Ways.{Climbs, Placed, Walks, Walk, liveKind, startOf, scopeOf, Lives};
+ghost use Rattle.ways.specs.Ways.{Climbs, Placed, Walks, Walk, startOf, scopeOf, Lives};
 
 // The places of the records on the way to place a, the nearest first, and how many there are: those that begin before it and end behind it.
 pub fn climb(ends: &[u16], a: usize, out: &mut [u16]) -> usize

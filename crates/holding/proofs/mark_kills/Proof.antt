@@ -4,9 +4,10 @@ use Prim.Native.Nat.{_-_, _≤_}
 use native.Mathlib.Omega.{arith}
 use lib.ListN.{length}
 use Rattle.cows.specs.Terms.{Term}
+use Rattle.cows.specs.Kinds.{readyKind}
 use Rattle.records.proofs.Atoms.{is-label}
 use Rattle.ways.specs.Known.{Table}
-use Rattle.holding.specs.Holding.{readyKind, Blank}
+use Rattle.holding.specs.Holding.{Blank}
 use Rattle.ways.proofs.Tables.{table-size}
 use Rattle.ways.proofs.Seeking.{table-through, table-next, table-over}
 use Rattle.holding.proofs.HeldBack.{passesReady}

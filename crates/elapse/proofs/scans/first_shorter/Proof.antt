@@ -6,11 +6,11 @@ use mathlib.Core.Bool.{Bool}
 use lib.Dec.{ltb}
 use Rattle.cows.specs.Basics.{holds}
 use Rattle.cows.specs.Terms.{Term, prefixed, waits}
-use Rattle.cows.specs.Active.{passesLive, live}
+use Rattle.cows.specs.Kinds.{liveKind}
+use Rattle.cows.specs.Active.{live}
 use Rattle.cows.specs.Moves.{shorter}
 use Rattle.records.specs.Answers.{foundOf}
 use Rattle.ways.specs.Known.{Table}
-use Rattle.ways.specs.Ways.{liveKind}
 use Rattle.ways.proofs.Tables.{table-inside, table-size}
 use Rattle.ways.proofs.Seeking.{Seeking, seeking-start, seeking-found, seeking-end, table-through, table-next, table-over, kind-live}
 use Rattle.elapse.proofs.scans.first_shorter.Statement.{statement}

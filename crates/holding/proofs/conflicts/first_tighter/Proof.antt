@@ -4,11 +4,11 @@ use mathlib.Core.Bool.{true}
 use Prim.Native.Nat.{_-_, _≤_}
 use native.Mathlib.Omega.{arith}
 use Rattle.cows.specs.Terms.{Term, Ends}
+use Rattle.cows.specs.Kinds.{readyKind}
 use Rattle.cows.specs.Active.{ready}
 use Rattle.cows.specs.Moves.{closedEnds, tighter}
 use Rattle.records.specs.Answers.{foundOf}
 use Rattle.ways.specs.Known.{Table}
-use Rattle.holding.specs.Holding.{readyKind}
 use Rattle.matching.specs.Matching.{EndsAt}
 use Rattle.ways.proofs.Tables.{table-inside, table-size}
 use Rattle.ways.proofs.Seeking.{Seeking, seeking-start, seeking-found, seeking-end, table-through, table-next, table-over}

@@ -5,9 +5,10 @@ use Prim.Native.Nat.{ℕ, _<_, _-_, _/_, _+_, _*_}
 use native.Mathlib.Omega.{arith}
 use borrow.Author.Needs.{needs}
 use lib.ListN.{length, length-set, getD}
+use Rattle.cows.specs.Kinds.{guardKind}
 use Rattle.records.specs.Ends.{oneIf}
 use Rattle.records.proofs.Laws.{test-small}
-use Rattle.readers.specs.Reads.{byGuard, guardKind}
+use Rattle.readers.specs.Reads.{byGuard}
 use Rattle.readers.proofs.Readings.{kindAt}
 use Rattle.readers.proofs.Chains.{chain-before, read-chain}
 use Rattle.readers.proofs.Filling.{noted-fits, read-out, read-deep, read-leaf, read-one, read-choice, read-parallel, as-guard, as-service, read-noted, held-one, left-two}

@@ -3,11 +3,12 @@ use Prim.Native.Nat.{ℕ, _<_, _-_}
 use native.Mathlib.Omega.{arith}
 use borrow.Author.Needs.{needs}
 use lib.ListN.{length, getD}
+use Rattle.cows.proofs.Rows.{children-some}
 use Rattle.cows.specs.Moves.{elapse}
 use Rattle.records.specs.Rewrites.{same}
 use Rattle.records.proofs.Rewrites.{as-asks, as-gives}
 use Rattle.rewriting.proofs.Placed.{passes-placed}
-use Rattle.rewriting.proofs.Children.{two, first-child, second-child, two-children, one-child}
+use Rattle.rewriting.proofs.Children.{first-child, second-child, two-children, one-child}
 use Rattle.rewriting.proofs.Elapses.{one-of, none-of, Still, Passed, Through, elapse-still, elapse-through, still-at, through-at}
 use borrow.Fn.Kinds.{In}
 use borrow.Fn.PlainCycle.{Measures, is, falls, and}
@@ -64,22 +65,22 @@ pub +elapse-at-spec : {M : Type 1} → statement M
     let z = c .before .before .before .before .before .before .before .before .before .before .before .args in
     let r = c .before .before .before .before .before .before .before .before .before .before .before .pre .1 in
     let h : Passed (getD (z .s .now) (z .at) 0) = omega (arith, none-of (getD (z .s .now) (z .at) 0) _ _ (c .before .before .before .before .before .before .if1 .left)) in
-    (search needs, first-child _ _ (elapse (z .d)) Through (elapse-through (z .d)) (r .0) (r .1) (through-at h) (omega arith) (search needs) (search needs)))
+    (search needs, first-child _ _ (elapse (z .d)) Through (elapse-through (z .d)) (r .0) (r .1) (through-at h) (children-some _ (omega arith)) (search needs) (search needs)))
     (λ c κs. search needs)
     (λ c κs.
     let z = c .before .before .before .before .before .before .before .before .before .before .before .before .before .before .before .before .before .args in
     let r = c .before .before .before .before .before .before .before .before .before .before .before .before .before .before .before .before .before .pre .1 in
     let h : Passed (getD (z .s .now) (z .at) 0) = omega (arith, none-of (getD (z .s .now) (z .at) 0) _ _ (c .before .before .before .before .before .before .before .before .before .before .before .before .if1 .left)) in
-    (search needs, second-child _ _ (elapse (z .d)) Through (elapse-through (z .d)) (r .0) (r .1) (through-at h) (omega arith) (c .before .before .before .before .before .elapse-at .ensures) (search needs) (two _ (search needs)) (search needs)))
+    (search needs, second-child _ _ (elapse (z .d)) Through (elapse-through (z .d)) (r .0) (r .1) (through-at h) (children-some _ (omega arith)) (c .before .before .before .before .before .elapse-at .ensures) (search needs) (search needs) (search needs)))
     (λ c. search needs)
     (λ c.
     let z = c .before .before .before .before .before .before .before .before .before .before .before .before .before .before .before .before .before .before .before .before .args in
     let r = c .before .before .before .before .before .before .before .before .before .before .before .before .before .before .before .before .before .before .before .before .pre .1 in
     let h : Passed (getD (z .s .now) (z .at) 0) = omega (arith, none-of (getD (z .s .now) (z .at) 0) _ _ (c .before .before .before .before .before .before .before .before .before .before .before .before .before .before .before .if1 .left)) in
-    two-children _ _ (elapse (z .d)) Through (elapse-through (z .d)) (r .0) (r .1) (through-at h) (omega arith) (c .before .before .before .before .before .before .before .before .elapse-at .ensures) (search needs) (two _ (search needs)) (c .before .before .before .before .before .before .before .before .before .before .before .before .copy .ensures) (c .before .before .elapse-at2 .ensures))
+    two-children _ _ (elapse (z .d)) Through (elapse-through (z .d)) (r .0) (r .1) (through-at h) (children-some _ (omega arith)) (c .before .before .before .before .before .before .before .before .elapse-at .ensures) (search needs) (search needs) (c .before .before .before .before .before .before .before .before .before .before .before .before .copy .ensures) (c .before .before .elapse-at2 .ensures))
     (λ c. search needs)
     (λ c.
     let z = c .before .before .before .before .before .before .before .before .before .before .before .before .before .before .before .before .args in
     let r = c .before .before .before .before .before .before .before .before .before .before .before .before .before .before .before .before .pre .1 in
     let h : Passed (getD (z .s .now) (z .at) 0) = omega (arith, none-of (getD (z .s .now) (z .at) 0) _ _ (c .before .before .before .before .before .before .before .before .before .before .before .if1 .left)) in
-    one-child _ _ (elapse (z .d)) Through (elapse-through (z .d)) (r .0) (r .1) (through-at h) (omega arith) (c .before .before .before .before .elapse-at .ensures) (search needs) (search needs) (c .before .before .before .before .before .before .before .before .copy .ensures))
+    one-child _ _ (elapse (z .d)) Through (elapse-through (z .d)) (r .0) (r .1) (through-at h) (children-some _ (omega arith)) (c .before .before .before .before .elapse-at .ensures) (search needs) (search needs) (c .before .before .before .before .before .before .before .before .copy .ensures))

@@ -2,11 +2,12 @@
 use Prim.Native.Nat.{ℕ, _<_, _-_}
 use borrow.Author.Needs.{needs}
 use lib.ListN.{length}
+use Rattle.cows.proofs.Rows.{children-some}
 use Rattle.cows.specs.Moves.{halt}
 use Rattle.records.specs.Rewrites.{same, gone}
 use Rattle.records.proofs.Rewrites.{as-asks, as-gives}
 use Rattle.rewriting.proofs.Placed.{passes-placed}
-use Rattle.rewriting.proofs.Children.{two, first-child, second-child, two-children, one-child}
+use Rattle.rewriting.proofs.Children.{first-child, second-child, two-children, one-child}
 use Rattle.rewriting.proofs.Halts.{Gone, Kept, Through, halt-gone, halt-kept, halt-step, gone-at, kept-at, through-at}
 use borrow.Fn.Kinds.{In}
 use borrow.Fn.PlainCycle.{Measures, is, falls, and}
@@ -59,10 +60,10 @@ pub +halt-at-spec : {M : Type 1} → statement M
     (λ c κs. search needs)
     (λ c. search needs)
     (λ c. search needs)
-    (λ c κs. let r = c .before .before .before .before .before .before .before .before .before .before .before .pre .1 in (search needs, first-child halt halt halt Through halt-step (r .0) (r .1) (through-at (search needs) (search needs)) (search needs) (search needs) (search needs)))
+    (λ c κs. let r = c .before .before .before .before .before .before .before .before .before .before .before .pre .1 in (search needs, first-child halt halt halt Through halt-step (r .0) (r .1) (through-at (search needs) (search needs)) (children-some _ (search needs)) (search needs) (search needs)))
     (λ c κs. search needs)
-    (λ c κs. let r = c .before .before .before .before .before .before .before .before .before .before .before .before .before .before .before .before .before .pre .1 in (search needs, second-child halt halt halt Through halt-step (r .0) (r .1) (through-at (search needs) (search needs)) (search needs) (c .before .before .before .before .before .halt-at .ensures) (search needs) (two _ (search needs)) (search needs)))
+    (λ c κs. let r = c .before .before .before .before .before .before .before .before .before .before .before .before .before .before .before .before .before .pre .1 in (search needs, second-child halt halt halt Through halt-step (r .0) (r .1) (through-at (search needs) (search needs)) (children-some _ (search needs)) (c .before .before .before .before .before .halt-at .ensures) (search needs) (search needs) (search needs)))
     (λ c. search needs)
-    (λ c. let r = c .before .before .before .before .before .before .before .before .before .before .before .before .before .before .before .before .before .before .before .before .pre .1 in two-children halt halt halt Through halt-step (r .0) (r .1) (through-at (search needs) (search needs)) (search needs) (c .before .before .before .before .before .before .before .before .halt-at .ensures) (search needs) (two _ (search needs)) (c .before .before .before .before .before .before .before .before .before .before .before .before .copy .ensures) (c .before .before .halt-at2 .ensures))
+    (λ c. let r = c .before .before .before .before .before .before .before .before .before .before .before .before .before .before .before .before .before .before .before .before .pre .1 in two-children halt halt halt Through halt-step (r .0) (r .1) (through-at (search needs) (search needs)) (children-some _ (search needs)) (c .before .before .before .before .before .before .before .before .halt-at .ensures) (search needs) (search needs) (c .before .before .before .before .before .before .before .before .before .before .before .before .copy .ensures) (c .before .before .halt-at2 .ensures))
     (λ c. search needs)
-    (λ c. let r = c .before .before .before .before .before .before .before .before .before .before .before .before .before .before .before .before .pre .1 in one-child halt halt halt Through halt-step (r .0) (r .1) (through-at (search needs) (search needs)) (search needs) (c .before .before .before .before .halt-at .ensures) (search needs) (search needs) (c .before .before .before .before .before .before .before .before .copy .ensures))
+    (λ c. let r = c .before .before .before .before .before .before .before .before .before .before .before .before .before .before .before .before .pre .1 in one-child halt halt halt Through halt-step (r .0) (r .1) (through-at (search needs) (search needs)) (children-some _ (search needs)) (c .before .before .before .before .halt-at .ensures) (search needs) (search needs) (c .before .before .before .before .before .before .before .before .copy .ensures))

@@ -1,7 +1,6 @@
 -- Each call has fewer records left.
 use Prim.Native.Nat.{ℕ, _<_, _+_, _-_, _/_}
 use native.Mathlib.Omega.{arith}
-use borrow.Author.Needs.{needs}
 use borrow.Fn.Kinds.{In}
 use borrow.Fn.PlainCycle.{Measures, is, falls, and}
 use lib.ListN.{length}
