@@ -24,7 +24,7 @@ use Rattle.cows.proofs.Recordwise.{size-map}
 use Rattle.cows.proofs.Cut.{flatMap-append}
 
 -- mapping changes no shape
-depth-mapped : (f : ℕ → ℕ) (t : Term) → depth (mapAtoms f t) ≡ depth t
+pub depth-mapped : (f : ℕ → ℕ) (t : Term) → depth (mapAtoms f t) ≡ depth t
 unfolding depth mapAtoms
 depth-mapped f (leaf x) = refl
 depth-mapped f (under u t) = ap suc (depth-mapped f t)

@@ -23,7 +23,7 @@ use Rattle.records.specs.Holds.{Holds}
 use Rattle.records.specs.Rewrites.{Stands}
 use Rattle.records.proofs.Pieces.{piece, word-piece}
 use Rattle.renaming.specs.Mapped.{across}
-use Rattle.renaming.specs.Names.{fields, entered}
+use Rattle.renaming.specs.Names.{fields, entered, Marks}
 use Rattle.renaming.proofs.Across.{across-next, across-end, across-term}
 
 -- two numbers are the same, or not
@@ -42,6 +42,11 @@ pub entered-append : (l xs ys : List ℕ) → entered l (xs ++ ys) ≡ entered (
 unfolding entered
 entered-append l [] ys = refl
 entered-append l (x ∷ xs) ys = entered-append (set l x x) xs ys
+
+length-entered : (l ws : List ℕ) → length (entered l ws) ≡ length l
+unfolding entered
+length-entered l [] = refl
+length-entered l (w ∷ ws) = length-entered (set l w w) ws ∙ length-set l w w
 
 entered-at : (l ws : List ℕ) → ((w : ℕ) → member w ws ≡ true → w < length l) → (a : ℕ) → getD (entered l ws) a 0 ≡ cond (member a ws) a (getD l a 0)
 unfolding entered member any
@@ -177,12 +182,24 @@ pub not-zero : (a : ℕ) → atom a ≡ true → a ≢ 0
 unfolding atom datum value variable label
 not-zero a h e = never (rw e at h)
 
+-- Marks of a list and of another: those of both. (0 is marked by itself, or not at all.)
+marks-entered : (l taken ws all : List ℕ) → Marks l taken → ((w : ℕ) → member w all ≡ true → w < 65536) → ((a : ℕ) → a ≢ 0 → member a all ≡ member a ws) → Marks (entered l all) (ws ++ taken)
+marks-entered l taken ws all m small same = record {
+  room = length-entered l all ∙ m .room;
+  entry = λ a. entered-at l all (λ w k. omega (arith, small w k, m .room)) a ∙ eq-case _ a 0 (zero a) (λ z. rw (same a z, m .entry a, member-append a ws taken) (both (member a ws) (member a taken) a));
+}
+  where
+    both : (p q : Bool) (a : ℕ) → cond p a (cond q a 0) ≡ cond (p || q) a 0
+    both true q a = refl
+    both false q a = refl
+
+    zero : (a : ℕ) → a ≡ 0 → cond (member a all) a (getD l a 0) ≡ cond (member a (ws ++ taken)) a 0
+    zero a e = rw (m .entry a, e) (rw (same-cond (member 0 taken), same-cond (member 0 all), same-cond (member 0 (ws ++ taken))))
+
 -- What the whole table marks: its term's atoms.
-pub marked-term : (s : List ℕ) (t : Term) → Holds s t → (l : List ℕ) → length l ≡ 65536 → getD l 0 0 ≡ 0
-    → (a : ℕ) → getD (entered l (across fields s 0 (length s / 16))) a 0 ≡ cond (member a (atoms t)) a (getD l a 0)
-marked-term s t h l room none a =
-    rw (n, across-term fields (λ r. fields (record16 r)) (λ r. refl) s 0 t stands)
-    (entered-at l all small a ∙ eq-case (cond (member a all) a (getD l a 0) ≡ cond (member a (atoms t)) a (getD l a 0)) a 0 zero (λ z. rw (same a z)))
+pub marked-term : (s : List ℕ) (t : Term) → Holds s t → (l taken : List ℕ) → Marks l taken → Marks (entered l (across fields s 0 (length s / 16))) (atoms t ++ taken)
+marked-term s t h l taken m =
+    rw (n, across-term fields (λ r. fields (record16 r)) (λ r. refl) s 0 t stands) (marks-entered l taken (atoms t) all m small same)
   where
     all : List ℕ
     all = flatMap (λ r. fields (record16 r)) (nodes t)
@@ -196,8 +213,5 @@ marked-term s t h l room none a =
     same : (b : ℕ) → b ≢ 0 → member b all ≡ member b (atoms t)
     same b z = member-fields b (ne-eqb b 0 z) t (h .right)
 
-    small : (w : ℕ) → member w all ≡ true → w < length l
-    small w m = eq-case (w < length l) w 0 (λ e. omega arith) (λ z. omega (arith, small-atom w (atoms-right t (h .right) w (sym (same w z) ∙ m))))
-
-    zero : a ≡ 0 → cond (member a all) a (getD l a 0) ≡ cond (member a (atoms t)) a (getD l a 0)
-    zero e = rw (e, none) (same-cond (member 0 all) ∙ sym (same-cond (member 0 (atoms t))))
+    small : (w : ℕ) → member w all ≡ true → w < 65536
+    small w k = eq-case (w < 65536) w 0 (λ e. omega arith) (λ z. small-atom w (atoms-right t (h .right) w (sym (same w z) ∙ k)))
