@@ -1,22 +1,25 @@
 -- Laws of specs/Format: a term is read back from its records and from its bytes, and records of the right shape are their term's; the encoding
 -- of a right term is made of bytes, and no other right term has it.
 use mathlib.Core.Path.{_≡_, refl, sym, ap, _∙_}
-use mathlib.Core.Option.{none}
-use mathlib.Core.List.{List, [], _∷_, _++_, map, append-assoc, append-nil}
+use mathlib.Core.Option.{none, some}
+use mathlib.Core.List.{List, [], _∷_, _++_, map, append-assoc, append-nil, flatMap}
 use Prim.Native.Nat.{ℕ, zero, suc, _+_, _*_}
 use native.Mathlib.Omega.{arith}
 use native.Mathlib.Nat.{zero-add}
 use native.Mathlib.Numerals.{add-one}
 use lib.ListN.{length, getD, length-append}
 use Rattle.cows.specs.Terms.{nil, Term, leaf, under, both, size}
-use Rattle.cows.specs.Kinds.{Node, basic, prefix, join, kind, childrenOf}
+use Rattle.cows.specs.Kinds.{Node, basic, prefix, join}
 use Rattle.cows.specs.Format.{Bytes, nodes, record16, bytes, encode, node, records, push, build, decode}
-use Rattle.cows.specs.Tables.{misshapen}
+use Rattle.cows.specs.Tables.{endOf, children, wrongEnd, misshapen}
 use Rattle.cows.specs.Within.{Right}
-use Rattle.cows.specs.Basics.{All}
+use Rattle.cows.specs.Basics.{All, placeIf}
 use Rattle.cows.proofs.Rows.{children-leaf, children-under, children-both}
 use Rattle.cows.proofs.Records.{RightNode, node-record16, length-record16, record-bytes}
 use Rattle.cows.proofs.Cut.{all-append, append-all, length-write, cut-write, map-read, write-bytes}
+use Rattle.cows.proofs.Basics.{same-some}
+use Rattle.cows.proofs.Ends.{none-some, end-none, end-bounds, end-right}
+use borrow.Author.Tests.{le-ltb}
 
 -- Terms and their records: read back, whatever follows.
 pub length-nodes : (t : Term) → length (nodes t) ≡ size t
@@ -35,51 +38,57 @@ pub decode-nodes : (t : Term) → decode (nodes t) ≡ t
 unfolding decode build
 decode-nodes t = rw (← append-nil (nodes t), build-nodes t []) refl
 
-pub shape-nodes : (t : Term) (w n : ℕ) (ns : List Node) → misshapen (suc w) n (nodes t ++ ns) ≡ misshapen w (n + size t) ns
-unfolding misshapen nodes size
-shape-nodes (leaf x) w n ns = rw (children-leaf x, zero-add, add-one)
-shape-nodes (under u t) w n ns =
-    ap (λ m. misshapen m (suc n) (nodes t ++ ns)) (omega (arith, children-under u))
-    ∙ (shape-nodes t w (suc n) ns ∙ ap (λ m. misshapen w m ns) (omega arith))
-shape-nodes (both j s t) w n ns =
-    ap (λ l. misshapen (childrenOf (kind (join j)) + w) (suc n) l) (append-assoc (nodes s) (nodes t) ns)
-    ∙ (ap (λ m. misshapen m (suc n) (nodes s ++ (nodes t ++ ns))) (omega (arith, children-both j))
-    ∙ (shape-nodes s (suc w) (suc n) (nodes t ++ ns)
-    ∙ (shape-nodes t w (suc n + size s) ns ∙ ap (λ m. misshapen w m ns) (omega arith))))
+-- a term's records, and w terms behind them
+pub end-nodes : (t : Term) (w n : ℕ) (ns : List Node) → endOf children (suc w) n (nodes t ++ ns) ≡ endOf children w (n + size t) ns
+unfolding endOf nodes size
+end-nodes (leaf x) w n ns = rw (children-leaf x, zero-add, add-one)
+end-nodes (under u t) w n ns =
+    ap (λ m. endOf children m (suc n) (nodes t ++ ns)) (omega (arith, children-under u))
+    ∙ (end-nodes t w (suc n) ns ∙ ap (λ m. endOf children w m ns) (omega arith))
+end-nodes (both j s t) w n ns =
+    ap (λ l. endOf children (children (join j) + w) (suc n) l) (append-assoc (nodes s) (nodes t) ns)
+    ∙ (ap (λ m. endOf children m (suc n) (nodes s ++ (nodes t ++ ns))) (omega (arith, children-both j))
+    ∙ (end-nodes s (suc w) (suc n) (nodes t ++ ns)
+    ∙ (end-nodes t w (suc n + size s) ns ∙ ap (λ m. endOf children w m ns) (omega arith))))
+
+pub nodes-shaped : (t : Term) → misshapen (nodes t) ≡ none
+unfolding misshapen wrongEnd placeIf
+nodes-shaped t =
+    let e : endOf children 1 0 (nodes t) ≡ some (size t) = (rw append-nil at (end-nodes t 0 0 [])) ∙ (end-none children (0 + size t) [] ∙ ap some (zero-add (size t))) in
+    rw (e, length-nodes t, le-ltb (size t) (size t) (omega arith))
 
 -- records of the right shape are the records of the term read off them
-flat : List Term → List Node
-flat [] = []
-flat (t ∷ ts) = nodes t ++ flat ts
-
-push-flat : (r : Node) (ts : List Term) (w : ℕ) → length ts ≡ childrenOf (kind r) + w → (length (push r ts) ≡ suc w) × (flat (push r ts) ≡ r ∷ flat ts)
-unfolding push flat nodes
+push-flat : (r : Node) (ts : List Term) (w : ℕ) → length ts ≡ children r + w → (length (push r ts) ≡ suc w) × (flatMap nodes (push r ts) ≡ r ∷ flatMap nodes ts)
+unfolding push flatMap nodes
 push-flat (basic x) ts w h = (omega (arith, children-leaf x), refl)
 push-flat (prefix u) [] w h = absurd (omega (arith, children-under u))
 push-flat (prefix u) (t ∷ ts) w h = (omega (arith, children-under u), refl)
 push-flat (join j) [] w h = absurd (omega (arith, children-both j))
 push-flat (join j) (s ∷ []) w h = absurd (omega (arith, children-both j))
-push-flat (join j) (s ∷ t ∷ ts) w h = (omega (arith, children-both j), ap (λ l. join j ∷ l) (append-assoc (nodes s) (nodes t) (flat ts)))
+push-flat (join j) (s ∷ t ∷ ts) w h = (omega (arith, children-both j), ap (λ l. join j ∷ l) (append-assoc (nodes s) (nodes t) (flatMap nodes ts)))
 
-build-flat : (ns : List Node) (w n : ℕ) → misshapen w n ns ≡ none → (length (build ns) ≡ w) × (flat (build ns) ≡ ns)
-unfolding misshapen build flat
+build-flat : (ns : List Node) (w n : ℕ) → endOf children w n ns ≡ some (n + length ns) → (length (build ns) ≡ w) × (flatMap nodes (build ns) ≡ ns)
+unfolding endOf build flatMap
 build-flat [] zero n e = (refl, refl)
-build-flat [] (suc w) n e = (cc, cc)
-build-flat (r ∷ rs) zero n e = (cc, cc)
+build-flat [] (suc w) n e = none-some e
+build-flat (r ∷ rs) zero n e = absurd (omega (arith, same-some e))
 build-flat (r ∷ rs) (suc w) n e =
-    let (l, f) = build-flat rs (childrenOf (kind r) + w) (suc n) e in
+    let (l, f) = build-flat rs (children r + w) (suc n) (e ∙ ap some (omega arith)) in
     let (l′, f′) = push-flat r (build rs) w l in
     (l′, f′ ∙ ap (λ q. r ∷ q) f)
 
-one-flat : (ts : List Term) → length ts ≡ 1 → nodes (getD ts 0 (leaf nil)) ≡ flat ts
-unfolding flat
+one-flat : (ts : List Term) → length ts ≡ 1 → nodes (getD ts 0 (leaf nil)) ≡ flatMap nodes ts
+unfolding flatMap
 one-flat [] h = absurd (omega arith)
 one-flat (t ∷ []) h = sym (append-nil (nodes t))
 one-flat (t ∷ s ∷ ts) h = absurd (omega arith)
 
-pub nodes-decode : (ns : List Node) → misshapen 1 0 ns ≡ none → nodes (decode ns) ≡ ns
-unfolding decode
-nodes-decode ns e = let (l, f) = build-flat ns 1 0 e in one-flat (build ns) l ∙ f
+pub nodes-decode : (ns : List Node) → misshapen ns ≡ none → nodes (decode ns) ≡ ns
+unfolding decode misshapen
+nodes-decode ns e =
+    let r = end-right (length ns) (endOf children 1 0 ns) (λ k q. omega (arith, end-bounds children 1 0 ns k q)) e in
+    let (l, f) = build-flat ns 1 0 (r ∙ ap some (omega arith)) in
+    one-flat (build ns) l ∙ f
 
 -- the records of a term are right exactly if the term is
 abbrev pub RightNodes : List Node → Type 0

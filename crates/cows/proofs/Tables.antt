@@ -2,7 +2,7 @@
 use mathlib.Core.Path.{_≡_, ap, _∙_}
 use mathlib.Core.Bool.{false, not, _||_}
 use mathlib.Core.Option.{none}
-use mathlib.Core.List.{List, [], map, append-nil}
+use mathlib.Core.List.{List, map}
 use Prim.Native.Nat.{ℕ, _*_, _%_, _≤_}
 use native.Mathlib.Omega.{arith}
 use lib.Dec.{ltb, eqb}
@@ -18,7 +18,7 @@ use Rattle.cows.specs.Within.{Right, Formed, Within}
 use Rattle.cows.proofs.Basics.{or-false, placeIf-none, forbid-accept, same-accept}
 use Rattle.cows.proofs.Places.{size-pos}
 use Rattle.cows.proofs.Records.{right-record, record-right, length-record16, RightNode}
-use Rattle.cows.proofs.Format.{RightNodes, right-nodes, nodes-right, decode-nodes, shape-nodes, nodes-decode, records-bytes, length-encode, nodes-encode}
+use Rattle.cows.proofs.Format.{RightNodes, right-nodes, nodes-right, decode-nodes, nodes-shaped, nodes-decode, records-bytes, length-encode, nodes-encode}
 use Rattle.cows.proofs.Refusals.{shallow-first, first-shallow, formed-first, first-formed}
 use Rattle.cows.proofs.Cut.{none-failing, write-passes, cut-right}
 
@@ -41,11 +41,6 @@ encode-right : (t : Term) → Right t → firstWrong 0 (records (encode t)) ≡ 
 unfolding encode
 encode-right t h = rw (records-bytes (nodes t)) (none-failing rightRecord 0 _ (write-passes 16 record16 length-record16 RightNode rightRecord record-right (nodes t) (right-nodes t h)))
 
--- 3: the shape.
-nodes-shaped : (t : Term) → misshapen 1 0 (nodes t) ≡ none
-unfolding misshapen
-nodes-shaped t = rw append-nil at (shape-nodes t 0 0 [])
-
 -- 4 to 7: the term.
 judgeTerm-accept : (t s : Term) → judgeTerm t ≡ accept s → (t ≡ s) × Formed t × (depth t ≤ 256)
 unfolding judgeTerm
@@ -61,12 +56,12 @@ unfolding judgeTerm _>>_ forbid
 accept-judgeTerm t f h = let (e₅, e₆, e₇) = formed-first t f in rw (shallow-first t h, e₅, e₆, e₇)
 
 -- An accepted table is the encoding of its term, which is within the limits.
-shaped : (ns : List Node) → misshapen 1 0 ns ≡ none → RightNodes ns → (encode (decode ns) ≡ bytes ns) × Right (decode ns)
+shaped : (ns : List Node) → misshapen ns ≡ none → RightNodes ns → (encode (decode ns) ≡ bytes ns) × Right (decode ns)
 unfolding encode
 shaped ns e h = let n = nodes-decode ns e in (ap bytes n, nodes-right (decode ns) (rw n h))
 
 -- right records of the right shape are the table of the term that they are read as
-pub records-hold : (b : List ℕ) → Bytes b → length b % 16 ≡ 0 → firstWrong 0 (records b) ≡ none → misshapen 1 0 (map node (records b)) ≡ none
+pub records-hold : (b : List ℕ) → Bytes b → length b % 16 ≡ 0 → firstWrong 0 (records b) ≡ none → misshapen (map node (records b)) ≡ none
     → (encode (decode (map node (records b))) ≡ b) × Right (decode (map node (records b)))
 records-hold b k z e₂ e₃ =
     let (w, r) = cut-right 16 record16 length-record16 RightNode node rightRecord right-record b z k e₂ in
@@ -78,7 +73,7 @@ unfolding judge
 judged b t k e =
     let (e₁, k₁) = forbid-accept 1 (placeIf (wrongLength b) 0) _ t e in
     let (e₂, k₂) = forbid-accept 2 (firstWrong 0 (records b)) _ t k₁ in
-    let (e₃, k₃) = forbid-accept 3 (misshapen 1 0 (map node (records b))) _ t k₂ in
+    let (e₃, k₃) = forbid-accept 3 (misshapen (map node (records b))) _ t k₂ in
     let (q, f, d) = judgeTerm-accept (decode (map node (records b))) t k₃ in
     let (l, z) = right-length b (placeIf-none (wrongLength b) 0 e₁) in
     rw (← q) (l, records-hold b k z e₂ e₃, (f, d))

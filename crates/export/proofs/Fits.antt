@@ -2,8 +2,8 @@
 use mathlib.Core.Path.{_≡_, refl, ap}
 use mathlib.Core.Bool.{Bool, true, false}
 use mathlib.Core.Option.{Option, none, some}
-use mathlib.Core.List.{List, [], _∷_, map}
-use Prim.Native.Nat.{ℕ, zero, suc, _+_, _<_, _≤_}
+use mathlib.Core.List.{List, map}
+use Prim.Native.Nat.{ℕ, suc, _+_, _<_, _≤_}
 use native.Mathlib.Omega.{arith}
 use lib.ListN.{length, getD, length-map}
 use Rattle.cows.specs.Basics.{placeIf, Result, refuse, accept, _>>=_, _>>_, forbid}
@@ -11,7 +11,7 @@ use Rattle.cows.specs.Terms.{Term, size}
 use Rattle.cows.specs.Kinds.{Node}
 use Rattle.cows.specs.Places.{Spot, spot, first}
 use Rattle.cows.specs.Format.{Bytes, byte, word, node, records, decode, rightRecord}
-use Rattle.cows.specs.Tables.{firstWrong, misshapen, judgeTerm, judge}
+use Rattle.cows.specs.Tables.{firstWrong, endOf, wrongEnd, children, misshapen, judgeTerm, judge}
 use Rattle.cows.specs.Step.{stepTerm, judgeStep, reply, stepReply}
 use Rattle.cows.specs.Run.{movesOf, Played, played, judgePlay, playedReply, play}
 use Rattle.cows.proofs.Basics.{bind-accept, forbid-accept, same-accept, placeIf-none, firstFrom-below}
@@ -21,6 +21,7 @@ use Rattle.cows.proofs.Step.{Refuses, Below, below-step}
 use Rattle.cows.proofs.Preserving.{step-within}
 use Rattle.cows.proofs.Theorems.{tables-within}
 use Rattle.cows.proofs.Cut.{length-cut, failing-below}
+use Rattle.cows.proofs.Ends.{end-bounds}
 use Rattle.tables.specs.Verdict.{checkReply}
 use Rattle.stepper.specs.Replies.{replyOf}
 use Rattle.player.specs.Loads.{loadReply}
@@ -48,12 +49,13 @@ small-first f t h = small-if (first f t) (λ p e. omega (arith, firstFrom-below 
 small-wrong : (n : ℕ) (bs : List (List ℕ)) → n + length bs ≤ 2048 → Small (firstWrong n bs)
 small-wrong n bs h = small-if (firstWrong n bs) (λ p e. omega (arith, failing-below rightRecord n bs p e))
 
-small-misshapen : (w n : ℕ) (ns : List Node) → n + length ns ≤ 2048 → Small (misshapen w n ns)
-unfolding misshapen
-small-misshapen zero n [] h = tt
-small-misshapen zero n (r ∷ rs) h = omega arith
-small-misshapen (suc w) n [] h = omega arith
-small-misshapen (suc w) n (r ∷ rs) h = small-misshapen (children r + w) (suc n) rs (omega arith)
+small-misshapen : (ns : List Node) → length ns ≤ 2048 → Small (misshapen ns)
+unfolding misshapen wrongEnd
+small-misshapen ns h = go (endOf children 1 0 ns) (end-bounds children 1 0 ns)
+  where
+    go : (o : Option ℕ) → ((e : ℕ) → o ≡ some e → (0 ≤ e) × (e ≤ 0 + length ns)) → Small (wrongEnd (length ns) o)
+    go none f = omega arith
+    go (some e) f = small-placeIf _ e (omega (arith, f e refl))
 
 -- a refusal's place is below 2^16
 abbrev Near : {A : Type 0} → Result A → Type 0
@@ -83,7 +85,7 @@ near-judge b k =
     (λ e₁. let (l, z) = right-length b (placeIf-none _ 0 e₁) in
     let r = length-cut 16 b in
     near-forbid 2 _ _ (small-wrong 0 (records b) (omega (arith, l, r)))
-    (λ e₂. near-forbid 3 _ _ (small-misshapen 1 0 (map node (records b)) (omega (arith, l, r, length-map (records b) node)))
+    (λ e₂. near-forbid 3 _ _ (small-misshapen (map node (records b)) (omega (arith, l, r, length-map (records b) node)))
     (λ e₃. let t = decode (map node (records b)) in
     near-term t (omega (arith, l, length-encode t, ap length (records-hold b k z e₂ e₃ .0))))))
 
