@@ -1,13 +1,13 @@
 -- Laws of specs/Kinds: the byte that tells a record's kind, the children that its place in a term gives it, and what keeps the kind. A law on every kind is
 -- proved row by row (kind-cases).
 use mathlib.Core.Path.{_≡_, refl}
-use mathlib.Core.Bool.{Bool, false, _&&_}
+use mathlib.Core.Bool.{Bool, true, false, _&&_}
 use Prim.Native.Nat.{ℕ, zero, suc, _≤_, _<_}
 use native.Mathlib.Omega.{arith}
 use lib.Dec.{leb}
 use borrow.Author.Tests.{lt-leb}
 use Rattle.cows.specs.Terms.{Basic, nil, kill, invoke, Prefix, receive, wait, protection, delimitation, replication, Join, choice, parallel, Term, leaf, under, both, below}
-use Rattle.cows.specs.Kinds.{Node, basic, prefix, join, root, kind, kindOf, childrenOf, open-kinds}
+use Rattle.cows.specs.Kinds.{Node, basic, prefix, join, root, kind, kindOf, childrenOf, liveKind, readyKind, open-kinds}
 use Rattle.cows.specs.Format.{byte, layout, record16}
 use Rattle.cows.specs.Moves.{mapBasic, mapPrefix, mapNode, lower}
 use Rattle.cows.proofs.Basics.{and-none}
@@ -95,6 +95,13 @@ children-some =
     kind-cases (λ k. 3 ≤ k → 1 ≤ childrenOf k)
     (λ h. omega arith, λ h. omega arith, λ h. omega arith, λ h. omega arith, λ h. omega arith, λ h. omega arith, λ h. omega arith, λ h. omega arith, λ h. omega arith, λ h. omega arith)
     (λ n h. omega arith)
+
+-- what the way to a live record may pass, that to a ready one may
+pub live-ready-kind : (k : ℕ) → liveKind k ≡ true → readyKind k ≡ true
+unfolding open-kinds
+live-ready-kind =
+    kind-cases (λ k. liveKind k ≡ true → readyKind k ≡ true)
+    (λ e. e, λ e. e, λ e. e, λ e. e, λ e. e, λ e. e, λ e. e, λ e. e, λ e. e, λ e. refl) (λ n e. e)
 
 -- a term by the number of its children
 pub no-child : (t : Term) → childrenOf (kindOf t) ≡ 0 → (x : Basic) × (t ≡ leaf x)

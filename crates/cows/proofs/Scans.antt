@@ -8,12 +8,19 @@ use native.Mathlib.Omega.{arith}
 use lib.Dec.{ltb}
 use Rattle.cows.specs.Basics.{every}
 use Rattle.cows.specs.Terms.{Term, leaf, under, both, size}
-use Rattle.cows.specs.Kinds.{prefix, join, root, kind, kindOf}
+use Rattle.cows.specs.Kinds.{prefix, join, root, kind, kindOf, liveKind}
 use Rattle.cows.specs.Places.{Frame, inside, leftOf, rightOf, passed, Way, Spot, descend, spot, wayTo, sub}
-use Rattle.cows.specs.Active.{onKind}
+use Rattle.cows.specs.Active.{onKind, live, ready}
 use Rattle.cows.proofs.Basics.{cond-case, and-true, true-and, every-append, and-none}
+use Rattle.cows.proofs.Rows.{live-ready-kind}
 use Rattle.cows.proofs.Places.{descend-way, Inherited, inherited-spot, PartOf, part-inherited, part-first, spot-part, spot-under, spot-left}
 use Rattle.cows.proofs.Ways.{part-at}
+
+-- a live place is ready
+pub live-ready : (w : Way) → live w ≡ true → ready w ≡ true
+unfolding live ready every onKind
+live-ready [] e = refl
+live-ready (f ∷ w) e = let (p, q) = and-true (liveKind (kind (passed f))) _ e in true-and (live-ready-kind (kind (passed f)) p) (live-ready w q)
 
 module _ (P : ℕ → Bool) where
   -- the way passes only records of kinds of which P holds

@@ -28,12 +28,13 @@ use Rattle.plans.specs.declared.Judgement.the-variants.{Allowed}
 use Rattle.plans.specs.declared.Plan.{Plan}
 use Rattle.plans.specs.Plans.{Planned, Asks}
 use Rattle.plans.proofs.Planning.{within-limits, planned-allowed}
+use Rattle.cows.specs.Kinds.{prefix, kind, liveKind}
 
 -- time changes no record's place
 depth-elapse : (d : ℕ) (t : Term) → depth (elapse d t) ≡ depth t
 unfolding elapse depth
 depth-elapse d (leaf x) = refl
-depth-elapse d (under u t) = ap suc (go (passesLive u) (depth-elapse d t))
+depth-elapse d (under u t) = ap suc (go (liveKind (kind (prefix u))) (depth-elapse d t))
   where
     go : (b : Bool) → depth (elapse d t) ≡ depth t → depth (cond b (elapse d t) t) ≡ depth t
     go true e = e

@@ -12,10 +12,10 @@ use lib.ListN.{length, getD, take, drop, length-append, length-drop, drop-of-len
 use borrow.Author.Tests.{eq-eqb, ne-eqb, eqb-true, eqb-false, not-false, lt-ltb, le-ltb}
 use Rattle.cows.specs.Basics.{placeIf, refuse, accept, _>>=_, _>>_, forbid}
 use Rattle.cows.specs.Terms.{Prefix, receive, wait, protection, delimitation, replication, choice, parallel, Term, under, size, depth, prefixed, delimits, atom, label, below}
-use Rattle.cows.specs.Kinds.{prefix, root, kindOf}
-use Rattle.cows.specs.Places.{Frame, inside, leftOf, rightOf, plug, Way, fill, wayTo, sub, frameChooses}
+use Rattle.cows.specs.Kinds.{prefix, root, kindOf, floatsOver, open-kinds}
+use Rattle.cows.specs.Places.{Frame, inside, leftOf, rightOf, plug, Way, fill, wayTo, sub}
 use Rattle.cows.specs.Format.{byte, word, layout, record16, bytes, encode}
-use Rattle.cows.specs.Active.{live, wanted}
+use Rattle.cows.specs.Active.{live, wanted, onKind}
 use Rattle.cows.specs.Moves.{fitting, exchange, afterExtrude, extrudeAt}
 use Rattle.cows.specs.Step.{overLimits}
 use Rattle.cows.proofs.Basics.{never, bind-accept, forbid-accept, same-accept, or-right, or-case, or-false, placeIf-none}
@@ -39,25 +39,14 @@ use Rattle.cows.proofs.Sets.{in-values, in-variables, in-labels, value-range, v
 use Rattle.records.specs.Atoms.{classOf}
 use Rattle.plans.specs.declared.Plan.{Plan}
 use Rattle.plans.specs.Plans.{resultOf, limited, Planned, Asks}
-use Rattle.extrude.specs.Extruding.{isLabel, fittingKind, besideOf, parentOf, liftAt, Lifting, Below, Lifts, lifted}
+use Rattle.extrude.specs.Extruding.{isLabel, besideOf, parentOf, liftAt, Lifting, Below, Lifts, lifted}
 use Rattle.plans.proofs.Planning.{within-limits, absent}
 use Rattle.plans.proofs.Joining.{length-part}
-
-frame-fitting : (f : Frame) (w : Way) (s : Term) → fitting (f ∷ w) ≡ fittingKind (kindOf (plug f s))
-unfolding fitting fitsPrefix frameChooses plug kindOf root record16 layout byte
-frame-fitting (inside (receive p o ws)) w s = refl
-frame-fitting (inside (wait n)) w s = refl
-frame-fitting (inside protection) w s = refl
-frame-fitting (inside (delimitation d)) w s = refl
-frame-fitting (inside replication) w s = refl
-frame-fitting (leftOf choice t) w s = refl
-frame-fitting (leftOf parallel t) w s = refl
-frame-fitting (rightOf choice t) w s = refl
-frame-fitting (rightOf parallel t) w s = refl
+use Rattle.ways.proofs.Frames.{passed-kind}
 
 -- behind a prefix all goes deeper by one
-plain-depth : (f : Frame) (s r : Term) → kindOf (plug f s) ≢ 6 → fittingKind (kindOf (plug f s)) ≡ true → depth s ≡ suc (depth r) → depth (plug f s) ≡ suc (depth (plug f r))
-unfolding plug kindOf root record16 layout byte depth
+plain-depth : (f : Frame) (s r : Term) → kindOf (plug f s) ≢ 6 → floatsOver (kindOf (plug f s)) ≡ true → depth s ≡ suc (depth r) → depth (plug f s) ≡ suc (depth (plug f r))
+unfolding plug open-kinds depth
 plain-depth (inside u) s r n e h = omega arith
 plain-depth (leftOf choice t) s r n e h = never e
 plain-depth (leftOf parallel t) s r n e h = absurd (n refl)
@@ -65,7 +54,7 @@ plain-depth (rightOf choice t) s r n e h = never e
 plain-depth (rightOf parallel t) s r n e h = absurd (n refl)
 
 no-parallel : (u : Prefix) (s : Term) → kindOf (under u s) ≢ 6
-unfolding kindOf root record16 layout byte
+unfolding kindOf root
 no-parallel (receive p o ws) s e = omega arith
 no-parallel (wait n) s e = omega arith
 no-parallel protection s e = omega arith
@@ -113,10 +102,11 @@ module _ (s ends : List ℕ) (a p k : ℕ) (t : Term) (d : ℕ) (h : Lifting s e
   pub lift-before : p < a
   lift-before = omega (arith, offset, opens-some f)
 
-  fitting-at : fitting (wayTo t a) ≡ fittingKind (getD s (16 * p) 0)
-  fitting-at = ap fitting way-is ∙ (frame-fitting f w (sub t a) ∙ ap fittingKind (sym (holds-kind s t p (h .table .holds) (at .0) ∙ ap kindOf (at .1))))
+  fitting-at : fitting (wayTo t a) ≡ floatsOver (getD s (16 * p) 0)
+  unfolding fitting onKind
+  fitting-at = ap fitting way-is ∙ ap floatsOver (passed-kind f (sub t a) ∙ sym (holds-kind s t p (h .table .holds) (at .0) ∙ ap kindOf (at .1)))
 
-  pub lift-stuck : fittingKind (getD s (16 * p) 0) ≡ false → resultOf (Stuck a) ≡ limited (liftAt d t a)
+  pub lift-stuck : floatsOver (getD s (16 * p) 0) ≡ false → resultOf (Stuck a) ≡ limited (liftAt d t a)
   unfolding limited liftAt _>>=_ _>>_ forbid placeIf
   lift-stuck e = rw (fitting-at, e)
 
@@ -172,16 +162,16 @@ module _ (s ends : List ℕ) (a p k : ℕ) (t : Term) (d : ℕ) (h : Lifting s e
   old-shallow : k + depth (plug f (sub t a)) ≤ 257
   old-shallow = omega (arith, level, depth-part w (plug f (sub t a)), ap depth old, h .table .within .shallow)
 
-  lift-allowed : fittingKind (getD s (16 * p) 0) ≡ true → overLimits (afterExtrude d t a) ≡ false → resultOf (Allowed (length s / 16)) ≡ limited (liftAt d t a)
+  lift-allowed : floatsOver (getD s (16 * p) 0) ≡ true → overLimits (afterExtrude d t a) ≡ false → resultOf (Allowed (length s / 16)) ≡ limited (liftAt d t a)
   unfolding limited liftAt _>>=_ _>>_ forbid placeIf
   lift-allowed e o = rw (fitting-at, e, o, lift-size)
 
-  lift-large : fittingKind (getD s (16 * p) 0) ≡ true → overLimits (afterExtrude d t a) ≡ true → resultOf Large ≡ limited (liftAt d t a)
+  lift-large : floatsOver (getD s (16 * p) 0) ≡ true → overLimits (afterExtrude d t a) ≡ true → resultOf Large ≡ limited (liftAt d t a)
   unfolding limited liftAt _>>=_ _>>_ forbid placeIf
   lift-large e o = rw (fitting-at, e, o)
 
   -- above it a prefix: no record goes deeper
-  pub lift-plain : fittingKind (getD s (16 * p) 0) ≡ true → getD s (16 * p) 0 ≢ 6 → resultOf (Allowed (length s / 16)) ≡ limited (liftAt d t a)
+  pub lift-plain : floatsOver (getD s (16 * p) 0) ≡ true → getD s (16 * p) 0 ≢ 6 → resultOf (Allowed (length s / 16)) ≡ limited (liftAt d t a)
   lift-plain e n =
       let z = holds-kind s t p (h .table .holds) (at .0) ∙ ap kindOf (at .1) in
       let q = plain-depth f (sub t a) body (λ y. n (z ∙ y)) (rw z at e) depth-here in
@@ -215,8 +205,8 @@ module _ (s ends : List ℕ) (a p k : ℕ) (t : Term) (d : ℕ) (h : Lifting s e
     beside-depth : b ≡ depth (sibling e .other)
     beside-depth = g (sub t q) (holds-stands s t q (h .table .holds) (sibling e .placed)) ∙ ap depth (sibling e .stands)
 
-    fits : fittingKind (getD s (16 * p) 0) ≡ true
-    fits = rw e
+    fits : floatsOver (getD s (16 * p) 0) ≡ true
+    fits = rw e (unfold open-kinds in refl)
 
     pub lift-beside : k + b < 256 → resultOf (Allowed (length s / 16)) ≡ limited (liftAt d t a)
     lift-beside l = lift-allowed fits (shallow-enough (omega (arith, beside-depth, sibling e .deep body, sibling e .deep (sub t a), old-shallow, depth-here)))
@@ -234,7 +224,7 @@ class-label d h =
     (λ v. let (l, m) = label-range d v in rw (ne-eqb d 0 (λ z. omega arith), le-ltb d 32768 (omega arith), le-ltb d 49152 l, in-labels d l m .2))
 
 kind-of-delimitation : (s : Term) (d : ℕ) → prefixed delimits s ≡ some d → kindOf s ≡ 8
-unfolding kindOf root record16 layout byte
+unfolding kindOf root
 kind-of-delimitation s d e = ap kindOf (prefixed-is delimits delimitation delimits-is s d e)
 
 pub no-delimitation : (t : Term) (a : ℕ) → (ltb a (size t) && live (wayTo t a) && eqb (kindOf (sub t a)) 8) ≡ false → extrudeAt t a ≡ refuse 11 a

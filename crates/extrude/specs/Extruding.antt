@@ -1,9 +1,9 @@
 -- Extruding a delimitation: the record above it, and the bytes of the table with the two exchanged.
 use mathlib.Core.Path.{_≡_}
-use mathlib.Core.Bool.{Bool, true, false, cond, not, _&&_}
+use mathlib.Core.Bool.{Bool, true, false, cond, not}
 use mathlib.Core.List.{List, [], _∷_, _++_}
 use Prim.Native.Nat.{ℕ, _+_, _*_, _-_, _/_, _≤_, _<_}
-use lib.Dec.{leb, eqb}
+use lib.Dec.{eqb}
 use lib.ListN.{length, take, drop}
 use Rattle.cows.specs.Basics.{placeIf, Result, accept, _>>_, forbid}
 use Rattle.cows.specs.Terms.{delimitation, Term, under, size, below}
@@ -21,10 +21,6 @@ isLabel None = false
 isLabel (Value v) = false
 isLabel (Variable x) = false
 isLabel (Label k) = true
-
--- the kinds that may stand above: parallel, protection, delimitation
-abbrev pub fittingKind : ℕ → Bool
-fittingKind k = leb 6 k && leb k 8
 
 -- where the record above stands, by the way to a place (0 at the root)
 unfoldable pub parentOf : Way → ℕ

@@ -13,11 +13,12 @@ ghost use Prim.Native.Nat.{ℕ, _<_};
 ghost use lib.ListN.{length};
 ghost use Rattle.cows.specs.Terms.{Term};
 ghost use Rattle.cows.specs.Places.{wayTo};
+ghost use Rattle.cows.specs.Kinds.{floatsOver};
 ghost use Rattle.cows.specs.Moves.{extrudeAt};
 ghost use Rattle.records.specs.Rewrites.{put};
 ghost use Rattle.ways.specs.Known.{Table, Known};
 ghost use Rattle.plans.specs.Plans.{resultOf, limited, Planned, Asks, Gives};
-ghost use Rattle.extrude.specs.Extruding.{isLabel, parentOf, fittingKind, besideOf, liftAt, Lifting, Below, Lifts, lifted};
+ghost use Rattle.extrude.specs.Extruding.{isLabel, parentOf, besideOf, liftAt, Lifting, Below, Lifts, lifted};
 
 fn is_label(a: Atom) -> bool
     ensures { λ r. ⌜ r ≡ isLabel a ⌝ }
@@ -31,8 +32,8 @@ fn is_label(a: Atom) -> bool
 }
 
 // Whether a delimitation may change places with a record of this kind above it.
-fn fitting_kind(kind: u8) -> bool
-    ensures { λ r. ⌜ r ≡ fittingKind kind ⌝ }
+fn floats_over(kind: u8) -> bool
+    ensures { λ r. ⌜ r ≡ floatsOver kind ⌝ }
 {
     (6 <= kind) & (kind <= 8)
 }
@@ -51,7 +52,7 @@ fn judge_above(s: &[u8], ends: &[u16], a: usize, p: usize, k: usize) -> Judgemen
     ensures { λ r. ⌜ ((t : Term) (d : ℕ) → Lifting (now (s .entry)) (now (ends .entry)) a p k t d → resultOf r ≡ limited (liftAt d t a)) ⌝ }
 {
     let kind = s[16 * p];
-    if !fitting_kind(kind) {
+    if !floats_over(kind) {
         return Judgement::Stuck(a);
     }
     let n = s.len() / 16;

@@ -1,22 +1,24 @@
 -- Refusal 14 by labels: no atom is delimited twice, so a [k] that encloses a live place holds a ready kill of k exactly if the table does.
 use mathlib.Core.Path.{_≡_, refl, sym, ap, subst, _∙_}
 use mathlib.Core.Bool.{Bool, true, false, _&&_, _||_}
-use mathlib.Core.List.{[], _∷_, _++_}
+use mathlib.Core.List.{[], _++_}
 use mathlib.Core.Option.{none, some}
 use Prim.Native.Nat.{ℕ, _+_, _-_, _<_}
 use native.Mathlib.Omega.{arith}
 use lib.Dec.{ltb, eqb}
 use borrow.Author.Tests.{ltb-true, eqb-true, eq-eqb}
-use Rattle.cows.specs.Basics.{every, holds, found}
-use Rattle.cows.specs.Terms.{kill, Prefix, Term, leaf, size, label, variable, bindable, kills, uses, usesBasic, prefixed, delimits, replicates}
-use Rattle.cows.specs.Places.{Frame, inside, leftOf, rightOf, Way, Spot, spot, wayTo, sub, first, encloses, enclosed}
-use Rattle.cows.specs.Active.{live, ready}
+use Rattle.cows.specs.Basics.{holds, found}
+use Rattle.cows.specs.Terms.{kill, Term, leaf, size, label, variable, bindable, kills, uses, usesBasic, prefixed, delimits}
+use Rattle.cows.specs.Places.{Spot, spot, wayTo, sub, first, encloses, enclosed}
+use Rattle.cows.specs.Kinds.{liveKind}
+use Rattle.cows.specs.Active.{onKind, live, ready}
 use Rattle.cows.specs.Moves.{readyKill, heldBack}
 use Rattle.cows.specs.Within.{Right, Bound, Within}
 use Rattle.cows.proofs.Basics as basics
-use Rattle.cows.proofs.Basics.{bool-case, and-true, true-and, or-case, or-left, or-right, and-none, same-test, none-found, holds-some, every-append}
+use Rattle.cows.proofs.Basics.{bool-case, and-true, true-and, or-case, or-right, and-none, same-test, none-found, holds-some, every-append}
 use Rattle.cows.proofs.Places.{spot-part, spot-fits, descend-way, descend-here}
 use Rattle.cows.proofs.Stands.{right-at, kills-is, Test, fails-first, first-found, scoped-at}
+use Rattle.cows.proofs.Scans.{live-ready}
 use Rattle.cows.proofs.Reach.{enclosed-reaches}
 use Rattle.ways.proofs.Once.{one-delimitation}
 
@@ -29,21 +31,6 @@ module _ (t : Term) (n : ℕ) (l : n < size t) (i : ℕ) (m : i < size (sub t n)
   part-sub : sub t (n + i) ≡ sub (sub t n) i
   unfolding wayTo sub spot
   part-sub = ap (λ (z : Spot). z .here) (spot-part t n l .1 i m) ∙ descend-here (wayTo t n) [] (sub t n) i
-
--- a prefix that the way to a ready record may pass
-abbrev pub passesReady : Prefix → Bool
-passesReady u = passesLive u || found (replicates u)
-
-frame-ready : (f : Frame) → onPrefix passesLive f ≡ true → onPrefix passesReady f ≡ true
-unfolding onPrefix
-frame-ready (inside u) e = or-left (passesLive u) _ e
-frame-ready (leftOf j t) e = refl
-frame-ready (rightOf j t) e = refl
-
-live-ready : (w : Way) → live w ≡ true → ready w ≡ true
-unfolding live ready every
-live-ready [] e = refl
-live-ready (f ∷ w) e = let (p, q) = and-true (onPrefix passesLive f) _ e in true-and (frame-ready f p) (live-ready w q)
 
 -- what is found stands somewhere
 found-at : (b : Bool) (f : Test) (t : Term) → ((i : ℕ) → i < size t → f i (record { way = wayTo t i; here = sub t i }) ≡ true → b ≡ true) → found (first f t) ≡ true → b ≡ true
@@ -78,7 +65,7 @@ module _ (t : Term) (w : Within t) (a n k : ℕ) (la : a < size t) (v : live (wa
   way-ready =
       let z : n + (a - n) ≡ a = omega arith in
       let e : live (wayTo (sub t n) (a - n) ++ wayTo t n) ≡ true = ap live (sym (part-way t n within (a - n) (omega arith)) ∙ ap (wayTo t) z) ∙ v in
-      live-ready (wayTo t n) (and-true (live (wayTo (sub t n) (a - n))) (live (wayTo t n)) (sym (every-append (onPrefix passesLive) (wayTo (sub t n) (a - n)) (wayTo t n)) ∙ e) .1)
+      live-ready (wayTo t n) (and-true (live (wayTo (sub t n) (a - n))) (live (wayTo t n)) (sym (every-append (onKind liveKind) (wayTo (sub t n) (a - n)) (wayTo t n)) ∙ e) .1)
 
   whole-way : (i : ℕ) → i < size (sub t n) → ready (wayTo t (n + i)) ≡ (ready (wayTo (sub t n) i) && ready (wayTo t n))
   unfolding ready

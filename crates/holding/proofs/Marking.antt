@@ -1,5 +1,5 @@
 -- The marks of labels (specs/Holding): the walk that marks the ready kills of a table, and what the marks say of a delimitation.
-use mathlib.Core.Path.{_≡_, refl, sym, ap, _∙_}
+use mathlib.Core.Path.{_≡_, refl, sym, ap, _∙_, subst}
 use mathlib.Core.Logic.{_≢_}
 use mathlib.Core.Bool.{Bool, true, false, not, _&&_, _||_}
 use mathlib.Core.List.{List}
@@ -11,38 +11,25 @@ use lib.ListN.{length, getD, set, replicate}
 use lib.Seq.{getD-set-same, getD-set-other}
 use borrow.Author.Tests.{eqb-true, eq-eqb}
 use Rattle.cows.specs.Basics.{holds, found}
-use Rattle.cows.specs.Terms.{nil, kill, invoke, receive, wait, protection, delimitation, replication, choice, parallel, Term, leaf, under, both, size, label, kills, prefixed, delimits, replicates}
-use Rattle.cows.specs.Kinds.{root, kindOf, readyKind}
+use Rattle.cows.specs.Terms.{nil, kill, invoke, receive, wait, protection, delimitation, replication, Term, leaf, under, both, size, label, kills, prefixed, delimits}
+use Rattle.cows.specs.Kinds.{root, kindOf, readyKind, open-kinds}
 use Rattle.cows.specs.Places.{spot, sub, first, encloses}
-use Rattle.cows.specs.Format.{byte, word, layout, record16}
+use Rattle.cows.specs.Format.{word, record16}
 use Rattle.cows.specs.Active.{ready}
 use Rattle.cows.specs.Moves.{readyKill, heldBack}
 use Rattle.cows.proofs.Basics.{clash, bool-case, not-so, and-none, none-found}
 use Rattle.cows.proofs.Fields.{kind-kill, kind-delimitation, first-kill, first-delimitation}
-use Rattle.cows.proofs.Scans.{passing}
 use Rattle.cows.proofs.Sets.{in-labels, label-range}
 use Rattle.records.proofs.Stands.{holds-kind, holds-word}
 use Rattle.ways.specs.Known.{Table}
 use Rattle.holding.specs.Holding.{Blank, Marked, Parties, Sides}
 use Rattle.ways.proofs.Tables.{table-ended, table-inside}
-use Rattle.ways.proofs.Seeking.{Seeking, seeking-start, seeking-end, seeking-through, Tells}
-use Rattle.holding.proofs.HeldBack.{passesReady, is-kill, kill-label, kills-labelled, held-none, held-delimitation}
-
--- the kinds tell what the way to a ready record may pass
-pub kind-ready : Tells passesReady readyKind
-unfolding passesLive replicates found kindOf root record16 layout byte size
-kind-ready (leaf x) = (λ e. refl, λ e n. absurd (n refl))
-kind-ready (under (receive p o ws) t) = (λ e. e, λ e n. refl)
-kind-ready (under (wait n) t) = (λ e. e, λ e n. refl)
-kind-ready (under protection t) = (λ e. refl, λ e n. e)
-kind-ready (under (delimitation d) t) = (λ e. refl, λ e n. e)
-kind-ready (under replication t) = (λ e. refl, λ e n. e)
-kind-ready (both choice l r) = (λ e. refl, λ e n. clash refl e)
-kind-ready (both parallel l r) = (λ e. refl, λ e n. clash refl e)
+use Rattle.ways.proofs.Seeking.{Seeking, seeking-start, seeking-end, seeking-over}
+use Rattle.holding.proofs.HeldBack.{is-kill, kill-label, kills-labelled, held-none, held-delimitation}
 
 -- a kill and a delimitation by their kinds
 kills-none : (s : Term) → kindOf s ≢ 1 → kills s ≡ none
-unfolding kindOf root record16 layout byte kills
+unfolding kindOf root kills
 kills-none (leaf nil) e = refl
 kills-none (leaf (kill k)) e = absurd (e refl)
 kills-none (leaf (invoke p o ws)) e = refl
@@ -50,7 +37,7 @@ kills-none (under u t) e = refl
 kills-none (both j l r) e = refl
 
 delimits-none : (s : Term) → kindOf s ≢ 8 → prefixed delimits s ≡ none
-unfolding kindOf root record16 layout byte prefixed delimits
+unfolding kindOf root prefixed delimits
 delimits-none (leaf x) e = refl
 delimits-none (under (receive p o ws) t) e = refl
 delimits-none (under (wait n) t) e = refl
@@ -65,8 +52,8 @@ killing k s = holds (eqb k) (kills s)
 
 -- The walk is at place i. Of a label that is not marked no ready kill stands before it; of one that is marked there is a ready kill.
 pub record Marking (marks : List ℕ) (t : Term) (i : ℕ) : Type 0 where
-  pub walk : Seeking passesReady (λ s. false) t i
-  pub ahead : (k : ℕ) → label k ≡ true → getD marks (k - 49152) 0 ≡ 0 → Seeking passesReady (killing k) t i
+  pub walk : Seeking readyKind (λ s. false) t i
+  pub ahead : (k : ℕ) → label k ≡ true → getD marks (k - 49152) 0 ≡ 0 → Seeking readyKind (killing k) t i
   pub marked : (k : ℕ) → label k ≡ true → getD marks (k - 49152) 0 ≢ 0 → found (first (readyKill k) t) ≡ true
 
 -- new marks are blank
@@ -95,7 +82,7 @@ module _ (s ends : List ℕ) (t : Term) (h : Table s ends t) (i : ℕ) (l : i < 
   placed = table-inside s ends t h i l
 
   -- past a record that is no kill
-  pub marking-step : (marks : List ℕ) (j : ℕ) → getD s (16 * i) 0 ≢ 1 → ((test : Term → Bool) → Seeking passesReady test t i → test (sub t i) ≡ false → Seeking passesReady test t j) → Marking marks t i → Marking marks t j
+  pub marking-step : (marks : List ℕ) (j : ℕ) → getD s (16 * i) 0 ≢ 1 → ((test : Term → Bool) → Seeking readyKind test t i → test (sub t i) ≡ false → Seeking readyKind test t j) → Marking marks t i → Marking marks t j
   unfolding holds
   marking-step marks j e step m = record {
     walk = step _ (m .walk) refl;
@@ -120,15 +107,18 @@ module _ (s ends : List ℕ) (t : Term) (h : Table s ends t) (i : ℕ) (l : i < 
       other-mark : (k : ℕ) → label k ≡ true → eqb k w ≡ false → getD (set marks (w - 49152) 1) (k - 49152) 0 ≡ getD marks (k - 49152) 0
       other-mark k p n = getD-set-other marks (w - 49152) (k - 49152) 1 0 (λ z. clash (eq-eqb k w (omega (arith, label-range k p, kill-range))) n)
 
+      past-kill : (test : Term → Bool) → Seeking readyKind test t i → test (sub t i) ≡ false → Seeking readyKind test t (i + 1)
+      unfolding size open-kinds
+      past-kill test k miss = subst (Seeking readyKind test t) (ap (λ r. i + size r) kill-at) (seeking-over readyKind test t i k placed miss (ap (λ r. readyKind (kindOf r)) kill-at))
+
       pub marking-kill : Marking marks t i → Marking (set marks (w - 49152) 1) t (i + 1)
       unfolding holds kills ready
       marking-kill m =
-          let p : passing passesReady (sub t i) ≡ true = ap (passing passesReady) kill-at in
           record {
-            walk = seeking-through _ _ t i (m .walk) placed refl p;
-            ahead = λ k q z. bool-case (Seeking passesReady (killing k) t (i + 1)) (eqb k w)
+            walk = past-kill _ (m .walk) refl;
+            ahead = λ k q z. bool-case (Seeking readyKind (killing k) t (i + 1)) (eqb k w)
                 (λ y. absurd (omega (arith, same-mark, ap (λ d. getD (set marks (w - 49152) 1) (d - 49152) 0) (eqb-true k w y))))
-                (λ n. seeking-through _ _ t i (m .ahead k q (sym (other-mark k q n) ∙ z)) placed (ap (killing k) kill-at ∙ n) p);
+                (λ n. past-kill _ (m .ahead k q (sym (other-mark k q n) ∙ z)) (ap (killing k) kill-at ∙ n));
             marked = λ k q z. bool-case (found (first (readyKill k) t) ≡ true) (eqb k w)
                 (λ y. is-kill k t i placed (m .walk .active placed) (kill-at ∙ ap (λ d. leaf (kill d)) (sym (eqb-true k w y))))
                 (λ n. m .marked k q (λ y. z (other-mark k q n ∙ y)));

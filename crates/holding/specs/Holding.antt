@@ -1,9 +1,9 @@
--- Holding back (refusal 14): the kinds that the way to a ready record may pass, and the labels of which a ready kill stands in a term.
+-- Holding back (refusal 14): the labels of which a ready kill stands in a term.
 use mathlib.Core.Path.{_≡_}
-use mathlib.Core.Bool.{Bool, true, not, _&&_}
+use mathlib.Core.Bool.{true, not}
 use mathlib.Core.List.{List}
 use Prim.Native.Nat.{ℕ, _-_, _/_, _<_}
-use lib.Dec.{leb, eqb}
+use lib.Dec.{eqb}
 use lib.ListN.{length, getD}
 use Rattle.cows.specs.Basics.{found}
 use Rattle.cows.specs.Terms.{Term, label}
@@ -11,10 +11,6 @@ use Rattle.cows.specs.Places.{wayTo, first}
 use Rattle.cows.specs.Active.{live}
 use Rattle.cows.specs.Moves.{readyKill}
 use Rattle.ways.specs.Known.{Table, Known}
-
--- the kinds that the way to a ready record may pass: choice, parallel, protection, delimitation, replication
-abbrev pub readyKind : ℕ → Bool
-readyKind k = leb 5 k && leb k 9
 
 -- no label is marked
 abbrev pub Blank : List ℕ → Type 0

@@ -11,10 +11,10 @@ use lib.ListN.{take, drop}
 use borrow.Author.Tests.{ltb-true, ltb-false, leb-true, leb-false}
 use Rattle.cows.specs.Basics.{every}
 use Rattle.cows.specs.Terms.{kill, receive, wait, protection, delimitation, replication, choice, parallel, Term, leaf, under, both, size, depth, kills, label, variable, bindable, below, uses, usesBasic}
-use Rattle.cows.specs.Kinds.{guard}
-use Rattle.cows.specs.Places.{inside, leftOf, rightOf, Way, fill, plug, Spot, descend, spot, wayTo, sub, enclosed}
+use Rattle.cows.specs.Kinds.{open-kinds}
+use Rattle.cows.specs.Places.{inside, leftOf, rightOf, Way, fill, plug, Spot, descend, spot, wayTo, sub, enclosed, passed}
 use Rattle.cows.specs.Format.{encode}
-use Rattle.cows.specs.Active.{live}
+use Rattle.cows.specs.Active.{live, onKind}
 use Rattle.cows.specs.Allows.{Stands, Live}
 use Rattle.cows.specs.Moves.{halt, haltUnder, haltBoth, afterKill}
 use Rattle.cows.specs.Step.{overLimits}
@@ -52,7 +52,7 @@ left-out a i (both parallel s t) o =
 
 -- If it stands in the term, it is what halting along the way to it leaves.
 left-in : (w : Way) (a i m : ℕ) (t : Term) (k : ℕ) → a ≡ i + m → m < size t → Guarded t → live (descend w t m .way) ≡ true → descend w t m .here ≡ leaf (kill k) → left a i t ≡ size (haltAside m t)
-unfolding left size haltAside descend live every onPrefix passesLive
+unfolding left size haltAside descend live every onKind passed open-kinds
 left-in w a i m (leaf x) k q l g v e = refl
 left-in w a i zero (under u t) k q l g v e = absurd (no-under e)
 left-in w a i (suc m) (under (receive p o ws) t) k q l g v e = never (live-behind (inside (receive p o ws) ∷ w) t m v)
@@ -64,7 +64,7 @@ left-in w a i (suc m) (under protection t) k q l g v e =
 left-in w a i (suc m) (under (delimitation d) t) k q l g v e = ap suc (left-in (inside (delimitation d) ∷ w) a (suc i) m t k (omega arith) (omega arith) g v e)
 left-in w a i (suc m) (under replication t) k q l g v e = ap suc (left-in (inside replication ∷ w) a (suc i) m t k (omega arith) (omega arith) g v e)
 left-in w a i zero (both j s t) k q l g v e = absurd (no-both e)
-left-in w a i (suc m) (both choice s t) k q l g v e = absurd (guard-kill w (both choice s t) (suc m) k (unfold guard in refl) g v e)
+left-in w a i (suc m) (both choice s t) k q l g v e = absurd (guard-kill w (both choice s t) (suc m) k refl g v e)
 left-in w a i (suc m) (both parallel s t) k q l g v e =
     cond-case₂ (λ (z : Spot) (r : Term). live (z .way) ≡ true → z .here ≡ leaf (kill k) → suc (left a (suc i) s + left a (suc i + size s) t) ≡ size r) (ltb m (size s))
     {x = descend (leftOf parallel t ∷ w) s m} {y = descend (rightOf parallel s ∷ w) t (m - size s)} {u = both parallel (haltAside m s) (halt t)} {v = both parallel (halt s) (haltAside (m - size s) t)}

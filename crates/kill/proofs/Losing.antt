@@ -10,16 +10,17 @@ use lib.ListN.{length, getD}
 use Rattle.cows.specs.Terms.{Prefix, receive, wait, protection, delimitation, replication, Join, choice, parallel, Term, leaf, under, both, size}
 use Rattle.cows.specs.Kinds.{root, kindOf}
 use Rattle.cows.specs.Places.{sub}
-use Rattle.cows.specs.Format.{byte, layout, record16}
+use Rattle.cows.proofs.Fields.{kind-is}
 use Rattle.cows.proofs.Format.{length-encode}
 use Rattle.cows.proofs.Places.{size-pos, spot-fits}
 use Rattle.records.specs.Ends.{EndsFrom}
 use Rattle.records.specs.Rewrites.{Stands}
-use Rattle.records.proofs.Stands.{long, leaf-kind, stands-kind, stands-fits, stands-under, stands-left, stands-right, holds-stands}
+use Rattle.records.proofs.Stands.{long, stands-kind, stands-fits, stands-under, stands-left, stands-right, holds-stands}
 use Rattle.records.proofs.Shapes.{end-stands}
 use Rattle.ways.specs.Known.{Table, Known}
 use Rattle.kill.specs.Losses.{left}
 use Rattle.ways.proofs.Tables.{table-size, table-ended}
+use Rattle.cows.proofs.Rows.{children-of, children-some}
 
 -- the terms stand one behind the other from place i on; their records, and what is left of them
 abbrev pub Row : List ℕ → ℕ → List Term → Type 0
@@ -42,7 +43,7 @@ pub record Losing (s : List ℕ) (a p end : ℕ) (t : Term) (gone i : ℕ) : Typ
   pub count : i + lefts a i ahead ≡ p + gone + left a p t
 
 kind-gone : (a i : ℕ) (t : Term) → kindOf t < 6 → left a i t ≡ 1
-unfolding left kindOf root record16 layout byte
+unfolding left kindOf root
 kind-gone a i (leaf x) h = refl
 kind-gone a i (under (receive p o ws) t) h = refl
 kind-gone a i (under (wait n) t) h = refl
@@ -53,15 +54,8 @@ kind-gone a i (both choice l r) h = refl
 kind-gone a i (both parallel l r) h = absurd (omega arith)
 
 kind-kept : (a i : ℕ) (t : Term) → kindOf t ≡ 7 → (ltb a i || leb (i + size t) a) ≡ true → left a i t ≡ size t
-unfolding left size kindOf root record16 layout byte
-kind-kept a i (leaf x) h e = absurd (omega (arith, leaf-kind x))
-kind-kept a i (under (receive p o ws) t) h e = absurd (omega arith)
-kind-kept a i (under (wait n) t) h e = absurd (omega arith)
-kind-kept a i (under protection t) h e = rw e
-kind-kept a i (under (delimitation d) t) h e = absurd (omega arith)
-kind-kept a i (under replication t) h e = absurd (omega arith)
-kind-kept a i (both choice l r) h e = absurd (omega arith)
-kind-kept a i (both parallel l r) h e = absurd (omega arith)
+unfolding left size
+kind-kept a i t h e = subst (λ r. (ltb a i || leb (i + size r) a) ≡ true → left a i r ≡ size r) (sym (kind-is 7 t h)) (λ e. rw e) e
 
 -- it starts at p, and ends behind the term there
 module _ (s ends : List ℕ) (t : Term) (h : Table s ends t) (p : ℕ) (l : p < length s / 16) (end : ℕ) (at : end ≡ getD ends p 0) where
@@ -103,8 +97,8 @@ module _ (s ends : List ℕ) (e : EndsFrom s ends 0) (a p end : ℕ) (t : Term) 
     abbrev f : First
     f = first l
 
-    kind-is : getD s (16 * i) 0 ≡ kindOf (f .term)
-    kind-is = stands-kind (f .term) (f .stands)
+    here-kind : getD s (16 * i) 0 ≡ kindOf (f .term)
+    here-kind = stands-kind (f .term) (f .stands)
 
     next-is : next ≡ i + size (f .term)
     next-is = at ∙ (e .end i (omega arith) (omega (arith, stands-fits (f .term) (f .stands), long (f .term))) ∙ end-stands s (f .term) i (f .stands))
@@ -114,12 +108,12 @@ module _ (s ends : List ℕ) (e : EndsFrom s ends 0) (a p end : ℕ) (t : Term) 
 
     pub losing-gone : getD s (16 * i) 0 < 6 → Losing s a p end t (gone + (next - i - 1)) next
     losing-gone k =
-        let z = kind-gone a i (f .term) (omega (arith, kind-is)) in
+        let z = kind-gone a i (f .term) (omega (arith, here-kind)) in
         rw next-is (record { ahead = f .rest; row = f .row; ends = f .until; count = omega (arith, z, f .count, size-pos (f .term)) })
 
     pub losing-kept : getD s (16 * i) 0 ≡ 7 → (ltb a i || leb next a) ≡ true → Losing s a p end t gone next
     losing-kept k q =
-        let z = kind-kept a i (f .term) (sym kind-is ∙ k) (rw next-is at q) in
+        let z = kind-kept a i (f .term) (sym here-kind ∙ k) (rw next-is at q) in
         rw next-is (record { ahead = f .rest; row = f .row; ends = f .until; count = omega (arith, z, f .count) })
 
     -- into a record with one child, and into one with two
@@ -153,16 +147,16 @@ module _ (s ends : List ℕ) (e : EndsFrom s ends 0) (a p end : ℕ) (t : Term) 
         }
 
     pub losing-through : 6 ≤ getD s (16 * i) 0 → (getD s (16 * i) 0 ≡ 7 → (ltb a i || leb next a) ≡ false) → Losing s a p end t gone (i + 1)
-    unfolding kindOf left root record16 layout byte
-    losing-through k q = rw (add-one i) (go (f .term) refl (omega (arith, kind-is)))
+    unfolding kindOf left root
+    losing-through k q = rw (add-one i) (go (f .term) refl (omega (arith, here-kind)))
       where
         go : (r : Term) → f .term ≡ r → 6 ≤ kindOf r → Losing s a p end t gone (suc i)
-        go (leaf x) y m = absurd (omega (arith, leaf-kind x))
+        go (leaf x) y m = absurd (omega (arith, children-of (leaf x), children-some (kindOf (leaf x)) (omega arith)))
         go (under (receive u o ws) c) y m = absurd (omega arith)
         go (under (wait n) c) y m = absurd (omega arith)
         go (under protection c) y m =
             let z : next ≡ i + suc (size c) = unfold size in (next-is ∙ ap (λ r. i + size r) y) in
-            into-one protection c y (rw (← z, q (kind-is ∙ ap kindOf y)))
+            into-one protection c y (rw (← z, q (here-kind ∙ ap kindOf y)))
         go (under (delimitation d) c) y m = into-one (delimitation d) c y refl
         go (under replication c) y m = into-one replication c y refl
         go (both choice c d) y m = absurd (omega arith)

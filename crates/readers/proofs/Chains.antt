@@ -6,19 +6,22 @@ use Prim.Native.Nat.{ℕ, zero, suc, _+_, _-_, _/_, _%_, _≤_, _<_}
 use native.Mathlib.Omega.{arith}
 use lib.ListN.{length, getD, set}
 use lib.Seq.{getD-set-same, getD-set-other}
-use borrow.Author.Tests.{le-leb, ne-eqb}
-use Rattle.cows.specs.Kinds.{childrenOf}
+use Rattle.cows.specs.Kinds.{childrenOf, open-kinds}
 use Rattle.cows.proofs.Basics.{lt-case}
 use Rattle.records.specs.Ends.{endAt, pickEnd}
 use Rattle.records.proofs.Shapes.{end-pick}
 use Rattle.readers.specs.Reads.{Reading, Reads, Read}
 use Rattle.readers.specs.Chains.{Chain, Put}
 use Rattle.readers.proofs.Readings.{kindAt, reads-one}
+use Rattle.cows.proofs.Rows.{kind-cases}
 
 -- the kinds from 7 on
 later-one : (k : ℕ) → 7 ≤ k → childrenOf k ≡ 1
-unfolding childrenOf
-later-one k l = rw (le-leb 3 k (omega arith), ne-eqb k 5 (λ z. omega arith), ne-eqb k 6 (λ z. omega arith))
+unfolding open-kinds
+later-one =
+    kind-cases (λ k. 7 ≤ k → childrenOf k ≡ 1)
+    (λ l. absurd (omega arith), λ l. absurd (omega arith), λ l. absurd (omega arith), λ l. absurd (omega arith), λ l. absurd (omega arith), λ l. absurd (omega arith), λ l. absurd (omega arith), λ l. refl, λ l. refl, λ l. refl)
+    (λ n l. refl)
 
 pub chain-none : (s : List ℕ) (at d : ℕ) → Chain s at d at
 chain-none s at d = record { onward = omega arith; inside = λ l. l; low = λ m a b. absurd (omega arith); one = λ m a b. absurd (omega arith) }

@@ -1,22 +1,20 @@
 -- Laws of the readers that fill the ends: the ends that each branch of the code leaves, the first of the faults, and both together with what Readings has.
 use mathlib.Core.Path.{_≡_, refl, sym, ap, _∙_}
-use mathlib.Core.Logic.{_≢_}
 use mathlib.Core.Bool.{Bool, true, false, cond, not}
 use mathlib.Core.List.{List}
 use Prim.Native.Nat.{ℕ, _+_, _*_, _/_, _%_, _≤_, _<_}
 use native.Mathlib.Omega.{arith}
 use native.Mathlib.Numerals.{add-one}
-use lib.Dec.{eqb}
 use lib.ListN.{length, getD, set}
 use lib.Seq.{getD-set-same, getD-set-other}
-use borrow.Author.Tests.{lt-ltb, le-ltb, eqb-true}
-use Rattle.cows.specs.Kinds.{childrenOf, guardKind}
-use Rattle.cows.proofs.Basics.{never, clash, bool-case, lt-case}
+use borrow.Author.Tests.{lt-ltb, le-ltb}
+use Rattle.cows.specs.Kinds.{childrenOf, guardKind, open-kinds}
+use Rattle.cows.proofs.Basics.{never, lt-case}
 use Rattle.records.specs.Ends.{oneIf, endAt, pickEnd}
 use Rattle.records.proofs.Shapes.{end-over, end-pick}
-use Rattle.records.proofs.Laws.{children-two}
 use Rattle.readers.specs.Reads.{byGuard, earlierOf, Reads, Filled, Read}
 use Rattle.readers.proofs.Readings.{kindAt, joined, reads-out, reads-deep, reads-leaf, reads-one, reads-choice, reads-parallel, reads-noted, reads-guard}
+use Rattle.readers.proofs.Guards.{held-guard}
 
 -- The first of faults: of one after the other, and with the record's own place before the rest's.
 earlier-on : (n f x y : ℕ) → earlierOf n (earlierOf n f x) y ≡ earlierOf n f (earlierOf n x y)
@@ -138,26 +136,13 @@ module _ (s : List ℕ) (at d : ℕ) (few : length s / 16 ≤ 2048) (f : ℕ) (h
 
   pub read-choice : (e e₁ e₂ : List ℕ) (f₁ f₂ a r : ℕ) → length s / 16 < length e₂ → kindAt s at ≡ 5 → Read true s (at + 1) (d + 1) e e₁ f f₁ a → Read true s a (d + 1) e₁ e₂ f₁ f₂ r
       → Read false s at d e (set e₂ at (r % 65536)) f f₂ r
-  unfolding childrenOf
+  unfolding open-kinds
   read-choice e e₁ e₂ f₁ f₂ a r room k x y = read-two true e e₁ e₂ f₁ f₂ a r room (rw k) x y (reads-choice s at d here low _ _ k (x .reads) (y .reads))
 
   pub read-parallel : (e e₁ e₂ : List ℕ) (f₁ f₂ a r : ℕ) → length s / 16 < length e₂ → kindAt s at ≡ 6 → Read false s (at + 1) (d + 1) e e₁ f f₁ a → Read false s a (d + 1) e₁ e₂ f₁ f₂ r
       → Read false s at d e (set e₂ at (r % 65536)) f f₂ r
-  unfolding childrenOf
+  unfolding open-kinds
   read-parallel e e₁ e₂ f₁ f₂ a r room k x y = read-two false e e₁ e₂ f₁ f₂ a r room (rw k) x y (reads-parallel s at d here low _ _ k (x .reads) (y .reads))
-
--- The kinds that the guard reader reads are kinds of guards; of those that it leaves to the service reader, only a parallel has two children.
-held-guard : (k : ℕ) → byGuard k ≡ true → guardKind k ≡ true
-held-guard k e = bool-case (guardKind k ≡ true) (eqb k 0) (λ z. rw z) (λ z. rw z e)
-
-pub held-one : (k : ℕ) → byGuard k ≡ true → k ≢ 5 → childrenOf k ≡ 1
-unfolding childrenOf
-held-one k e n =
-    bool-case (childrenOf k ≡ 1) (eqb k 3) (λ z. rw (eqb-true k 3 z))
-    (λ z. bool-case (childrenOf k ≡ 1) (eqb k 4) (λ y. rw (eqb-true k 4 y)) (λ y. absurd (n (eqb-true k 5 (rw (z, y) at e)))))
-
-pub left-two : (k : ℕ) → byGuard k ≡ false → childrenOf k ≡ 2 → k ≡ 6
-left-two k e c = children-two k c (λ z. clash {b = byGuard 5} refl (rw z at e))
 
 -- From one reader to the other.
 module _ (s : List ℕ) (at d : ℕ) (e e₁ : List ℕ) (f f₁ r : ℕ) where

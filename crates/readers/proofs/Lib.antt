@@ -1,3 +1,4 @@
+pub mod Guards
 pub mod Readings
 pub mod Seeking
 pub mod Chains

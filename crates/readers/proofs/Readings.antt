@@ -18,11 +18,12 @@ use Rattle.cows.specs.Tables.{tooDeep, noGuard}
 use Rattle.cows.proofs.Basics.{same-some, orElse-none}
 use Rattle.cows.proofs.Places.{size-pos}
 use Rattle.cows.proofs.Format.{length-encode}
-use Rattle.cows.proofs.Fields.{kind-leaf, kind-prefix, kind-choice, kind-parallel, guard-kind}
+use Rattle.cows.proofs.Fields.{kind-choice, kind-parallel}
+use Rattle.cows.proofs.Rows.{no-child, one-child}
 use Rattle.records.specs.Answers.{placeOr}
 use Rattle.records.specs.Rewrites.{Stands}
 use Rattle.records.specs.Holds.{Holds}
-use Rattle.records.proofs.Laws.{children-none, children-one, place-tells}
+use Rattle.records.proofs.Laws.{place-tells}
 use Rattle.records.proofs.Stands.{holds-size, stands-kind, stands-fits, stands-under, stands-left, stands-right}
 use Rattle.readers.proofs.Seeking.{deep-first, fault-first, fault-below}
 use Rattle.readers.specs.Reads.{Reading, earlierOf, deepIn, chooses, faultIn, nextOf, About, Reads}
@@ -96,7 +97,7 @@ module _ (s : List ℕ) (at d : ℕ) (in-table : at < length s / 16) (low : d �
   leaf-right x = record { next = rw (le-ltb 256 d low); fault = λ e. refl }
 
   pub reads-leaf : childrenOf (kindAt s at) ≡ 0 → Reads false s at d (record { next = at + 1; fault = n })
-  reads-leaf c = within _ (omega arith) (λ t h. let (x, e) = kind-leaf t (children-none (kindOf t) (rw (kind t h) at c)) in rw e (leaf-right x))
+  reads-leaf c = within _ (omega arith) (λ t h. let (x, e) = no-child t (rw (kind t h) at c) in rw e (leaf-right x))
 
   one-right : (u : Prefix) (t : Term) (x : Reading) → About n false (at + 1) (d + 1) t x → About n false at d (under u t) x
   unfolding faultIn placeIf orElse size
@@ -106,8 +107,7 @@ module _ (s : List ℕ) (at d : ℕ) (in-table : at < length s / 16) (low : d �
   reads-one x c r =
       within x (omega (arith, r .onward))
       (λ t h.
-      let (k, p, q) = children-one (kindOf t) (rw (kind t h) at c) in
-      let (u, e) = kind-prefix t k p q in
+      let (u, e) = one-child t (rw (kind t h) at c) in
       rw e (one-right u (below t) x (r .right (below t) (subst (λ i. Stands s i (below t)) (omega arith) (stands-under u (below t) (rw e at h))))))
 
   -- two children: the second is read only if nothing in the first is too deep
@@ -172,7 +172,8 @@ fault-own n at (both j l r) = own n at (guard (both j l r)) (orElse (faultIn (ch
 
 module _ (s : List ℕ) (at d : ℕ) (x : Reading) where
   guard-at : (t : Term) → Stands s (16 * at) t → guardKind (kindAt s at) ≡ guard t
-  guard-at t h = ap guardKind (stands-kind t h) ∙ sym (guard-kind t)
+  unfolding guard
+  guard-at t h = ap guardKind (stands-kind t h)
 
   pub reads-noted : Reads false s at d x → Reads true s at d (record { next = x .next; fault = cond (guardKind (kindAt s at)) (x .fault) at })
   reads-noted r = record {

@@ -1,14 +1,14 @@
 -- What the service reader and the guard reader answer: the ends of the terms that they pass, and refusals 3, 4 and 5 among the records of the term at a place.
 use mathlib.Core.Path.{_≡_}
-use mathlib.Core.Bool.{Bool, true, false, cond, not, _&&_, _||_}
+use mathlib.Core.Bool.{Bool, true, false, cond, not, _&&_}
 use mathlib.Core.List.{List}
 use mathlib.Core.Option.{Option, none, some}
 use Prim.Native.Nat.{ℕ, _+_, _*_, _/_, _≤_, _<_}
-use lib.Dec.{ltb, eqb}
+use lib.Dec.{leb, ltb}
 use lib.ListN.{length, getD}
 use Rattle.cows.specs.Basics.{placeIf, orElse}
 use Rattle.cows.specs.Terms.{Join, choice, parallel, Term, leaf, under, both, size}
-use Rattle.cows.specs.Kinds.{guard}
+use Rattle.cows.specs.Kinds.{childrenOf, guardKind, guard}
 use Rattle.records.specs.Answers.{placeOr}
 use Rattle.records.specs.Ends.{endAt}
 use Rattle.records.specs.Rewrites.{Stands}
@@ -18,12 +18,9 @@ pub record Reading : Type 0 where
   pub next : ℕ
   pub fault : ℕ
 
--- the kinds that the guard reader reads wherever they stand: receive, wait, choice; the kinds of guards, nil among them
-abbrev pub byGuard : ℕ → Bool
-byGuard k = eqb k 3 || eqb k 4 || eqb k 5
-
-abbrev pub guardKind : ℕ → Bool
-guardKind k = eqb k 0 || eqb k 3 || eqb k 4 || eqb k 5
+-- the kinds that the guard reader reads wherever they stand: the guards that have a child, so all but nil
+unfoldable pub byGuard : ℕ → Bool
+byGuard k = guardKind k && leb 1 (childrenOf k)
 
 -- the first of two faults, of which n is none
 abbrev pub earlierOf : ℕ → ℕ → ℕ → ℕ

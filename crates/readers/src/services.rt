@@ -23,7 +23,7 @@ fn by_guard(k: u8) -> bool
 fn noted(n: usize, k: u8, fault: usize, at: usize) -> usize
     ensures { λ r. ⌜ r ≡ cond (guardKind k) fault (earlierOf n fault at) ⌝ }
 {
-    if (k == 0) | (k == 3) | (k == 4) | (k == 5) {
+    if (k == 0) | by_guard(k) {
         return fault;
     }
     if fault < n { fault } else { at }

@@ -24,7 +24,8 @@ use Rattle.records.proofs.Stands.{holds-kind, holds-word}
 use Rattle.ways.specs.Ways.{OnWay, Walks, startOf, scopeOf}
 use Rattle.ways.proofs.Climbing.{split-at}
 
-passed-kind : (f : Frame) (s : Term) → kind (passed f) ≡ kindOf (plug f s)
+-- the kind of the record of a frame
+pub passed-kind : (f : Frame) (s : Term) → kind (passed f) ≡ kindOf (plug f s)
 unfolding passed plug kindOf root
 passed-kind (inside u) s = refl
 passed-kind (leftOf j t) s = refl

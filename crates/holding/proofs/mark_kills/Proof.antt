@@ -10,9 +10,8 @@ use Rattle.ways.specs.Known.{Table}
 use Rattle.holding.specs.Holding.{Blank}
 use Rattle.ways.proofs.Tables.{table-size}
 use Rattle.ways.proofs.Seeking.{table-through, table-next, table-over}
-use Rattle.holding.proofs.HeldBack.{passesReady}
 use Rattle.records.proofs.Atoms.{no-label}
-use Rattle.holding.proofs.Marking.{kind-ready, Marking, marking-start, marking-end, marking-step, kill-range, marking-kill}
+use Rattle.holding.proofs.Marking.{Marking, marking-start, marking-end, marking-step, kill-range, marking-kill}
 use Rattle.holding.proofs.mark_kills.Statement.{statement}
 use Rattle.holding.proofs.mark_kills.Tie as tie
 
@@ -65,7 +64,7 @@ mark-kills-spec =
       o .loop .inv .1,
       λ t h b.
           marking-step _ _ t h (o .loop .i) (omega arith) _ _ (c .before .before .if1 .left)
-          (λ test k no. table-through _ _ t h _ (omega arith) passesReady readyKind kind-ready test k no (sym (c .before .ready-kind .ensures) ∙ c .if2 .taken)) (o .loop .inv .2 t h b),
+          (λ test k no. table-through _ _ t h _ (omega arith) readyKind test k no (sym (c .before .ready-kind .ensures) ∙ c .if2 .taken)) (o .loop .inv .2 t h b),
     ))
     (λ c. search needs)
     (λ c. search needs)
@@ -83,7 +82,7 @@ mark-kills-spec =
       o .loop .inv .1,
       λ t h b.
           marking-step _ _ t h (o .loop .i) (omega arith) _ _ (f .before .before .if1 .left)
-          (λ test k no. table-over _ _ t h _ (omega arith) passesReady readyKind kind-ready test k no (sym (f .before .ready-kind .ensures) ∙ f .if2 .left) _ (c .wide16 .ensures .0)) (o .loop .inv .2 t h b),
+          (λ test k no. table-over _ _ t h _ (omega arith) readyKind test k no (sym (f .before .ready-kind .ensures) ∙ f .if2 .left) _ (c .wide16 .ensures .0)) (o .loop .inv .2 t h b),
     ))
     (λ c. search needs)
     (λ c t h b. marking-end _ t _ (c .before .loop .inv .2 t h b) (omega (arith, table-size _ _ t h))))

@@ -12,7 +12,7 @@ use Rattle.cows.specs.Moves.{shorter}
 use Rattle.records.specs.Answers.{foundOf}
 use Rattle.ways.specs.Known.{Table}
 use Rattle.ways.proofs.Tables.{table-inside, table-size}
-use Rattle.ways.proofs.Seeking.{Seeking, seeking-start, seeking-found, seeking-end, table-through, table-next, table-over, kind-live}
+use Rattle.ways.proofs.Seeking.{Seeking, seeking-start, seeking-found, seeking-end, table-through, table-next, table-over}
 use Rattle.elapse.proofs.scans.first_shorter.Statement.{statement}
 use Rattle.elapse.proofs.scans.first_shorter.Tie as tie
 
@@ -21,7 +21,7 @@ abbrev short : ℕ → Term → Bool
 short d r = holds (λ i. ltb i d) (prefixed waits r)
 
 abbrev Inv-loop : tie.InvT-loop
-Inv-loop s ends d n i₀ i = (i ≤ n) × ((t : Term) → Table s ends t → Seeking passesLive (short d) t i)
+Inv-loop s ends d n i₀ i = (i ≤ n) × ((t : Term) → Table s ends t → Seeking liveKind (short d) t i)
 
 abbrev μ-loop : tie.MeasureT-loop
 μ-loop s ends d n i₀ i = n - i
@@ -49,7 +49,7 @@ first-shorter-spec =
       omega arith,
       λ t h.
           let i = table-inside _ _ t h (o .loop .i) (omega arith) in
-          table-through _ _ t h _ (omega arith) passesLive liveKind kind-live _ (o .loop .inv .1 t h) (sym (c .before .before .before .before .shorter .ensures t (h .holds) i) ∙ c .before .before .before .if1 .left) (sym (c .before .live-kind .ensures) ∙ c .if2 .taken),
+          table-through _ _ t h _ (omega arith) liveKind _ (o .loop .inv .1 t h) (sym (c .before .before .before .before .shorter .ensures t (h .holds) i) ∙ c .before .before .before .if1 .left) (sym (c .before .live-kind .ensures) ∙ c .if2 .taken),
     ))
     (λ c. search needs)
     (λ c. search needs)
@@ -66,6 +66,6 @@ first-shorter-spec =
       table-next _ _ (q .term) (q .table) (o .loop .i) (omega arith) _ (c .wide16 .ensures .0) .1,
       λ t h.
           let i = table-inside _ _ t h (o .loop .i) (omega arith) in
-          table-over _ _ t h _ (omega arith) passesLive liveKind kind-live _ (o .loop .inv .1 t h) (sym (b .before .shorter .ensures t (h .holds) i) ∙ b .if1 .left) (sym (c .before .before .before .live-kind .ensures) ∙ c .before .before .if2 .left) _ (c .wide16 .ensures .0),
+          table-over _ _ t h _ (omega arith) liveKind _ (o .loop .inv .1 t h) (sym (b .before .shorter .ensures t (h .holds) i) ∙ b .if1 .left) (sym (c .before .before .before .live-kind .ensures) ∙ c .before .before .if2 .left) _ (c .wide16 .ensures .0),
     ))
     (λ c t h. ap foundOf (sym (seeking-end _ _ t _ (c .before .loop .inv .1 t h) (omega (arith, table-size _ _ t h))))))

@@ -12,14 +12,13 @@ use Rattle.ways.specs.Known.{Table}
 use Rattle.matching.specs.Matching.{EndsAt}
 use Rattle.ways.proofs.Tables.{table-inside, table-size}
 use Rattle.ways.proofs.Seeking.{Seeking, seeking-start, seeking-found, seeking-end, table-through, table-next, table-over}
-use Rattle.holding.proofs.HeldBack.{passesReady}
-use Rattle.holding.proofs.Marking.{kind-ready}
+use Rattle.holding.proofs.Marking.{}
 use Rattle.holding.proofs.Conflicting.{tightening}
 use Rattle.holding.proofs.conflicts.first_tighter.Statement.{statement}
 use Rattle.holding.proofs.conflicts.first_tighter.Tie as tie
 
 abbrev Inv-loop : tie.InvT-loop
-Inv-loop s ends b l n i₀ i = (i ≤ n) × ((t : Term) (m : Ends) → Table s ends t → EndsAt s b m → closedEnds m ≡ true → Seeking passesReady (tightening l m) t i)
+Inv-loop s ends b l n i₀ i = (i ≤ n) × ((t : Term) (m : Ends) → Table s ends t → EndsAt s b m → closedEnds m ≡ true → Seeking readyKind (tightening l m) t i)
 
 abbrev μ-loop : tie.MeasureT-loop
 μ-loop s ends b l n i₀ i = n - i
@@ -47,7 +46,7 @@ first-tighter-spec =
       omega arith,
       λ t m h k z.
           let i = table-inside _ _ t h (o .loop .i) (omega arith) in
-          table-through _ _ t h _ (omega arith) passesReady readyKind kind-ready _ (o .loop .inv .1 t m h k z) (sym (c .before .before .before .before .tighter .ensures t m (h .holds) i k z) ∙ c .before .before .before .if1 .left) (sym (c .before .ready-kind .ensures) ∙ c .if2 .taken),
+          table-through _ _ t h _ (omega arith) readyKind _ (o .loop .inv .1 t m h k z) (sym (c .before .before .before .before .tighter .ensures t m (h .holds) i k z) ∙ c .before .before .before .if1 .left) (sym (c .before .ready-kind .ensures) ∙ c .if2 .taken),
     ))
     (λ c. search needs)
     (λ c. search needs)
@@ -64,6 +63,6 @@ first-tighter-spec =
       table-next _ _ (q .term) (q .table) (o .loop .i) (omega arith) _ (c .wide16 .ensures .0) .1,
       λ t m h k z.
           let i = table-inside _ _ t h (o .loop .i) (omega arith) in
-          table-over _ _ t h _ (omega arith) passesReady readyKind kind-ready _ (o .loop .inv .1 t m h k z) (sym (d .before .tighter .ensures t m (h .holds) i k z) ∙ d .if1 .left) (sym (c .before .before .before .ready-kind .ensures) ∙ c .before .before .if2 .left) _ (c .wide16 .ensures .0),
+          table-over _ _ t h _ (omega arith) readyKind _ (o .loop .inv .1 t m h k z) (sym (d .before .tighter .ensures t m (h .holds) i k z) ∙ d .if1 .left) (sym (c .before .before .before .ready-kind .ensures) ∙ c .before .before .if2 .left) _ (c .wide16 .ensures .0),
     ))
     (λ c t m h k z. ap foundOf (sym (seeking-end _ _ t _ (c .before .loop .inv .1 t m h k z) (omega (arith, table-size _ _ t h))))))

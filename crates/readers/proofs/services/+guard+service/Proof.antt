@@ -5,13 +5,14 @@ use Prim.Native.Nat.{ℕ, _<_, _-_, _/_, _+_, _*_}
 use native.Mathlib.Omega.{arith}
 use borrow.Author.Needs.{needs}
 use lib.ListN.{length, length-set, getD}
-use Rattle.cows.specs.Kinds.{guardKind}
+use Rattle.cows.specs.Kinds.{guardKind, open-kinds}
 use Rattle.records.specs.Ends.{oneIf}
 use Rattle.records.proofs.Laws.{test-small}
 use Rattle.readers.specs.Reads.{byGuard}
 use Rattle.readers.proofs.Readings.{kindAt}
 use Rattle.readers.proofs.Chains.{chain-before, read-chain}
-use Rattle.readers.proofs.Filling.{noted-fits, read-out, read-deep, read-leaf, read-one, read-choice, read-parallel, as-guard, as-service, read-noted, held-one, left-two}
+use Rattle.readers.proofs.Filling.{noted-fits, read-out, read-deep, read-leaf, read-one, read-choice, read-parallel, as-guard, as-service, read-noted}
+use Rattle.readers.proofs.Guards.{held-one, left-two}
 use Rattle.readers.proofs.Filling.{is-held, is-left, falls-guard, falls-service}
 use borrow.Fn.Kinds.{In}
 use borrow.Fn.PlainCycle.{Measures, is, falls, and}
@@ -114,7 +115,7 @@ pub +guard+service-spec : {M : Type 1} → statement M
     (λ c. omega arith) (λ c. omega arith) (λ c. omega arith) (λ c. simp length-set (omega arith))
     (λ c. let v = c .before .before .before .before .before .before .before in
     let k = v .before .before .before .if4 .taken in
-    as-guard _ _ _ _ _ _ _ _ (rw k)
+    as-guard _ _ _ _ _ _ _ _ (rw k (unfold byGuard open-kinds in refl))
     (read-choice _ _ _ (omega arith) _ (omega arith) (omega arith) _ _ _ _ _ _ _ (omega arith) k (v .guard .ensures) (c .before .before .guard2 .ensures)))
     (λ c. omega arith) (λ c. omega arith)
     (λ c κs. let x = c .before .before .before .before .before .before .before .before .before .before .args in
