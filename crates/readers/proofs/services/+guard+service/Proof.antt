@@ -1,5 +1,5 @@
 -- Each call of the two readers has fewer records left, or hands the record at hand to the other; each branch is a law of proofs/Filling.
-use mathlib.Core.Path.{sym, _∙_}
+use mathlib.Core.Path.{sym, _∙_, refl}
 use mathlib.Core.Bool.{true, false, not}
 use Prim.Native.Nat.{ℕ, _<_, _-_, _/_, _+_, _*_}
 use native.Mathlib.Omega.{arith}
