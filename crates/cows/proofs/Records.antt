@@ -10,8 +10,8 @@ use lib.Seq.{drop-cons}
 use borrow.Author.Tests.{eqb-true, leb-true, ltb-true, le-leb, lt-ltb}
 use Rattle.cows.specs.Basics.{every}
 use Rattle.cows.specs.Terms.{nil, kill, invoke, receive, wait, protection, delimitation, replication, choice, parallel, label, datum, atom}
-use Rattle.cows.specs.Kinds.{Node, basic, prefix, join, unused, interval, distinct, data4, pattern4, empty4, Row, kinds, rowOf}
-use Rattle.cows.specs.Format.{Bytes, bytes2, byte, word, layout, record16, slots, rightRow, rightRecord, tuple, node}
+use Rattle.cows.specs.Kinds.{Node, basic, prefix, join, unused, interval, distinct, data4, pattern4, empty4, Contents, kinds, rowOf}
+use Rattle.cows.specs.Format.{Bytes, bytes2, byte, word, layout, record16, slots, rightContents, rightRecord, tuple, node}
 use Rattle.cows.specs.Within.{RightTuple, RightBasic, RightPrefix}
 use Rattle.cows.proofs.Basics.{and-true, true-and, or-left}
 use Rattle.cows.proofs.Sets.{set-case, value-range, variable-range, label-range}
@@ -130,12 +130,12 @@ raw-layout : (b : List ℕ) (k a c i : ℕ) (ws : List ℕ) → a ≡ word b 2 �
 unfolding raw words layout slots bytes2
 raw-layout b k a c i ws p q r s = cc (r .0, r .1)
 
--- The row of a kind, and what it says of a record's fields.
-abbrev Fits : Row → List ℕ → Type 0
+-- What a record may hold, and what it holds.
+abbrev Fits : Contents → List ℕ → Type 0
 Fits r b = (r .first (word b 2) ≡ true) × (r .second (word b 4) ≡ true) × (r .tuple (byte b 1) (slots b) ≡ true) × (r .interval (word b 14) ≡ true)
 
-fits : (r : Row) (b : List ℕ) → rightRow r b ≡ true → Fits r b
-unfolding rightRow
+fits : (r : Contents) (b : List ℕ) → rightContents r b ≡ true → Fits r b
+unfolding rightContents
 fits r b h =
     let (h₁, h₄) = and-true (r .first (word b 2) && r .second (word b 4) && r .tuple (byte b 1) (slots b)) _ h in
     let (h₂, h₃) = and-true (r .first (word b 2) && r .second (word b 4)) _ h₁ in
@@ -166,7 +166,7 @@ unfolding pattern4 tuple
 pattern-data b h = and-true (data4 (byte b 1) (slots b)) _ h
 
 -- A right record is what is read off it, written again; and what is read off it is right.
-right-kind : (b : List ℕ) (k : ℕ) → byte b 0 ≡ k → k < 10 → Fits (rowOf k) b → (record16 (node b) ≡ raw k b) × RightNode (node b)
+right-kind : (b : List ℕ) (k : ℕ) → byte b 0 ≡ k → k < 10 → Fits (rowOf k .holds) b → (record16 (node b) ≡ raw k b) × RightNode (node b)
 unfolding kinds rowOf node record16 interval unused empty4
 right-kind b zero e l h = rw e (plain b 0 (h .0) (h .1) (h .2) (h .3), tt)
 right-kind b (suc zero) e l h = rw e (bare b 1 (word b 2) 0 refl (h .1) (h .2) (unused-zero (word b 14) (h .3)), h .0)
@@ -184,13 +184,13 @@ pub right-record : (b : List ℕ) → length b ≡ 16 → Bytes b → rightRecor
 unfolding rightRecord kinds
 right-record b l k h =
     let (m, f) = and-true (ltb (byte b 0) (length kinds)) _ h in
-    let (r, n) = right-kind b (byte b 0) refl (ltb-true (byte b 0) (length kinds) m) (fits (rowOf (byte b 0)) b f) in
+    let (r, n) = right-kind b (byte b 0) refl (ltb-true (byte b 0) (length kinds) m) (fits (rowOf (byte b 0) .holds) b f) in
     (r ∙ raw-bytes b l k, n)
 
 -- The other way: a right node's bytes are a right record, and the node is read off them.
-layout-right : (k a c i : ℕ) (ws : List ℕ) → ltb k (length kinds) ≡ true → rowOf k .first a ≡ true → rowOf k .second c ≡ true → rowOf k .tuple (length ws) (pad ws) ≡ true → rowOf k .interval i ≡ true
+layout-right : (k a c i : ℕ) (ws : List ℕ) → ltb k (length kinds) ≡ true → rowOf k .holds .first a ≡ true → rowOf k .holds .second c ≡ true → rowOf k .holds .tuple (length ws) (pad ws) ≡ true → rowOf k .holds .interval i ≡ true
     → rightRecord (layout k a c ws i) ≡ true
-unfolding rightRecord rightRow layout bytes2 word byte slots
+unfolding rightRecord rightContents layout bytes2 word byte slots
 layout-right k a c i ws l p q t s = simp word-bytes2 (true-and l (true-and (true-and (true-and p q) t) s))
 
 pub record-right : (n : Node) → RightNode n → rightRecord (record16 n) ≡ true

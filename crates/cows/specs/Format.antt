@@ -5,7 +5,7 @@ use Prim.Native.Nat.{ℕ, suc, _+_, _*_, _/_, _%_, _<_}
 use lib.Dec.{ltb}
 use lib.ListN.{length, getD, take}
 use Rattle.cows.specs.Terms.{nil, kill, invoke, receive, wait, protection, delimitation, replication, choice, parallel, Term, leaf, under, both}
-use Rattle.cows.specs.Kinds.{Node, basic, prefix, join, kind, Row, kinds, rowOf}
+use Rattle.cows.specs.Kinds.{Node, basic, prefix, join, kind, Contents, kinds, rowOf}
 use Rattle.cows.specs.Basics.{All}
 use Rattle.cows.specs.Cut.{cut}
 
@@ -37,19 +37,19 @@ layout k a b ws i =
     ++ bytes2 i
 
 -- What a record holds, handed to `write`: first atom, second atom, tuple, interval; every field that its kind does not use is 0.
-abbrev pub contents : Node → (ℕ → ℕ → List ℕ → ℕ → List ℕ) → List ℕ
-contents (basic nil) write = write 0 0 [] 0
-contents (basic (kill k)) write = write k 0 [] 0
-contents (basic (invoke p o ws)) write = write p o ws 0
-contents (prefix (receive p o ws)) write = write p o ws 0
-contents (prefix (wait n)) write = write 0 0 [] n
-contents (prefix protection) write = write 0 0 [] 0
-contents (prefix (delimitation d)) write = write d 0 [] 0
-contents (prefix replication) write = write 0 0 [] 0
-contents (join j) write = write 0 0 [] 0
+abbrev pub writeFields : Node → (ℕ → ℕ → List ℕ → ℕ → List ℕ) → List ℕ
+writeFields (basic nil) write = write 0 0 [] 0
+writeFields (basic (kill k)) write = write k 0 [] 0
+writeFields (basic (invoke p o ws)) write = write p o ws 0
+writeFields (prefix (receive p o ws)) write = write p o ws 0
+writeFields (prefix (wait n)) write = write 0 0 [] n
+writeFields (prefix protection) write = write 0 0 [] 0
+writeFields (prefix (delimitation d)) write = write d 0 [] 0
+writeFields (prefix replication) write = write 0 0 [] 0
+writeFields (join j) write = write 0 0 [] 0
 
 unfoldable pub record16 : Node → List ℕ
-record16 n = contents n (layout (kind n))
+record16 n = writeFields n (layout (kind n))
 
 -- a table: its records one behind the other
 abbrev pub bytes : List Node → List ℕ
@@ -62,12 +62,12 @@ encode t = bytes (nodes t)
 unfoldable pub slots : List ℕ → List ℕ
 slots b = word b 6 ∷ word b 8 ∷ word b 10 ∷ word b 12 ∷ []
 
-unfoldable pub rightRow : Row → List ℕ → Bool
-rightRow r b =
+unfoldable pub rightContents : Contents → List ℕ → Bool
+rightContents r b =
     r .first (word b 2) && r .second (word b 4) && r .tuple (byte b 1) (slots b) && r .interval (word b 14)
 
 unfoldable pub rightRecord : List ℕ → Bool
-rightRecord b = ltb (byte b 0) (length kinds) && rightRow (rowOf (byte b 0)) b
+rightRecord b = ltb (byte b 0) (length kinds) && rightContents (rowOf (byte b 0) .holds) b
 
 -- A record read (an unknown kind reads as nil, and is no right record).
 unfoldable pub tuple : List ℕ → List ℕ
@@ -111,5 +111,5 @@ decode ns = getD (build ns) 0 (leaf nil)
 
 -- (for computed checks) to unfold this is to unfold every definition of this file
 unfoldable pub open-format : Unit {0}
-unfolding bytes2 byte word nodes layout record16 encode slots rightRow rightRecord tuple node push build decode
+unfolding bytes2 byte word nodes layout record16 encode slots rightContents rightRecord tuple node push build decode
 open-format = tt

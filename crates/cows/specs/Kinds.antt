@@ -57,26 +57,29 @@ pattern4 n ws = data4 n ws && distinct (take n ws)
 unfoldable pub empty4 : ℕ → List ℕ → Bool
 empty4 n ws = unused n && every unused ws
 
-pub record Row : Type 0 where
-  pub children : ℕ
-  -- the way to a live record may pass it, and that to a ready one
-  pub live : Bool
-  pub ready : Bool
-  -- it may stand in a choice
-  pub guard : Bool
-  -- a delimitation may float over it
-  pub floats : Bool
-  -- what it counts in the load
-  pub weight : ℕ
-  -- what it may hold
+-- What a record may hold: its two atoms, its tuple by the count and the four slots, its interval.
+pub record Contents : Type 0 where
   pub first : ℕ → Bool
   pub second : ℕ → Bool
   pub tuple : ℕ → List ℕ → Bool
   pub interval : ℕ → Bool
 
-abbrev pub entry : ℕ → (live ready guard floats : Bool) → ℕ → (first second : ℕ → Bool) → (ℕ → List ℕ → Bool) → (ℕ → Bool) → Row
-entry c l r g f w a b d e =
-    record { children = c; live = l; ready = r; guard = g; floats = f; weight = w; first = a; second = b; tuple = d; interval = e }
+abbrev pub may : (first second : ℕ → Bool) → (ℕ → List ℕ → Bool) → (ℕ → Bool) → Contents
+may a b c d = record { first = a; second = b; tuple = c; interval = d }
+
+-- A row: the number of children; whether the way to a live record may pass such a record, and that to a ready one; whether it is a guard; whether a delimitation
+-- may float over it; what it counts in the load; what it may hold.
+pub record Row : Type 0 where
+  pub children : ℕ
+  pub live : Bool
+  pub ready : Bool
+  pub guard : Bool
+  pub floats : Bool
+  pub weight : ℕ
+  pub holds : Contents
+
+abbrev row : ℕ → (live ready guard floats : Bool) → ℕ → Contents → Row
+row c l r g f w h = record { children = c; live = l; ready = r; guard = g; floats = f; weight = w; holds = h }
 
 abbrev no : Bool
 no = false
@@ -86,22 +89,22 @@ yes = true
 
 unfoldable pub kinds : List Row
 kinds =
-    -- children, live, ready, guard, floats, weight, first, second, tuple, interval
-    entry 0 no no yes no 0 unused unused empty4 unused  -- 0 nil
-    ∷ entry 0 no no no no 1 label unused empty4 unused  -- 1 kill
-    ∷ entry 0 no no no no 1 datum datum data4 unused  -- 2 invoke
-    ∷ entry 1 no no yes no 1 value value pattern4 unused  -- 3 receive
-    ∷ entry 1 no no yes no 1 unused unused empty4 interval  -- 4 wait
-    ∷ entry 2 yes yes yes no 0 unused unused empty4 unused  -- 5 choice
-    ∷ entry 2 yes yes no yes 0 unused unused empty4 unused  -- 6 parallel
-    ∷ entry 1 yes yes no yes 0 unused unused empty4 unused  -- 7 protection
-    ∷ entry 1 yes yes no yes 0 atom unused empty4 unused  -- 8 delimitation
-    ∷ entry 1 no yes no no 0 unused unused empty4 unused  -- 9 replication
+    -- children, live, ready, guard, floats, weight, and the contents: first, second, tuple, interval
+    row 0 no no yes no 0 (may unused unused empty4 unused)  -- 0 nil
+    ∷ row 0 no no no no 1 (may label unused empty4 unused)  -- 1 kill
+    ∷ row 0 no no no no 1 (may datum datum data4 unused)  -- 2 invoke
+    ∷ row 1 no no yes no 1 (may value value pattern4 unused)  -- 3 receive
+    ∷ row 1 no no yes no 1 (may unused unused empty4 interval)  -- 4 wait
+    ∷ row 2 yes yes yes no 0 (may unused unused empty4 unused)  -- 5 choice
+    ∷ row 2 yes yes no yes 0 (may unused unused empty4 unused)  -- 6 parallel
+    ∷ row 1 yes yes no yes 0 (may unused unused empty4 unused)  -- 7 protection
+    ∷ row 1 yes yes no yes 0 (may atom unused empty4 unused)  -- 8 delimitation
+    ∷ row 1 no yes no no 0 (may unused unused empty4 unused)  -- 9 replication
     ∷ []
 
 -- The row of a kind. A kind from 10 on is unknown: no record of it is right; that it counts one child is what the paper's sum gives (01, Records).
 unfoldable pub rowOf : ℕ → Row
-rowOf k = getD kinds k (entry 1 no no no no 0 unused unused empty4 unused)
+rowOf k = getD kinds k (row 1 no no no no 0 (may unused unused empty4 unused))
 
 unfoldable pub childrenOf : ℕ → ℕ
 childrenOf k = rowOf k .children

@@ -10,10 +10,10 @@ use lib.ListN.{getD}
 use borrow.Author.Tests.{leb-true, ltb-true, le-leb, lt-ltb, eq-eqb}
 use Rattle.cows.specs.Basics.{every}
 use Rattle.cows.specs.Terms.{label, datum, atom}
-use Rattle.cows.specs.Kinds.{unused, interval, distinct, empty4, kinds, rowOf}
-use Rattle.cows.specs.Format.{byte, word, rightRow, rightRecord}
+use Rattle.cows.specs.Kinds.{unused, interval, distinct, empty4, kinds, rowOf, may}
+use Rattle.cows.specs.Format.{byte, word, rightContents, rightRecord}
 use Rattle.cows.proofs.Basics.{and-true, true-and}
-use Rattle.rows.specs.Rows.{slotRight, tupleRow}
+use Rattle.rows.specs.Rows.{slotRight, tupleContents}
 use Rattle.rows.proofs.Checks.{datum-range, atom-range, tupleTest, invoke-code, receive-code}
 use Rattle.records.proofs.Pieces.{piece, byte-piece, word-piece, first-piece}
 use Rattle.rows.proofs.Tested.{tuple-piece, slots-piece}
@@ -117,9 +117,9 @@ module _ (s : List ℕ) (k : ℕ) where
   slots-in (suc (suc (suc (suc (suc n))))) l r = absurd (omega arith)
 
   -- a kind x without a tuple, whose row has p for the first atom and q for the interval
-  plain-in : (x : ℕ) (p q : ℕ → Bool) → getD s k 0 ≡ x → x < 10 → rowOf x ≡ row p unused empty4 q → Within (word s k) x x → p (word s (k + 2)) ≡ true → Within (word s (k + 4)) 0 0 → q (word s (k + 14)) ≡ true
+  plain-in : (x : ℕ) (p q : ℕ → Bool) → getD s k 0 ≡ x → x < 10 → rowOf x .holds ≡ may p unused empty4 q → Within (word s k) x x → p (word s (k + 2)) ≡ true → Within (word s (k + 4)) 0 0 → q (word s (k + 14)) ≡ true
       → CountRow (getD s (k + 1) 0) → rightRecord (piece s k) ≡ true
-  unfolding rightRecord kinds rightRow empty4 every unused byte countLowest countGreatest
+  unfolding rightRecord kinds rightContents empty4 every unused byte countLowest countGreatest
   plain-in x p q e l r w hp h hq c =
       let n : getD s (k + 1) 0 ≡ 0 = omega (arith, first-word) in
       let d : CountRow 0 = rw n at c in
@@ -127,7 +127,7 @@ module _ (s : List ℕ) (k : ℕ) where
 
   -- a kind with a tuple, whose endpoint's atoms are at most top
   tuple-test : (x top : ℕ) → getD s k 0 ≡ x → Within (word s k) x (x + 1024) → Within (word s (k + 2)) 1 top → Within (word s (k + 4)) 1 top → Within (word s (k + 14)) 0 0 → CountRow (getD s (k + 1) 0)
-      → rightRow (tupleRow (suc top)) (piece s k) ≡ true
+      → rightContents (tupleContents (suc top)) (piece s k) ≡ true
   tuple-test x top e w p o i c =
       let n : getD s (k + 1) 0 ≤ 4 = omega (arith, first-word) in
       let (a₀, a₁, a₂, a₃) = slots-in (getD s (k + 1) 0) n c in

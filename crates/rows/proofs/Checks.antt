@@ -9,11 +9,11 @@ use lib.ListN.{take, drop, take-append-drop}
 use borrow.Author.Tests.{eqb-true, leb-true, ltb-true, eq-eqb, ne-eqb, le-leb, lt-leb, lt-ltb, le-ltb}
 use Rattle.cows.specs.Basics.{any, every, member}
 use Rattle.cows.specs.Terms.{value, variable, label, datum, atom}
-use Rattle.cows.specs.Kinds.{unused, interval, distinct, data4, pattern4, empty4, kinds, rowOf}
-use Rattle.cows.specs.Format.{byte, word, slots, rightRow, rightRecord}
+use Rattle.cows.specs.Kinds.{unused, interval, distinct, data4, pattern4, empty4, kinds, rowOf, may}
+use Rattle.cows.specs.Format.{byte, word, slots, rightContents, rightRecord}
 use Rattle.cows.proofs.Basics.{and-true as and-parts, true-and, lt-case, same-test, member-append}
 use Rattle.cows.proofs.Sets.{variable-range}
-use Rattle.rows.specs.Rows.{quad, inRange, slotRight, tupleRow, plainRight}
+use Rattle.rows.specs.Rows.{quad, inRange, slotRight, tupleContents, plainRight}
 
 -- A test says a fact: it is true exactly if the fact holds. Two tests that say the same are equal.
 record Says (b : Bool) (P : Type 0) : Type 0 where
@@ -110,16 +110,16 @@ abbrev pub tupleTest : ℕ → ℕ → ℕ → ℕ → ℕ → ℕ → ℕ → �
 tupleTest top n p o a b c d i =
     inRange 1 top p && inRange 1 top o && (leb n 4 && (slotRight n 0 a && slotRight n 1 b && slotRight n 2 c && slotRight n 3 d)) && eqb i 0
 
-pub tuple-code : (b : List ℕ) (top : ℕ) → tupleTest top (byte b 1) (word b 2) (word b 4) (word b 6) (word b 8) (word b 10) (word b 12) (word b 14) ≡ rightRow (tupleRow top) b
-unfolding rightRow slots unused
+pub tuple-code : (b : List ℕ) (top : ℕ) → tupleTest top (byte b 1) (word b 2) (word b 4) (word b 6) (word b 8) (word b 10) (word b 12) (word b 14) ≡ rightContents (tupleContents top) b
+unfolding rightContents slots unused
 tuple-code b top = rw (slots-data (byte b 1) (word b 6) (word b 8) (word b 10) (word b 12))
 
-pub invoke-code : (b : List ℕ) → byte b 0 ≡ 2 → rightRow (tupleRow 49152) b ≡ rightRecord b
-unfolding rightRecord kinds rowOf rightRow
+pub invoke-code : (b : List ℕ) → byte b 0 ≡ 2 → rightContents (tupleContents 49152) b ≡ rightRecord b
+unfolding rightRecord kinds rowOf rightContents
 invoke-code b e = rw (e, datum-range (word b 2), datum-range (word b 4))
 
-pub receive-code : (b : List ℕ) → byte b 0 ≡ 3 → (rightRow (tupleRow 32768) b && distinct (slots b)) ≡ rightRecord b
-unfolding rightRecord kinds rowOf rightRow value
+pub receive-code : (b : List ℕ) → byte b 0 ≡ 3 → (rightContents (tupleContents 32768) b && distinct (slots b)) ≡ rightRecord b
+unfolding rightRecord kinds rowOf rightContents value
 receive-code b e =
     rw (e, pattern-data (byte b 1) (slots b)) (go (inRange 1 32768 (word b 2) && inRange 1 32768 (word b 4)) (data4 (byte b 1) (slots b)) (unused (word b 14)) (distinct (slots b)))
   where
@@ -193,25 +193,25 @@ module _ (b : List ℕ) (h : (i : ℕ) → byte b i < 256) where
   high-cut : quad b 8 % 281474976710656 ≡ others
   high-cut = rw high-is (cut-high others (word b 14) (omega (arith, small 8, small 10, small 12)))
 
-  bare-row : (p q : ℕ → Bool) → rightRow (row p unused empty4 q) b ≡ (p (word b 2) && (eqb (word b 4) 0 && (eqb (byte b 1) 0 && (eqb (word b 6) 0 && eqb others 0))) && q (word b 14))
-  unfolding rightRow empty4 every unused slots
+  bare-row : (p q : ℕ → Bool) → rightContents (may p unused empty4 q) b ≡ (p (word b 2) && (eqb (word b 4) 0 && (eqb (byte b 1) 0 && (eqb (word b 6) 0 && eqb others 0))) && q (word b 14))
+  unfolding rightContents empty4 every unused slots
   bare-row p q =
       rw (and-true (eqb (word b 12) 0), zero-and (word b 10) (word b 12), zero-and (word b 8) (word b 10 + 65536 * word b 12), and-assoc (p (word b 2)) (eqb (word b 4) 0) _)
 
   first-code : (p : ℕ → Bool) (k l : ℕ) → byte b 0 ≡ k → p (word b 2) ≡ inRange l 65536 (word b 2)
-      → (eqb (quad b 0 % 65536) k && leb l (quad b 0 / 65536) && ltb (quad b 0 / 65536) 65536 && eqb (quad b 8) 0) ≡ rightRow (row p unused empty4 unused) b
+      → (eqb (quad b 0 % 65536) k && leb l (quad b 0 / 65536) && ltb (quad b 0 / 65536) 65536 && eqb (quad b 8) 0) ≡ rightContents (may p unused empty4 unused) b
   unfolding unused
   first-code p k l e r = rw (bare-row p unused, r, low-cut .0, low-cut .1, high-is, ← e) (first-test (byte b 0) (byte b 1) (word b 2) (word b 4) (word b 6) others (word b 14) l)
 
-  wait-code : byte b 0 ≡ 4 → (eqb (quad b 0) 4 && eqb (quad b 8 % 281474976710656) 0) ≡ rightRow (row unused unused empty4 interval) b
+  wait-code : byte b 0 ≡ 4 → (eqb (quad b 0) 4 && eqb (quad b 8 % 281474976710656) 0) ≡ rightContents (may unused unused empty4 interval) b
   unfolding unused interval
   wait-code e = rw (bare-row unused interval, low-is, high-cut) (wait-test (byte b 0) (byte b 1) (word b 2) (word b 4) (word b 6) others (word b 14) e (small 14))
 
-  nil-code : (k : ℕ) → byte b 0 ≡ k → (ltb (quad b 0) 10 && eqb (quad b 8) 0) ≡ (ltb k 10 && rightRow (row unused unused empty4 unused) b)
+  nil-code : (k : ℕ) → byte b 0 ≡ k → (ltb (quad b 0) 10 && eqb (quad b 8) 0) ≡ (ltb k 10 && rightContents (may unused unused empty4 unused) b)
   unfolding unused
   nil-code k e = rw (bare-row unused unused, low-is, high-is, ← e) (nil-test (byte b 0) (byte b 1) (word b 2) (word b 4) (word b 6) others (word b 14))
 
-  by-kind : (k : ℕ) → byte b 0 ≡ k → (k ≡ 2 → ⊥) → (k ≡ 3 → ⊥) → plainRight k (quad b 0) (quad b 8) ≡ (ltb k 10 && rightRow (rowOf k) b)
+  by-kind : (k : ℕ) → byte b 0 ≡ k → (k ≡ 2 → ⊥) → (k ≡ 3 → ⊥) → plainRight k (quad b 0) (quad b 8) ≡ (ltb k 10 && rightContents (rowOf k .holds) b)
   unfolding plainRight kinds rowOf label
   by-kind zero e m n = nil-code 0 e
   by-kind (suc zero) e m n = first-code label 1 49152 e refl

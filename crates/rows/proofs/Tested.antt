@@ -4,10 +4,10 @@ use mathlib.Core.List.{List, [], _∷_}
 use Prim.Native.Nat.{ℕ, _+_, _<_}
 use native.Mathlib.Omega.{arith}
 use lib.ListN.{getD, drop, List·getD-eq-default, length-take}
-use Rattle.cows.specs.Format.{byte, word, slots, rightRow, rightRecord}
+use Rattle.cows.specs.Format.{byte, word, slots, rightContents, rightRecord}
 use Rattle.cows.proofs.Basics.{lt-case}
 use Rattle.records.proofs.Pieces.{piece, byte-piece, word-piece, first-piece}
-use Rattle.rows.specs.Rows.{quad, tupleRow, plainRight}
+use Rattle.rows.specs.Rows.{quad, tupleContents, plainRight}
 use Rattle.rows.proofs.Checks.{tupleTest, tuple-code, plain-code}
 
 module _ (s : List ℕ) (k : ℕ) where
@@ -21,7 +21,7 @@ module _ (s : List ℕ) (k : ℕ) where
 
   pub tuple-piece : (top : ℕ)
       → tupleTest top (getD s (k + 1) 0) (word s (k + 2)) (word s (k + 4)) (word s (k + 6)) (word s (k + 8)) (word s (k + 10)) (word s (k + 12)) (word s (k + 14))
-      ≡ rightRow (tupleRow top) (piece s k)
+      ≡ rightContents (tupleContents top) (piece s k)
   unfolding byte
   tuple-piece top = rw (byte-piece s k 1 (omega arith), word-piece s k 2 (omega arith), word-piece s k 4 (omega arith), word-piece s k 6 (omega arith), word-piece s k 8 (omega arith), word-piece s k 10 (omega arith), word-piece s k 12 (omega arith), word-piece s k 14 (omega arith)) at (tuple-code (piece s k) top)
 

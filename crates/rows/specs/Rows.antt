@@ -4,7 +4,7 @@ use mathlib.Core.Bool.{Bool, cond, _&&_}
 use mathlib.Core.List.{List}
 use lib.Dec.{leb, ltb, eqb}
 use Rattle.cows.specs.Terms.{datum}
-use Rattle.cows.specs.Kinds.{unused, data4, Row}
+use Rattle.cows.specs.Kinds.{unused, data4, Contents, may}
 use Rattle.cows.specs.Format.{word}
 
 -- the 64-bit number at byte k
@@ -19,9 +19,9 @@ inRange low high a = leb low a && ltb a high
 unfoldable pub slotRight : ℕ → ℕ → ℕ → Bool
 slotRight n j a = cond (ltb j n) (datum a) (unused a)
 
--- the row of a kind with a tuple, whose endpoint's atoms are below top
-abbrev pub tupleRow : ℕ → Row
-tupleRow top = row (inRange 1 top) (inRange 1 top) data4 unused
+-- what a kind with a tuple may hold, whose endpoint's atoms are below top
+abbrev pub tupleContents : ℕ → Contents
+tupleContents top = may (inRange 1 top) (inRange 1 top) data4 unused
 
 -- a record without a tuple
 unfoldable pub plainRight : ℕ → ℕ → ℕ → Bool

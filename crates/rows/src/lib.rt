@@ -8,8 +8,8 @@ ghost use lib.ListN.{length, take, drop};
 ghost use lib.Dec.{eqb};
 ghost use Rattle.cows.specs.Terms.{variable};
 ghost use Rattle.cows.specs.Kinds.{distinct};
-ghost use Rattle.cows.specs.Format.{word, rightRow, rightRecord};
-ghost use Rattle.rows.specs.Rows.{quad, slotRight, tupleRow, plainRight};
+ghost use Rattle.cows.specs.Format.{word, rightContents, rightRecord};
+ghost use Rattle.rows.specs.Rows.{quad, slotRight, tupleContents, plainRight};
 
 fn wide8(x: u8) -> u64
     ensures { λ r. ⌜ (r ≡ x) × (r < 256) ⌝ }
@@ -45,7 +45,7 @@ fn slot_right(n: u8, j: u8, a: u16) -> bool
 // The record at byte k has a tuple: its endpoint's atoms are below `top`, its slots are filled up to the count, and it has no interval.
 fn tuple_right(s: &[u8], k: usize, top: u16) -> bool
     requires { ⌜ k + 15 < length (now s) ⌝ }
-    ensures { λ r. ⌜ r ≡ rightRow (tupleRow top) (take 16 (drop k (now (s .entry)))) ⌝ }
+    ensures { λ r. ⌜ r ≡ rightContents (tupleContents top) (take 16 (drop k (now (s .entry)))) ⌝ }
 {
     let n = s[k + 1];
     let p = word_at(s, k + 2);
