@@ -139,36 +139,35 @@ module _ {A : Type 0} (w : ℕ) (write : A → List ℕ) (wide : (x : A) → len
       let e : w * suc j ≡ w + w * j = omega arith in
       rw (e, ← drop-drop (w * j) w (write x ++ flatMap write xs), drop-at (write x) (flatMap write xs) w (wide x)) (drop-write xs j)
 
-  -- those that are right
-  module _ (Right : A → Type 0) where
-    pub map-read : (read : List ℕ → A) → ((x : A) → Right x → read (write x) ≡ x) → (xs : List A) → All Right xs → map read (map write xs) ≡ xs
-    map-read read f [] h = refl
-    map-read read f (x ∷ xs) h = rw (f x (h .0), map-read read f xs (h .1))
+-- Records that are right: read back, they pass the test and are made of bytes.
+module _ {A : Type 0} (write : A → List ℕ) (Right : A → Type 0) where
+  pub map-read : (read : List ℕ → A) → ((x : A) → Right x → read (write x) ≡ x) → (xs : List A) → All Right xs → map read (map write xs) ≡ xs
+  map-read read f [] h = refl
+  map-read read f (x ∷ xs) h = rw (f x (h .0), map-read read f xs (h .1))
 
-    pub write-passes : (test : List ℕ → Bool) → ((x : A) → Right x → test (write x) ≡ true) → (xs : List A) → All Right xs → All (λ b. test b ≡ true) (map write xs)
-    write-passes test f [] h = tt
-    write-passes test f (x ∷ xs) h = (f x (h .0), write-passes test f xs (h .1))
+  pub write-passes : (test : List ℕ → Bool) → ((x : A) → Right x → test (write x) ≡ true) → (xs : List A) → All Right xs → All (λ b. test b ≡ true) (map write xs)
+  write-passes test f [] h = tt
+  write-passes test f (x ∷ xs) h = (f x (h .0), write-passes test f xs (h .1))
 
-    pub write-bytes : ((x : A) → Right x → Bytes (write x)) → (xs : List A) → All Right xs → Bytes (flatMap write xs)
-    unfolding flatMap
-    write-bytes f [] h = tt
-    write-bytes f (x ∷ xs) h = all-append (λ n. n < 256) (write x) (flatMap write xs) (f x (h .0)) (write-bytes f xs (h .1))
+  pub write-bytes : ((x : A) → Right x → Bytes (write x)) → (xs : List A) → All Right xs → Bytes (flatMap write xs)
+  unfolding flatMap
+  write-bytes f [] h = tt
+  write-bytes f (x ∷ xs) h = all-append (λ n. n < 256) (write x) (flatMap write xs) (f x (h .0)) (write-bytes f xs (h .1))
 
-    -- what is read off pieces that pass is right, and writes them again
-    module _ (read : List ℕ → A) (test : List ℕ → Bool) (passes : (b : List ℕ) → length b ≡ w → Bytes b → test b ≡ true → (write (read b) ≡ b) × Right (read b)) where
-      pieces-right : (n : ℕ) (b : List ℕ) → length b ≡ w * n → Bytes b → All (λ x. test x ≡ true) (pieces w n b)
-          → (flatMap write (map read (pieces w n b)) ≡ b) × All Right (map read (pieces w n b))
-      unfolding pieces flatMap
-      pieces-right zero [] h k e = (refl, tt)
-      pieces-right zero (x ∷ b) h k e = absurd (omega arith)
-      pieces-right (suc n) b h k e =
-          let (k₁, k₂) = all-take (λ n. n < 256) w b k in
-          let z : length b ≡ w * n + w = omega arith in
-          let (r, p) = passes (take w b) (length-take w b ∙ omega arith) k₁ (e .0) in
-          let (q, l) = pieces-right n (drop w b) (length-drop w b ∙ omega arith) k₂ (e .1) in
-          (rw (r, q) (take-append-drop w b), (p, l))
+  -- and what is read off pieces of w bytes that pass is right, and writes them again
+  module _ (w : ℕ) (read : List ℕ → A) (test : List ℕ → Bool) (passes : (b : List ℕ) → length b ≡ w → Bytes b → test b ≡ true → (write (read b) ≡ b) × Right (read b)) where
+    pieces-right : (n : ℕ) (b : List ℕ) → length b ≡ w * n → Bytes b → All (λ x. test x ≡ true) (pieces w n b)
+        → (flatMap write (map read (pieces w n b)) ≡ b) × All Right (map read (pieces w n b))
+    unfolding pieces flatMap
+    pieces-right zero [] h k e = (refl, tt)
+    pieces-right zero (x ∷ b) h k e = absurd (omega arith)
+    pieces-right (suc n) b h k e =
+        let (k₁, k₂) = all-take (λ n. n < 256) w b k in
+        let z : length b ≡ w * n + w = omega arith in
+        let (r, p) = passes (take w b) (length-take w b ∙ omega arith) k₁ (e .0) in
+        let (q, l) = pieces-right n (drop w b) (length-drop w b ∙ omega arith) k₂ (e .1) in
+        (rw (r, q) (take-append-drop w b), (p, l))
 
-      pub cut-right : (b : List ℕ) → length b % w ≡ 0 → Bytes b → firstFailing test 0 (cut w b) ≡ none
-          → (flatMap write (map read (cut w b)) ≡ b) × All Right (map read (cut w b))
-      unfolding cut
-      cut-right b z k e = pieces-right (length b / w) b (omega (arith, div-add-mod (length b) w)) k (failing-none test 0 (pieces w (length b / w) b) e)
+    pub cut-right : (b : List ℕ) → length b % w ≡ 0 → Bytes b → firstFailing test 0 (cut w b) ≡ none → (flatMap write (map read (cut w b)) ≡ b) × All Right (map read (cut w b))
+    unfolding cut
+    cut-right b z k e = pieces-right (length b / w) b (omega (arith, div-add-mod (length b) w)) k (failing-none test 0 (pieces w (length b / w) b) e)

@@ -120,7 +120,7 @@ length-encode t = length-bytes (nodes t) ∙ ap (λ m. 16 * m) (length-nodes t)
 -- the records of a right term, read off its bytes
 pub nodes-encode : (t : Term) → Right t → map node (records (encode t)) ≡ nodes t
 unfolding encode
-nodes-encode t h = ap (map node) (records-bytes (nodes t)) ∙ map-read 16 record16 length-record16 RightNode node node-record16 (nodes t) (right-nodes t h)
+nodes-encode t h = ap (map node) (records-bytes (nodes t)) ∙ map-read record16 RightNode node node-record16 (nodes t) (right-nodes t h)
 
 pub decode-encode : (t : Term) → Right t → decode (map node (records (encode t))) ≡ t
 decode-encode t h = ap decode (nodes-encode t h) ∙ decode-nodes t
@@ -131,4 +131,4 @@ encode-injective s t h k e = sym (decode-encode s h) ∙ (ap (λ b. decode (map 
 -- made of bytes
 pub encode-bytes : (t : Term) → Right t → Bytes (encode t)
 unfolding encode
-encode-bytes t h = write-bytes 16 record16 length-record16 RightNode record-bytes (nodes t) (right-nodes t h)
+encode-bytes t h = write-bytes record16 RightNode record-bytes (nodes t) (right-nodes t h)

@@ -17,7 +17,7 @@ use Rattle.cows.specs.Tables.{wrongLength, firstWrong, misshapen, tooDee
 use Rattle.cows.specs.Within.{Right, Formed, Within}
 use Rattle.cows.proofs.Basics.{or-false, placeIf-none, forbid-accept, same-accept}
 use Rattle.cows.proofs.Places.{size-pos}
-use Rattle.cows.proofs.Records.{right-record, record-right, length-record16, RightNode}
+use Rattle.cows.proofs.Records.{right-record, record-right, RightNode}
 use Rattle.cows.proofs.Format.{RightNodes, right-nodes, nodes-right, decode-nodes, nodes-shaped, nodes-decode, records-bytes, length-encode, nodes-encode}
 use Rattle.cows.proofs.Refusals.{shallow-first, first-shallow, formed-first, first-formed}
 use Rattle.cows.proofs.Cut.{none-failing, write-passes, cut-right}
@@ -39,7 +39,7 @@ encode-length t h =
 -- 2: the records, each of 16 bytes.
 encode-right : (t : Term) → Right t → firstWrong 0 (records (encode t)) ≡ none
 unfolding encode
-encode-right t h = rw (records-bytes (nodes t)) (none-failing rightRecord 0 _ (write-passes 16 record16 length-record16 RightNode rightRecord record-right (nodes t) (right-nodes t h)))
+encode-right t h = rw (records-bytes (nodes t)) (none-failing rightRecord 0 _ (write-passes record16 RightNode rightRecord record-right (nodes t) (right-nodes t h)))
 
 -- 4 to 7: the term.
 judgeTerm-accept : (t s : Term) → judgeTerm t ≡ accept s → (t ≡ s) × Formed t × (depth t ≤ 256)
@@ -64,7 +64,7 @@ shaped ns e h = let n = nodes-decode ns e in (ap bytes n, nodes-right (decode ns
 pub records-hold : (b : List ℕ) → Bytes b → length b % 16 ≡ 0 → firstWrong 0 (records b) ≡ none → misshapen (map node (records b)) ≡ none
     → (encode (decode (map node (records b))) ≡ b) × Right (decode (map node (records b)))
 records-hold b k z e₂ e₃ =
-    let (w, r) = cut-right 16 record16 length-record16 RightNode node rightRecord right-record b z k e₂ in
+    let (w, r) = cut-right record16 RightNode 16 node rightRecord right-record b z k e₂ in
     let (y, g) = shaped (map node (records b)) e₃ r in
     (y ∙ w, g)
 

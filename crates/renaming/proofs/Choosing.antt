@@ -166,7 +166,7 @@ pub record Going (s : List ℕ) (from to : ℕ) (names₀ names next : List ℕ)
 abbrev pub starts : List ℕ
 starts = 1 ∷ 32768 ∷ 49152 ∷ []
 
-marked-taking : (names known : List ℕ) → Marks names known → ((a : ℕ) → member a known ≡ true → atom a ≡ true) → Taking names starts known
+pub marked-taking : (names known : List ℕ) → Marks names known → ((a : ℕ) → member a known ≡ true → atom a ≡ true) → Taking names starts known
 unfolding leastOf
 marked-taking names known m right = record {
   room = m .room;

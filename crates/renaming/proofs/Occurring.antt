@@ -183,7 +183,7 @@ unfolding atom datum value variable label
 not-zero a h e = never (rw e at h)
 
 -- Marks of a list and of another: those of both. (0 is marked by itself, or not at all.)
-marks-entered : (l taken ws all : List ℕ) → Marks l taken → ((w : ℕ) → member w all ≡ true → w < 65536) → ((a : ℕ) → a ≢ 0 → member a all ≡ member a ws) → Marks (entered l all) (ws ++ taken)
+pub marks-entered : (l taken ws all : List ℕ) → Marks l taken → ((w : ℕ) → member w all ≡ true → w < 65536) → ((a : ℕ) → a ≢ 0 → member a all ≡ member a ws) → Marks (entered l all) (ws ++ taken)
 marks-entered l taken ws all m small same = record {
   room = length-entered l all ∙ m .room;
   entry = λ a. entered-at l all (λ w k. omega (arith, small w k, m .room)) a ∙ eq-case _ a 0 (zero a) (λ z. rw (same a z, m .entry a, member-append a ws taken) (both (member a ws) (member a taken) a));

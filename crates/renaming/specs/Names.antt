@@ -47,7 +47,7 @@ pub record NextFree (names : List ℕ) (from r : ℕ) : Type 0 where
   pub used : (a : ℕ) → from ≤ a → a < r → getD names a 0 ≢ 0
   pub free : r < length names → getD names r 0 ≡ 0
 
--- The names are the atoms `taken`, each entered under itself.
+-- The names are the atoms `taken`: each is entered under itself, and no other is.
 pub record Marks (names taken : List ℕ) : Type 0 where
   pub room : length names ≡ 65536
   pub entry : (a : ℕ) → getD names a 0 ≡ cond (member a taken) a 0
