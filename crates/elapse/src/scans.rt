@@ -1,5 +1,6 @@
 // Scans: the first live record that passes a test, in one walk over the live records of a table.
 use records::Found;
+use records::kinds;
 use records::wide16;
 use records::word_at;
 use ways::live_kind;
@@ -20,7 +21,7 @@ fn shorter(s: &[u8], p: usize, d: u16) -> bool
     requires { ⌜ 16 * p + 15 < length (now s) ⌝ }
     ensures { λ r. ⌜ ((t : Term) → Holds (now (s .entry)) t → p < size t → r ≡ holds (λ i. ltb i d) (prefixed waits (sub t p))) ⌝ }
 {
-    (s[16 * p] == 4) & (word_at(s, 16 * p + 14) < d)
+    (s[16 * p] == kinds::WAIT) & (word_at(s, 16 * p + 14) < d)
 }
 
 // The first live wait whose interval is below d.

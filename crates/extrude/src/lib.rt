@@ -6,6 +6,8 @@ use records::Atom;
 use records::Found;
 use records::atom_at;
 use records::copying::copy;
+use records::kinds;
+use records::limits;
 use records::wide16;
 use ways::depths::depth_at;
 ghost use mathlib.Core.Path.{_≡_};
@@ -35,7 +37,7 @@ fn is_label(a: Atom) -> bool
 fn floats_over(kind: u8) -> bool
     ensures { λ r. ⌜ r ≡ floatsOver kind ⌝ }
 {
-    (6 <= kind) & (kind <= 8)
+    (kinds::PARALLEL <= kind) & (kind <= kinds::DELIMITATION)
 }
 
 // Where the other side begins of the parallel at place p, one side of which is at place a and ends at place `end`.
@@ -56,10 +58,10 @@ fn judge_above(s: &[u8], ends: &[u16], a: usize, p: usize, k: usize) -> Judgemen
         return Judgement::Stuck(a);
     }
     let n = s.len() / 16;
-    if kind != 6 {
+    if kind != kinds::PARALLEL {
         return Judgement::Allowed(n);
     }
-    if 256 <= k + depth_at(s, ends, beside(p, a, wide16(ends[a]))) {
+    if limits::MAX_DEPTH <= k + depth_at(s, ends, beside(p, a, wide16(ends[a]))) {
         return Judgement::Large;
     }
     Judgement::Allowed(n)
@@ -70,8 +72,8 @@ pub fn judge(s: &[u8], ends: &[u16], a: usize) -> Plan
     requires { ⌜ Known (now s) (now ends) ⌝ }
     ensures { λ r. ⌜ ((t : Term) → Table (now (s .entry)) (now (ends .entry)) t → Planned (extrudeAt t a) (parentOf (wayTo t a)) r) ⌝ }
 {
-    let mut way = [0u16; 256];
-    let found = ways::live_at(s, ends, a, 8, &mut way);
+    let mut way = [0u16; limits::MAX_DEPTH];
+    let found = ways::live_at(s, ends, a, kinds::DELIMITATION, &mut way);
     let Found::At(k) = found else {
         return refused(Judgement::Absent(a));
     };

@@ -6,6 +6,7 @@ use records::Atom;
 use records::Found;
 use records::Label;
 use records::atom_at;
+use records::kinds;
 use records::label_index;
 use records::wide16;
 ghost use mathlib.Core.Path.{_≡_};
@@ -26,7 +27,7 @@ ghost use Rattle.holding.specs.Holding.{Blank, Marked, Parties, Sides};
 pub fn ready_kind(kind: u8) -> bool
     ensures { λ r. ⌜ r ≡ readyKind kind ⌝ }
 {
-    (5 <= kind) & (kind <= 9)
+    (kinds::CHOICE <= kind) & (kind <= kinds::REPLICATION)
 }
 
 // Marks the label k.
@@ -54,7 +55,7 @@ fn mark_kills(s: &[u8], ends: &[u16], marks: &mut [u8])
     let mut i = 0;
     while i < n {
         let kind = s[16 * i];
-        if kind == 1 {
+        if kind == kinds::KILL {
             let atom = atom_at(s, 16 * i + 2);
             i += 1;
             let Atom::Label(k) = atom else {
@@ -76,7 +77,7 @@ fn held(s: &[u8], ends: &[u16], a: usize, b: usize, marks: &[u8], n: usize) -> b
     requires { ⌜ Sides (now s) (now ends) (now marks) a b × (n < length (now s) / 16) ⌝ }
     ensures { λ r. ⌜ ((t : Term) → Parties (now (s .entry)) (now (ends .entry)) (now (marks .entry)) a b t → r ≡ heldBack a b n (spot t n)) ⌝ }
 {
-    if s[16 * n] != 8 {
+    if s[16 * n] != kinds::DELIMITATION {
         return false;
     }
     let atom = atom_at(s, 16 * n + 2);

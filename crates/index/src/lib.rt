@@ -1,6 +1,7 @@
 // Index: a quick test of scopes that only ever accepts (refusals 6 and 7), with an index of the places at which atoms are delimited: for each atom, the place
 // behind its delimitation, or 0. The index is kept in pages of 32 atoms, given out as they are wanted; page 0 stays empty.
 use ranges::places::places;
+use records::limits;
 use records::wide16;
 use records::word_at;
 ghost use mathlib.Core.Path.{_≡_};
@@ -167,6 +168,6 @@ pub fn scopes_right(s: &[u8], ends: &[u16]) -> bool
         let mut few = [0u16; 257];
         return listed_right(s, ends, &mut few);
     }
-    let mut list = [0u16; 2050];
+    let mut list = [0u16; limits::ENDS];
     listed_right(s, ends, &mut list)
 }

@@ -9,6 +9,8 @@ use records::Atom;
 use records::Found;
 use records::atom_at;
 use records::copying::copy;
+use records::kinds;
+use records::limits;
 use rewriting::halting::aside_at;
 use ways::scope;
 ghost use Rattle.cows.specs.Terms.{Term};
@@ -22,8 +24,8 @@ pub fn judge(s: &[u8], ends: &[u16], a: usize) -> Plan
     requires { ⌜ Known (now s) (now ends) ⌝ }
     ensures { λ r. ⌜ ((t : Term) → Table (now (s .entry)) (now (ends .entry)) t → Planned (killAt t a) (killScope t a) r) ⌝ }
 {
-    let mut way = [0u16; 256];
-    let found = ways::live_at(s, ends, a, 1, &mut way);
+    let mut way = [0u16; limits::MAX_DEPTH];
+    let found = ways::live_at(s, ends, a, kinds::KILL, &mut way);
     let Found::At(n) = found else {
         return refused(Judgement::Absent(a));
     };

@@ -1,4 +1,5 @@
 // Losses: how many records a firing kill takes away, in one walk over the term inside its delimitation.
+use records::kinds;
 use records::wide16;
 ghost use mathlib.Core.Path.{_≡_};
 ghost use Prim.Native.Nat.{_+_, _/_, _<_};
@@ -19,12 +20,12 @@ pub fn lost(s: &[u8], ends: &[u16], p: usize, a: usize) -> usize
     while i < end {
         let kind = s[16 * i];
         let next = wide16(ends[i]);
-        if kind < 6 {
+        if kind < kinds::PARALLEL {
             gone += next - i - 1;
             i = next;
             continue;
         }
-        if (kind == 7) & ((a < i) | (next <= a)) {
+        if (kind == kinds::PROTECTION) & ((a < i) | (next <= a)) {
             i = next;
             continue;
         }

@@ -1,7 +1,7 @@
 -- The load of a table's bytes (specs/Loads) is the load of the term that stands there.
 use mathlib.Core.Path.{_≡_, refl, sym, ap, subst, _∙_}
 use mathlib.Core.Logic.{_≢_}
-use mathlib.Core.Bool.{false}
+use mathlib.Core.Bool.{_&&_}
 use mathlib.Core.List.{List, [], append-nil}
 use Prim.Native.Nat.{ℕ, zero, suc, _+_, _*_, _-_, _/_, _≤_, _<_}
 use native.Mathlib.Omega.{arith}
@@ -9,10 +9,10 @@ use native.Mathlib.Numerals.{add-one}
 use lib.ListN.{length, getD}
 use mir.Val.{boolByte}
 use Rattle.cows.specs.Basics.{Result, refuse, accept}
-use Rattle.cows.specs.Terms.{Basic, nil, kill, invoke, Prefix, receive, wait, protection, delimitation, replication, Join, choice, parallel, Term, leaf, under, both, size, below}
-use Rattle.cows.specs.Kinds.{root, kindOf, weightOf}
+use Rattle.cows.specs.Terms.{Prefix, Term, leaf, under, both, size, below}
+use Rattle.cows.specs.Kinds.{root, kindOf, weightOf, open-kinds}
 use Rattle.cows.specs.Places.{sub}
-use Rattle.cows.specs.Format.{byte, layout, record16, encode}
+use Rattle.cows.specs.Format.{encode}
 use Rattle.cows.specs.Tables.{judge}
 use Rattle.cows.specs.Load.{load}
 use Rattle.cows.proofs.Places.{spot-fits, spot-under}
@@ -20,38 +20,26 @@ use Rattle.cows.proofs.Format.{length-encode}
 use Rattle.records.specs.Holds.{Holds}
 use Rattle.records.specs.Rewrites.{Stands}
 use Rattle.records.proofs.Stands.{stands-kind, stands-under, stands-left, stands-right, holds-stands, holds-size}
-use Rattle.records.proofs.Laws.{test-sum, test-small}
 use Rattle.ways.specs.Known.{Table, Known}
 use Rattle.ways.proofs.Tables.{table-size, table-ended}
 use Rattle.tables.specs.declared.Reply.{Reply}
 use Rattle.tables.specs.Verdict.{checkReply, Checked}
 use Rattle.stepper.proofs.Stepping.{Read}
-use Rattle.player.specs.Loads.{weighs, loadFrom, loadBetween, loadReply}
-
--- what the first record of a term weighs
-weight-leaf : (x : Basic) → weightOf (kindOf (leaf x)) ≡ weightBasic x
-unfolding weightOf kindOf root record16 layout byte weightBasic
-weight-leaf nil = refl
-weight-leaf (kill k) = refl
-weight-leaf (invoke p o ws) = refl
-
-weight-under : (u : Prefix) (t : Term) → weightOf (kindOf (under u t)) ≡ weight u
-unfolding weightOf kindOf root record16 layout byte weight
-weight-under (receive p o ws) t = refl
-weight-under (wait n) t = refl
-weight-under protection t = refl
-weight-under (delimitation d) t = refl
-weight-under replication t = refl
-
-weight-both : (j : Join) (s t : Term) → weightOf (kindOf (both j s t)) ≡ 0
-unfolding weightOf kindOf root record16 layout byte
-weight-both choice s t = refl
-weight-both parallel s t = refl
+use Rattle.player.specs.Loads.{loadFrom, loadBetween, loadReply}
+use Rattle.cows.proofs.Rows.{unknown, kind-cases}
+use borrow.Author.Tests.{le-leb, lt-leb}
+use lib.Dec.{leb}
 
 -- what a record weighs, as the code counts it: at most one for each record
-pub weight-counted : (kind : ℕ) → (boolByte (weighs kind) ≡ weightOf kind) × (boolByte (weighs kind) ≤ 1)
-unfolding weightOf
-weight-counted kind = omega (arith, test-sum (weighs kind) false, test-small (weighs kind))
+abbrev Counted : ℕ → Type 0
+Counted k = (boolByte (leb 1 k && leb k 4) ≡ weightOf k) × (weightOf k ≤ 1)
+
+pub weight-counted : (k : ℕ) → Counted k
+unfolding open-kinds
+weight-counted =
+    kind-cases Counted
+    ((refl, omega arith), (refl, omega arith), (refl, omega arith), (refl, omega arith), (refl, omega arith), (refl, omega arith), (refl, omega arith), (refl, omega arith), (refl, omega arith), (refl, omega arith))
+    (λ n. rw (le-leb 1 (unknown n) (omega arith), lt-leb (unknown n) 4 (omega arith)) (refl, omega arith))
 
 few-from : (s : List ℕ) (i n : ℕ) → loadFrom s i n ≤ n
 unfolding loadFrom
@@ -86,15 +74,15 @@ load-append s i (suc m) n =
 
 -- the records of a term have its load
 pub stands-load : (s : List ℕ) (i : ℕ) (t : Term) → Stands s (16 * i) t → loadFrom s i (size t) ≡ load t
-unfolding loadFrom size load
-stands-load s i (leaf x) h = omega (arith, ap weightOf (stands-kind (leaf x) h) ∙ weight-leaf x)
+unfolding loadFrom size load kindOf root
+stands-load s i (leaf x) h = omega (arith, ap weightOf (stands-kind (leaf x) h))
 stands-load s i (under u t) h =
     let g : Stands s (16 * suc i) t = subst (λ k. Stands s k t) (omega arith) (stands-under u t h) in
-    omega (arith, ap weightOf (stands-kind (under u t) h) ∙ weight-under u t, stands-load s (suc i) t g)
+    omega (arith, ap weightOf (stands-kind (under u t) h), stands-load s (suc i) t g)
 stands-load s i (both j l r) h =
     let g : Stands s (16 * suc i) l = subst (λ k. Stands s k l) (omega arith) (stands-left j l r h) in
     let k : Stands s (16 * (suc i + size l)) r = stands-right j l r (16 * (suc i + size l)) (omega (arith, length-encode l)) h in
-    omega (arith, ap weightOf (stands-kind (both j l r) h) ∙ weight-both j l r, load-append s (suc i) (size l) (size r), stands-load s (suc i) l g, stands-load s (suc i + size l) r k)
+    omega (arith, ap weightOf (stands-kind (both j l r) h), load-append s (suc i) (size l) (size r), stands-load s (suc i) l g, stands-load s (suc i + size l) r k)
 
 -- the term at place i, which ends at place j
 pub load-stands : (s : List ℕ) (i j : ℕ) (t : Term) → Stands s (16 * i) t → j ≡ i + size t → loadBetween s i j ≡ load t

@@ -1,21 +1,12 @@
 -- Load by the bytes of a table: how many of its records are kills, invokes, receives and waits.
 use Prim.Native.Nat.{ℕ, zero, suc, _+_, _*_, _-_}
-use mathlib.Core.Bool.{Bool, _&&_}
 use mathlib.Core.List.{List}
-use lib.Dec.{leb}
 use lib.ListN.{getD}
 use Rattle.cows.specs.Basics.{Result, refuse, accept}
 use Rattle.cows.specs.Terms.{Term}
+use Rattle.cows.specs.Kinds.{weightOf}
 use Rattle.cows.specs.Load.{load}
-use Rattle.records.specs.Ends.{oneIf}
 use Rattle.tables.specs.declared.Reply.{Reply}
-
--- a record of this kind weighs: 1 kill, 2 invoke, 3 receive, 4 wait
-abbrev pub weighs : ℕ → Bool
-weighs kind = leb 1 kind && leb kind 4
-
-unfoldable pub weightOf : ℕ → ℕ
-weightOf kind = oneIf (weighs kind)
 
 -- the load of n records from place i on; of the records at the places i to j - 1
 unfoldable pub loadFrom : List ℕ → ℕ → ℕ → ℕ

@@ -1,5 +1,6 @@
 // Printing: the night of two files, a line for each move and the total at the end. The programs only name the files.
 use libc::STDOUT_FILENO;
+use records::limits;
 use records::wide16;
 use records::word_at;
 use tables::Reply;
@@ -91,8 +92,8 @@ fn load_left(out: &[u8], n: usize) -> usize
 fn play(table: &[u8], moves: &[u8])
     requires { ⌜ length (now moves) ≤ 60001 ⌝ }
 {
-    let mut out = [0u8; 32768];
-    let mut replies = [0u8; 60000];
+    let mut out = [0u8; limits::MAX_BYTES];
+    let mut replies = [0u8; limits::MAX_LIST_BYTES];
     let played = player::play(table, moves, &mut out, &mut replies);
     let reply = played.reply;
     if reply.answer != 0 {

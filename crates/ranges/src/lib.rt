@@ -3,6 +3,7 @@
 pub mod places;
 
 use places::places;
+use records::limits;
 use records::wide16;
 use records::word_at;
 use rows::distinct4;
@@ -184,7 +185,7 @@ fn records_right(s: &[u8]) -> bool
         let mut few = [0u16; 257];
         return distinct_right(s, &mut few);
     }
-    let mut list = [0u16; 2050];
+    let mut list = [0u16; limits::ENDS];
     distinct_right(s, &mut list)
 }
 

@@ -1,6 +1,8 @@
 // The service reader and the guard reader: a term is read for its ends, its shape (refusal 3), its depth (4) and its choices (5). A service is read through its
 // guards: a receive, a wait or a choice is read by `guard` wherever it stands, and the service behind a prefix by `service`. Each calls the other with fewer
 // records left, or with the record at hand where that is for the other to read.
+use records::kinds;
+use records::limits;
 ghost use mathlib.Core.Path.{_≡_};
 ghost use mathlib.Core.Bool.{true, false, cond};
 ghost use Prim.Native.Nat.{_+_, _/_, _<_, _≤_};
@@ -9,21 +11,18 @@ ghost use Rattle.cows.specs.Kinds.{guardKind};
 ghost use Rattle.readers.specs.Reads.{byGuard, earlierOf, Read};
 ghost use Rattle.readers.specs.Chains.{Chain, Put};
 
-// The greatest depth that a record may have.
-const DEEPEST: usize = 256;
-
 // A receive, a wait or a choice, by the kind: what the guard reader reads.
 fn by_guard(k: u8) -> bool
     ensures { λ r. ⌜ r ≡ byGuard k ⌝ }
 {
-    (k == 3) | (k == 4) | (k == 5)
+    (k == kinds::RECEIVE) | (k == kinds::WAIT) | (k == kinds::CHOICE)
 }
 
 // The first fault so far, where a guard is to stand at a place: the place itself, if what stands there is none by its kind and no fault was found before.
 fn noted(n: usize, k: u8, fault: usize, at: usize) -> usize
     ensures { λ r. ⌜ r ≡ cond (guardKind k) fault (earlierOf n fault at) ⌝ }
 {
-    if (k == 0) | by_guard(k) {
+    if (k == kinds::NIL) | by_guard(k) {
         return fault;
     }
     if fault < n { fault } else { at }
@@ -46,10 +45,10 @@ fn chain_end(s: &[u8], at: usize, depth: usize) -> usize
     let mut i = at;
     let mut d = depth;
     while i < n {
-        if DEEPEST < d {
+        if limits::MAX_DEPTH < d {
             return i;
         }
-        if s[16 * i] < 7 {
+        if s[16 * i] < kinds::PROTECTION {
             return i;
         }
         i += 1;
@@ -85,7 +84,7 @@ pub fn service(s: &[u8], ends: &mut [u16], fault: &mut usize, at: usize, depth: 
     if by_guard(k) {
         return guard(s, ends, fault, at, depth);
     }
-    if DEEPEST < depth {
+    if limits::MAX_DEPTH < depth {
         return n + 2 + at;
     }
     let c = records::children(k);
@@ -120,10 +119,10 @@ fn guard(s: &[u8], ends: &mut [u16], fault: &mut usize, at: usize, depth: usize)
         *fault = noted(n, k, *fault, at);
         return service(s, ends, fault, at, depth);
     }
-    if DEEPEST < depth {
+    if limits::MAX_DEPTH < depth {
         return n + 2 + at;
     }
-    if k == 5 {
+    if k == kinds::CHOICE {
         let a = guard(s, ends, fault, at + 1, depth + 1);
         let e = guard(s, ends, fault, a, depth + 1);
         ends[at] = (e % 65536) as u16;

@@ -1,6 +1,8 @@
 // Records: atoms and their three sets, the numbers in a record's bytes, and how many children a kind has.
 pub mod copying;
 pub mod ends;
+pub mod kinds;
+pub mod limits;
 
 ghost use mathlib.Core.Path.{_≡_};
 ghost use Prim.Native.Nat.{_+_, _-_, _<_, _≤_};
@@ -57,10 +59,10 @@ pub fn classify(n: u16) -> Atom
     if n == 0 {
         return Atom::None;
     }
-    if n < 32768 {
+    if n < limits::FIRST_VARIABLE {
         return Atom::Value(Value(n));
     }
-    if n < 49152 {
+    if n < limits::FIRST_LABEL {
         return Atom::Variable(Variable(n));
     }
     Atom::Label(Label(n))
@@ -154,5 +156,6 @@ pub fn image(t: Takes, x: Variable, other: Atom) -> Atom
 pub fn children(kind: u8) -> usize
     ensures { λ r. ⌜ (r ≡ childrenOf kind) × (r ≤ 2) ⌝ }
 {
-    (3 <= kind) as usize + ((kind == 5) | (kind == 6)) as usize
+    (kinds::RECEIVE <= kind) as usize
+        + ((kind == kinds::CHOICE) | (kind == kinds::PARALLEL)) as usize
 }

@@ -5,6 +5,7 @@ use records::copying::Places;
 use records::copying::copy;
 use records::copying::copy_term;
 use records::copying::put_word;
+use records::kinds;
 use records::word_at;
 ghost use mathlib.Core.Path.{_≡_};
 ghost use Prim.Native.Nat.{_-_};
@@ -42,10 +43,10 @@ pub fn elapse_at(s: &[u8], ends: &[u16], at: usize, d: u16, dst: &mut [u8], to: 
     ensures { λ r. ⌜ Rewrites (elapse d) (now (s .entry)) at (now (dst .entry)) to (now (dst .exit)) (r .0) (r .1) ⌝ }
 {
     let kind = s[at];
-    if (kind < 4) | (kind == 9) {
+    if (kind < kinds::WAIT) | (kind == kinds::REPLICATION) {
         return copy_term(s, at, end_at(ends, at), dst, to);
     }
-    if kind == 4 {
+    if kind == kinds::WAIT {
         return lower_at(s, ends, at, d, dst, to);
     }
     copy(s, at, 16, dst, to);

@@ -5,6 +5,7 @@ use records::copying::Places;
 use records::copying::copy;
 use records::copying::copy_term;
 use records::copying::nil_at;
+use records::kinds;
 ghost use Rattle.cows.specs.Moves.{halt};
 ghost use Rattle.records.specs.Rewrites.{Ready, Rewrites};
 ghost use Rattle.rewriting.specs.Placed.{Placed};
@@ -17,10 +18,10 @@ pub fn halt_at(s: &[u8], ends: &[u16], at: usize, dst: &mut [u8], to: usize) -> 
     ensures { λ r. ⌜ Rewrites halt (now (s .entry)) at (now (dst .entry)) to (now (dst .exit)) (r .0) (r .1) ⌝ }
 {
     let kind = s[at];
-    if kind < 6 {
+    if kind < kinds::PARALLEL {
         return nil_at(s, at, end_at(ends, at), dst, to);
     }
-    if kind == 7 {
+    if kind == kinds::PROTECTION {
         return copy_term(s, at, end_at(ends, at), dst, to);
     }
     copy(s, at, 16, dst, to);

@@ -1,4 +1,6 @@
 // The rules for single records (refusal 2): the table of kinds, tested on the 16 bytes of a record.
+use records::kinds;
+use records::limits;
 use records::word_at;
 ghost use mathlib.Core.Path.{_≡_};
 ghost use mathlib.Core.Bool.{_&&_};
@@ -39,7 +41,7 @@ fn quad_at(s: &[u8], k: usize) -> u64
 fn slot_right(n: u8, j: u8, a: u16) -> bool
     ensures { λ r. ⌜ r ≡ slotRight n j a ⌝ }
 {
-    ((j < n) & ((1 <= a) & (a < 49152))) | (!(j < n) & (a == 0))
+    ((j < n) & ((1 <= a) & (a < limits::FIRST_LABEL))) | (!(j < n) & (a == 0))
 }
 
 // The record at byte k has a tuple: its endpoint's atoms are below `top`, its slots are filled up to the count, and it has no interval.
@@ -62,7 +64,7 @@ fn tuple_right(s: &[u8], k: usize, top: u16) -> bool
 fn same_variable(a: u16, b: u16) -> bool
     ensures { λ r. ⌜ r ≡ (variable a && eqb a b) ⌝ }
 {
-    ((32768 <= a) & (a < 49152)) & (a == b)
+    ((limits::FIRST_VARIABLE <= a) & (a < limits::FIRST_LABEL)) & (a == b)
 }
 
 // No variable stands twice among four atoms.
@@ -79,13 +81,13 @@ fn plain_right(kind: u8, low: u64, high: u64) -> bool
     ensures { λ r. ⌜ r ≡ plainRight kind low high ⌝ }
 {
     let first = low / 65536;
-    if kind == 8 {
+    if kind == kinds::DELIMITATION {
         return (low % 65536 == 8) & (1 <= first) & (first < 65536) & (high == 0);
     }
-    if kind == 1 {
+    if kind == kinds::KILL {
         return (low % 65536 == 1) & (49152 <= first) & (first < 65536) & (high == 0);
     }
-    if kind == 4 {
+    if kind == kinds::WAIT {
         return (low == 4) & (high % 281474976710656 == 0);
     }
     (low < 10) & (high == 0)
@@ -98,17 +100,17 @@ pub fn record_right(s: &[u8], i: usize) -> bool
 {
     let k = 16 * i;
     let kind = s[k];
-    if kind == 2 {
-        return tuple_right(s, k, 49152);
+    if kind == kinds::INVOKE {
+        return tuple_right(s, k, limits::FIRST_LABEL);
     }
-    if kind == 3 {
+    if kind == kinds::RECEIVE {
         let d = distinct4(
             word_at(s, k + 6),
             word_at(s, k + 8),
             word_at(s, k + 10),
             word_at(s, k + 12),
         );
-        return tuple_right(s, k, 32768) & d;
+        return tuple_right(s, k, limits::FIRST_VARIABLE) & d;
     }
     plain_right(kind, quad_at(s, k), quad_at(s, k + 8))
 }

@@ -1,6 +1,8 @@
 // Scopes: refusals 6 and 7 in one forward pass over the records, with a directory of the atoms that the table delimits.
 // The directory keeps a number for each atom: 0 if the table does not delimit it, 1 if no delimitation of it has been passed yet, and else one more
 // than the farthest end of a delimitation of it passed so far. It is kept in pages of 256 atoms, given out as they are wanted; page 0 stays empty.
+use records::kinds;
+use records::limits;
 use records::wide16;
 use records::word_at;
 ghost use mathlib.Core.Path.{_≡_};
@@ -68,7 +70,7 @@ fn enter_all(s: &[u8], pages: &mut [u32], marks: &mut [u16]) -> bool
     let mut top: usize = 256;
     let mut d = 0;
     while d < n {
-        if s[16 * d] != 8 {
+        if s[16 * d] != kinds::DELIMITATION {
             d += 1;
             continue;
         }
@@ -93,7 +95,7 @@ fn use_fault(pages: &[u32], marks: &[u16], a: u16, j: usize) -> u8
     if j + 1 < v {
         return 0;
     }
-    if 32768 <= a {
+    if limits::FIRST_VARIABLE <= a {
         return 2;
     }
     if v == 0 { 0 } else { 1 }
@@ -132,12 +134,12 @@ fn record_fault(s: &[u8], pages: &[u32], marks: &[u16], j: usize) -> u8
     ensures { λ r. ⌜ ((t : Term) → Passed (now (s .entry)) (now (pages .entry)) (now (marks .entry)) j t → r ≡ level (unbound j (spot t j)) (escaped t j (spot t j))) ⌝ }
 {
     let k = s[16 * j];
-    if (k == 2) | (k == 3) {
+    if (k == kinds::INVOKE) | (k == kinds::RECEIVE) {
         let p = use_fault(pages, marks, word_at(s, 16 * j + 2), j);
         let o = use_fault(pages, marks, word_at(s, 16 * j + 4), j);
         return worse(p, worse(o, tuple_fault(s, pages, marks, j)));
     }
-    if k == 1 {
+    if k == kinds::KILL {
         return use_fault(pages, marks, word_at(s, 16 * j + 2), j);
     }
     0
@@ -173,7 +175,7 @@ fn pass(s: &[u8], ends: &[u16], pages: &[u32], marks: &mut [u16]) -> Scoping
     let mut clash = n;
     let mut j = 0;
     while j < n {
-        if s[16 * j] == 8 {
+        if s[16 * j] == kinds::DELIMITATION {
             clash = first_clash(clash, n, j, pass_delimitation(s, ends, pages, marks, j));
             j += 1;
             continue;

@@ -1,4 +1,5 @@
 // Tables: whether bytes are a well-formed table, or the refusal of 1 to 7 with its place.
+use records::limits;
 use scopes::Scoping;
 ghost use mathlib.Core.Path.{_≡_};
 ghost use Prim.Native.Nat.{_+_, _/_, _<_, min};
@@ -119,7 +120,7 @@ fn judge_table(s: &[u8], ends: &mut [u16]) -> Verdict
     ensures { λ v. ⌜ Checked (now (s .entry)) (now (ends .exit)) (replyOf v) ⌝ }
 {
     let n = s.len();
-    if (n == 0) | (32768 < n) | (n % 16 != 0) {
+    if (n == 0) | (limits::MAX_BYTES < n) | (n % 16 != 0) {
         return Verdict::Length;
     }
     let wrong = ranges::first_wrong(s);
@@ -145,6 +146,6 @@ pub fn check(table: &[u8]) -> Reply
         let mut few = [0u16; 258];
         return check_ends(table, &mut few);
     }
-    let mut ends = [0u16; 2050];
+    let mut ends = [0u16; limits::ENDS];
     check_ends(table, &mut ends)
 }

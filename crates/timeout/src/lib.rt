@@ -5,6 +5,8 @@ use plans::cutting::cut;
 use plans::cutting::left;
 use plans::refused;
 use records::Found;
+use records::kinds;
+use records::limits;
 use records::word_at;
 ghost use Rattle.cows.specs.Terms.{Term};
 ghost use Rattle.cows.specs.Places.{wayTo};
@@ -18,8 +20,8 @@ pub fn judge(s: &[u8], ends: &[u16], a: usize) -> Plan
     requires { ⌜ Known (now s) (now ends) ⌝ }
     ensures { λ r. ⌜ ((t : Term) → Table (now (s .entry)) (now (ends .entry)) t → Planned (timeoutAt t a) (startOf a (wayTo t a)) r) ⌝ }
 {
-    let mut way = [0u16; 256];
-    let found = ways::live_at(s, ends, a, 4, &mut way);
+    let mut way = [0u16; limits::MAX_DEPTH];
+    let found = ways::live_at(s, ends, a, kinds::WAIT, &mut way);
     let Found::At(k) = found else {
         return refused(Judgement::Absent(a));
     };

@@ -4,6 +4,8 @@ use plans::Plan;
 use plans::refused;
 use records::Found;
 use records::copying::copy;
+use records::kinds;
+use records::limits;
 use records::wide16;
 ghost use mathlib.Core.Path.{_≡_};
 ghost use Prim.Native.Nat.{_+_, _<_};
@@ -21,14 +23,14 @@ pub fn judge(s: &[u8], ends: &[u16], a: usize) -> Plan
     requires { ⌜ Known (now s) (now ends) ⌝ }
     ensures { λ r. ⌜ ((t : Term) → Table (now (s .entry)) (now (ends .entry)) t → Planned (unfoldAt t a) a r) ⌝ }
 {
-    let mut way = [0u16; 256];
-    let found = ways::live_at(s, ends, a, 9, &mut way);
+    let mut way = [0u16; limits::MAX_DEPTH];
+    let found = ways::live_at(s, ends, a, kinds::REPLICATION, &mut way);
     let Found::At(k) = found else {
         return refused(Judgement::Absent(a));
     };
     let size = s.len() / 16 + (wide16(ends[a]) - a);
     let depth = k + 1 + ways::depths::depth_at(s, ends, a);
-    if (2048 < size) | (256 < depth) {
+    if (limits::MAX_RECORDS < size) | (limits::MAX_DEPTH < depth) {
         return Plan {
             judgement: Judgement::Large,
             from: a,

@@ -5,6 +5,7 @@ use records::Atom;
 use records::Found;
 use records::atom_at;
 use records::equal;
+use records::kinds;
 use records::wide16;
 ghost use mathlib.Core.Path.{_≡_};
 ghost use Prim.Native.Nat.{ℕ, _+_, _*_, _≤_, _<_};
@@ -43,7 +44,7 @@ pub fn climb(ends: &[u16], a: usize, out: &mut [u16]) -> usize
 pub fn live_kind(kind: u8) -> bool
     ensures { λ r. ⌜ r ≡ liveKind kind ⌝ }
 {
-    (5 <= kind) & (kind <= 8)
+    (kinds::CHOICE <= kind) & (kind <= kinds::DELIMITATION)
 }
 
 // Whether the place is live, by the n records on the way to it.
@@ -70,7 +71,7 @@ pub fn choice_start(s: &[u8], way: &[u16], n: usize, a: usize) -> usize
     let mut k = 0;
     while k < n {
         let p = wide16(way[k]);
-        if s[16 * p] != 5 {
+        if s[16 * p] != kinds::CHOICE {
             return c;
         }
         c = p;
@@ -84,7 +85,7 @@ pub fn delimits(s: &[u8], p: usize, atom: Atom) -> bool
     requires { ⌜ 16 * p + 15 < length (now s) ⌝ }
     ensures { λ r. ⌜ ((t : Term) → Holds (now (s .entry)) t → p < size t → r ≡ delimitsAt (numberOf atom) (sub t p)) ⌝ }
 {
-    (s[16 * p] == 8) & equal(atom_at(s, 16 * p + 2), atom)
+    (s[16 * p] == kinds::DELIMITATION) & equal(atom_at(s, 16 * p + 2), atom)
 }
 
 // The delimitation of an atom that encloses the place, by the n records on the way to it.
