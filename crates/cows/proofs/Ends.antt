@@ -1,10 +1,10 @@
 -- Where terms end (specs/Tables, endOf), in records of any kind: no term, one, one behind the other; bounds; what counts is the numbers of children; the shape.
 use mathlib.Core.Path.{_≡_, refl, sym, ap, _∙_}
 use mathlib.Core.Option.{Option, none, some}
-use mathlib.Core.List.{List, [], _∷_, map}
+use mathlib.Core.List.{List, [], _∷_, map, _++_}
 use Prim.Native.Nat.{ℕ, zero, suc, _+_, _-_, _≤_}
 use native.Mathlib.Omega.{arith}
-use native.Mathlib.Nat.{zero-add, suc-add, sub-self}
+use native.Mathlib.Nat.{zero-add, suc-add, sub-self, add-zero}
 use lib.Dec.{ltb}
 use lib.ListN.{length, drop}
 use borrow.Author.Tests.{ltb-false}
@@ -21,9 +21,9 @@ module _ {A : Type 0} (wants : A → ℕ) where
   end-none n [] = refl
   end-none n (r ∷ rs) = refl
 
-  pub end-one : (n : ℕ) (r : A) (rs : List A) → endOf wants 1 n (r ∷ rs) ≡ endOf wants (wants r) (suc n) rs
+  pub end-one : (n : ℕ) (r : A) (rs : List A) (c : ℕ) → wants r ≡ c → endOf wants 1 n (r ∷ rs) ≡ endOf wants c (suc n) rs
   unfolding endOf
-  end-one n r rs = ap (λ w. endOf wants w (suc n) rs) (let z : wants r + 0 ≡ wants r = omega arith in z)
+  end-one n r rs c e = ap (λ w. endOf wants w (suc n) rs) (let z : wants r + 0 ≡ c = omega arith in z)
 
   pub end-bounds : (w n : ℕ) (rs : List A) (e : ℕ) → endOf wants w n rs ≡ some e → (n ≤ e) × (e ≤ n + length rs)
   unfolding endOf
@@ -51,6 +51,18 @@ module _ {A : Type 0} (wants : A → ℕ) where
   end-short (suc a) w n (r ∷ rs) h =
       let p : wants r + (a + w) ≡ wants r + a + w = omega arith in
       rw (suc-add a w, p) (end-short (wants r + a) w (suc n) rs h)
+
+  -- the records of a terms, and others behind them
+  pub end-append : (a w n : ℕ) (rs ns : List A) → endOf wants a n rs ≡ some (n + length rs) → endOf wants (a + w) n (rs ++ ns) ≡ endOf wants w (n + length rs) ns
+  unfolding endOf
+  end-append zero w n [] ns h = rw (zero-add w, add-zero n)
+  end-append zero w n (r ∷ rs) ns h = absurd (omega (arith, same-some h))
+  end-append (suc a) w n [] ns h = none-some h
+  end-append (suc a) w n (r ∷ rs) ns h =
+      let p : wants r + (a + w) ≡ wants r + a + w = omega arith in
+      let q : n + suc (length rs) ≡ suc n + length rs = omega arith in
+      ap (λ m. endOf wants m n (r ∷ (rs ++ ns))) (suc-add a w)
+      ∙ (ap (λ m. endOf wants m (suc n) (rs ++ ns)) p ∙ (end-append (wants r + a) w (suc n) rs ns (h ∙ ap some q) ∙ ap (λ m. endOf wants w m ns) (sym q)))
 
   end-numbers : (w n : ℕ) (rs : List A) → endOf wants w n rs ≡ endOf (λ c. c) w n (map wants rs)
   unfolding endOf

@@ -5,8 +5,6 @@ use mathlib.Core.Option.{none, some}
 use mathlib.Core.List.{List, [], _∷_, _++_, map, append-assoc, append-nil, flatMap}
 use Prim.Native.Nat.{ℕ, zero, suc, _+_, _*_}
 use native.Mathlib.Omega.{arith}
-use native.Mathlib.Nat.{zero-add}
-use native.Mathlib.Numerals.{add-one}
 use lib.ListN.{length, getD, length-append}
 use Rattle.cows.specs.Terms.{nil, Term, leaf, under, both, size}
 use Rattle.cows.specs.Kinds.{Node, basic, prefix, join}
@@ -18,7 +16,7 @@ use Rattle.cows.proofs.Rows.{children-leaf, children-under, children-bo
 use Rattle.cows.proofs.Records.{RightNode, node-record16, length-record16, record-bytes}
 use Rattle.cows.proofs.Cut.{all-append, append-all, length-write, cut-write, map-read, write-bytes}
 use Rattle.cows.proofs.Basics.{same-some}
-use Rattle.cows.proofs.Ends.{none-some, end-none, end-bounds, end-right}
+use Rattle.cows.proofs.Ends.{none-some, end-bounds, end-right, end-append, end-none, end-one}
 use borrow.Author.Tests.{le-ltb}
 
 -- Terms and their records: read back, whatever follows.
@@ -38,24 +36,19 @@ pub decode-nodes : (t : Term) → decode (nodes t) ≡ t
 unfolding decode build
 decode-nodes t = rw (← append-nil (nodes t), build-nodes t []) refl
 
--- a term's records, and w terms behind them
-pub end-nodes : (t : Term) (w n : ℕ) (ns : List Node) → endOf children (suc w) n (nodes t ++ ns) ≡ endOf children w (n + size t) ns
-unfolding endOf nodes size
-end-nodes (leaf x) w n ns = rw (children-leaf x, zero-add, add-one)
-end-nodes (under u t) w n ns =
-    ap (λ m. endOf children m (suc n) (nodes t ++ ns)) (omega (arith, children-under u))
-    ∙ (end-nodes t w (suc n) ns ∙ ap (λ m. endOf children w m ns) (omega arith))
-end-nodes (both j s t) w n ns =
-    ap (λ l. endOf children (children (join j) + w) (suc n) l) (append-assoc (nodes s) (nodes t) ns)
-    ∙ (ap (λ m. endOf children m (suc n) (nodes s ++ (nodes t ++ ns))) (omega (arith, children-both j))
-    ∙ (end-nodes s (suc w) (suc n) (nodes t ++ ns)
-    ∙ (end-nodes t w (suc n + size s) ns ∙ ap (λ m. endOf children w m ns) (omega arith))))
+-- a term ends behind its records
+end-nodes : (t : Term) (n : ℕ) → endOf children 1 n (nodes t) ≡ some (n + length (nodes t))
+unfolding nodes
+end-nodes (leaf x) n = end-one children n (basic x) [] 0 (children-leaf x) ∙ (end-none children (suc n) [] ∙ ap some (omega arith))
+end-nodes (under u t) n = end-one children n (prefix u) (nodes t) 1 (children-under u) ∙ (end-nodes t (suc n) ∙ ap some (omega arith))
+end-nodes (both j s t) n =
+    end-one children n (join j) (nodes s ++ nodes t) 2 (children-both j)
+    ∙ (end-append children 1 1 (suc n) (nodes s) (nodes t) (end-nodes s (suc n))
+    ∙ (end-nodes t (suc n + length (nodes s)) ∙ ap some (omega (arith, length-append (nodes s) (nodes t)))))
 
 pub nodes-shaped : (t : Term) → misshapen (nodes t) ≡ none
 unfolding misshapen wrongEnd placeIf
-nodes-shaped t =
-    let e : endOf children 1 0 (nodes t) ≡ some (size t) = (rw append-nil at (end-nodes t 0 0 [])) ∙ (end-none children (0 + size t) [] ∙ ap some (zero-add (size t))) in
-    rw (e, length-nodes t, le-ltb (size t) (size t) (omega arith))
+nodes-shaped t = rw (end-nodes t 0, le-ltb (0 + length (nodes t)) (length (nodes t)) (omega arith))
 
 -- records of the right shape are the records of the term read off them
 push-flat : (r : Node) (ts : List Term) (w : ℕ) → length ts ≡ children r + w → (length (push r ts) ≡ suc w) × (flatMap nodes (push r ts) ≡ r ∷ flatMap nodes ts)

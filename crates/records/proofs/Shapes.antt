@@ -71,7 +71,7 @@ module _ (s : List ℕ) where
 
   pub end-pick : (m c : ℕ) → m < length s / 16 → c ≡ childrenOf (getD s (16 * m) 0) → c ≤ 2 → endAt s m ≡ pickEnd c (suc m) (endAt s (suc m)) (endAt s (endAt s (suc m)))
   unfolding pickEnd endAt
-  end-pick m c h e l = rw (kinds-cons s m h, end-one childrenOf m (getD s (16 * m) 0) (drop (suc m) (kindsOf s)), ← e) (go c l)
+  end-pick m c h e l = rw (kinds-cons s m h, end-one childrenOf m (getD s (16 * m) 0) (drop (suc m) (kindsOf s)) c (sym e)) (go c l)
     where
       go : (c : ℕ) → c ≤ 2 → placeOr over (endOfTerms c (suc m)) ≡ pickEnd c (suc m) (endAt s (suc m)) (endAt s (endAt s (suc m)))
       go zero l = ap (placeOr over) (end-none childrenOf (suc m) (drop (suc m) (kindsOf s)))
