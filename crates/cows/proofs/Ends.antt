@@ -9,6 +9,7 @@ use lib.Dec.{ltb}
 use lib.ListN.{length, drop}
 use borrow.Author.Tests.{ltb-false}
 use Rattle.cows.specs.Tables.{endOf, wrongEnd}
+use Rattle.cows.specs.Basics.{All}
 use Rattle.cows.proofs.Basics.{same-some, placeIf-none}
 
 -- what is not there
@@ -64,15 +65,13 @@ module _ {A : Type 0} (wants : A → ℕ) where
       ap (λ m. endOf wants m n (r ∷ (rs ++ ns))) (suc-add a w)
       ∙ (ap (λ m. endOf wants m (suc n) (rs ++ ns)) p ∙ (end-append (wants r + a) w (suc n) rs ns (h ∙ ap some q) ∙ ap (λ m. endOf wants w m ns) (sym q)))
 
-  end-numbers : (w n : ℕ) (rs : List A) → endOf wants w n rs ≡ endOf (λ c. c) w n (map wants rs)
-  unfolding endOf
-  end-numbers zero n [] = refl
-  end-numbers zero n (r ∷ rs) = refl
-  end-numbers (suc w) n [] = refl
-  end-numbers (suc w) n (r ∷ rs) = end-numbers (wants r + w) (suc n) rs
-
-pub end-same : {A B : Type 0} (f : A → ℕ) (g : B → ℕ) (w n : ℕ) (rs : List A) (ts : List B) → map f rs ≡ map g ts → endOf f w n rs ≡ endOf g w n ts
-end-same f g w n rs ts e = end-numbers f w n rs ∙ (ap (endOf (λ c. c) w n) e ∙ sym (end-numbers g w n ts))
+-- what counts is the numbers of children
+pub end-map : {A B : Type 0} (f : A → ℕ) (g : B → ℕ) (q : A → B) (w n : ℕ) (rs : List A) → All (λ r. f r ≡ g (q r)) rs → endOf f w n rs ≡ endOf g w n (map q rs)
+unfolding endOf
+end-map f g q zero n [] h = refl
+end-map f g q zero n (r ∷ rs) h = refl
+end-map f g q (suc w) n [] h = refl
+end-map f g q (suc w) n (r ∷ rs) h = ap (λ m. endOf f (m + w) (suc n) rs) (h .0) ∙ end-map f g q (g (q r) + w) (suc n) rs (h .1)
 
 -- nothing is wrong with an end that is the number of records, and with no other
 pub end-right : (n : ℕ) (o : Option ℕ) → ((e : ℕ) → o ≡ some e → e ≤ n) → wrongEnd n o ≡ none → o ≡ some n

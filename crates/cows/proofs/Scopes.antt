@@ -64,7 +64,7 @@ inside-inner u E F i a = or-both {a = delimitsAtom a u} {c = delimitsAtom a u} (
 pub need-weakens : (K L : ℕ → Bool) → Inside L K → Weakens (Need K) (Need L)
 need-weakens K L k a E F i h l = i a (h (k a l))
 
-pub all-map : (P Q : ℕ → Type 0) → ((a : ℕ) → P a → Q a) → (l : List ℕ) → All P l → All Q l
+pub all-map : {A : Type 0} (P Q : A → Type 0) → ((a : A) → P a → Q a) → (l : List A) → All P l → All Q l
 all-map P Q f [] h = tt
 all-map P Q f (a ∷ l) h = (f a (h .0), all-map P Q f l (h .1))
 

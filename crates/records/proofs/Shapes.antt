@@ -1,7 +1,7 @@
 -- Where the terms of a table end (specs/Ends): the ends that a backward pass finds; the shape of a table by its first end.
 use mathlib.Core.Path.{_≡_, refl, sym, ap, subst, _∙_}
 use mathlib.Core.Option.{Option, none, some}
-use mathlib.Core.List.{List, [], _∷_, map}
+use mathlib.Core.List.{List, map}
 use Prim.Native.Nat.{ℕ, zero, suc, _+_, _*_, _-_, _/_, _≤_, _<_}
 use native.Mathlib.Omega.{arith}
 use mathlib.Core.Bool.{true}
@@ -9,7 +9,7 @@ use lib.Dec.{ltb, eqb}
 use lib.ListN.{length, getD, set, drop, length-set, length-drop, length-map, drop-of-length-le}
 use lib.Seq.{drop-drop, getD-set-same, getD-set-other}
 use borrow.Author.Tests.{ltb-true, eqb-true, eqb-false, le-ltb, lt-ltb}
-use Rattle.cows.specs.Basics.{All, placeIf}
+use Rattle.cows.specs.Basics.{placeIf}
 use Rattle.cows.specs.Terms.{Term, leaf, under, both, size}
 use Rattle.cows.specs.Kinds.{kinds, childrenOf, kind}
 use Rattle.cows.specs.Places.{sub}
@@ -19,27 +19,13 @@ use Rattle.cows.proofs.Rows.{kind-cases, arity, children-few}
 use Rattle.cows.proofs.Format.{length-encode}
 use Rattle.cows.proofs.Basics.{bool-case, and-true}
 use Rattle.cows.proofs.Cut.{length-cut, cut-cons, failing-none}
-use Rattle.cows.proofs.Ends.{end-none, end-one, end-bounds, end-add, end-short, end-same}
-use Rattle.records.specs.Ends.{kindsOf, endAt, pickEnd, EndsFrom}
+use Rattle.cows.proofs.Ends.{end-none, end-one, end-bounds, end-add, end-short, end-map}
+use Rattle.cows.proofs.Scopes.{all-map}
+use Rattle.records.specs.Ends.{wants, endAt, pickEnd, EndsFrom}
 use Rattle.records.specs.Rewrites.{Stands}
 use Rattle.records.specs.Answers.{placeOr}
-use Rattle.records.proofs.Pieces.{first-piece}
+use Rattle.records.proofs.Pieces.{piece, first-piece}
 use Rattle.records.proofs.Stands.{long, stands-children, stands-fits, stands-under, stands-left, stands-right, part-stands}
-
--- the kinds of a table's records
-drop-map : {A B : Type 0} (f : A → B) (m : ℕ) (l : List A) → drop m (map f l) ≡ map f (drop m l)
-drop-map f zero l = refl
-drop-map f (suc m) [] = refl
-drop-map f (suc m) (x ∷ l) = drop-map f m l
-
-length-kinds : (s : List ℕ) → length (kindsOf s) ≡ length s / 16
-unfolding kindsOf
-length-kinds s = length-map (records s) (λ b. byte b 0) ∙ length-cut 16 s
-
-kinds-cons : (s : List ℕ) (m : ℕ) → m < length s / 16 → drop m (kindsOf s) ≡ getD s (16 * m) 0 ∷ drop (suc m) (kindsOf s)
-unfolding kindsOf
-kinds-cons s m h =
-    rw (drop-map (λ b. byte b 0) m (records s), drop-map (λ b. byte b 0) (suc m) (records s), cut-cons 16 s m h, first-piece s (16 * m))
 
 -- The end at a place, from those behind it.
 module _ (s : List ℕ) where
@@ -48,33 +34,33 @@ module _ (s : List ℕ) where
 
   -- the end of so many terms
   abbrev endOfTerms : ℕ → ℕ → Option ℕ
-  endOfTerms w m = endOf childrenOf w m (drop m (kindsOf s))
+  endOfTerms w m = endOf wants w m (drop m (records s))
 
   pub end-within : (m : ℕ) → m ≤ length s / 16 + 1 → (m ≤ endAt s m) × (endAt s m ≤ length s / 16 + 1)
   unfolding endAt
-  end-within m h = go (endOfTerms 1 m) (end-bounds childrenOf 1 m (drop m (kindsOf s)))
+  end-within m h = go (endOfTerms 1 m) (end-bounds wants 1 m (drop m (records s)))
     where
-      go : (o : Option ℕ) → ((e : ℕ) → o ≡ some e → (m ≤ e) × (e ≤ m + length (drop m (kindsOf s)))) → (m ≤ placeOr over o) × (placeOr over o ≤ length s / 16 + 1)
+      go : (o : Option ℕ) → ((e : ℕ) → o ≡ some e → (m ≤ e) × (e ≤ m + length (drop m (records s)))) → (m ≤ placeOr over o) × (placeOr over o ≤ length s / 16 + 1)
       go none f = omega arith
-      go (some e) f = omega (arith, f e refl, length-drop m (kindsOf s), length-kinds s)
+      go (some e) f = omega (arith, f e refl, length-drop m (records s), length-cut 16 s)
 
   pub end-over : (m : ℕ) → length s / 16 ≤ m → endAt s m ≡ length s / 16 + 1
   unfolding endAt endOf
-  end-over m h = rw (drop-of-length-le (kindsOf s) {i = m} (omega (arith, length-kinds s))) (omega arith)
+  end-over m h = rw (drop-of-length-le (records s) {i = m} (omega (arith, length-cut 16 s))) (omega arith)
 
   end-two : (m : ℕ) (o : Option ℕ) → endOfTerms 1 m ≡ o → placeOr over (endOfTerms 2 m) ≡ endAt s (placeOr over o)
   unfolding endAt
-  end-two m none q = ap (placeOr over) (end-short childrenOf 1 1 m (drop m (kindsOf s)) q) ∙ sym (end-over over (omega arith) ∙ omega arith)
+  end-two m none q = ap (placeOr over) (end-short wants 1 1 m (drop m (records s)) q) ∙ sym (end-over over (omega arith) ∙ omega arith)
   end-two m (some e) q =
-      let z : m + (e - m) ≡ e = omega (arith, end-bounds childrenOf 1 m (drop m (kindsOf s)) e q) in
-      rw (end-add childrenOf 1 1 m (drop m (kindsOf s)) e q, drop-drop (e - m) m (kindsOf s), z)
+      let z : m + (e - m) ≡ e = omega (arith, end-bounds wants 1 m (drop m (records s)) e q) in
+      rw (end-add wants 1 1 m (drop m (records s)) e q, drop-drop (e - m) m (records s), z)
 
   pub end-pick : (m c : ℕ) → m < length s / 16 → c ≡ childrenOf (getD s (16 * m) 0) → c ≤ 2 → endAt s m ≡ pickEnd c (suc m) (endAt s (suc m)) (endAt s (endAt s (suc m)))
   unfolding pickEnd endAt
-  end-pick m c h e l = rw (kinds-cons s m h, end-one childrenOf m (getD s (16 * m) 0) (drop (suc m) (kindsOf s)) c (sym e)) (go c l)
+  end-pick m c h e l = rw (cut-cons 16 s m h, end-one wants m (piece s (16 * m)) (drop (suc m) (records s)) c (ap childrenOf (first-piece s (16 * m)) ∙ sym e)) (go c l)
     where
       go : (c : ℕ) → c ≤ 2 → placeOr over (endOfTerms c (suc m)) ≡ pickEnd c (suc m) (endAt s (suc m)) (endAt s (endAt s (suc m)))
-      go zero l = ap (placeOr over) (end-none childrenOf (suc m) (drop (suc m) (kindsOf s)))
+      go zero l = ap (placeOr over) (end-none wants (suc m) (drop (suc m) (records s)))
       go (suc zero) l = refl
       go (suc (suc zero)) l = end-two (suc m) (endOfTerms 1 (suc m)) refl
       go (suc (suc (suc c))) l = absurd (omega arith)
@@ -141,16 +127,12 @@ right-kind b h =
     (λ e l. rw e, λ e l. rw e, λ e l. rw e, λ e l. rw e, λ e l. rw e, λ e l. rw e, λ e l. rw e, λ e l. rw e, λ e l. rw e, λ e l. rw e) (λ n e l. absurd (omega arith))
     (byte b 0) refl (ltb-true (byte b 0) 10 (and-true (ltb (byte b 0) 10) _ h .0))
 
-map-children : (rs : List (List ℕ)) → All (λ b. rightRecord b ≡ true) rs → map childrenOf (map (λ b. byte b 0) rs) ≡ map children (map node rs)
-map-children [] h = refl
-map-children (b ∷ rs) h = rw (right-kind b (h .0), map-children rs (h .1))
-
 pub end-shape : (s : List ℕ) → firstWrong 0 (records s) ≡ none → Shape (endAt s 0) (length s / 16) (misshapen (map node (records s)))
-unfolding endAt kindsOf misshapen
+unfolding endAt misshapen
 end-shape s h =
     let ns = map node (records s) in
     let l : length ns ≡ length s / 16 = rw length-map (length-cut 16 s) in
-    let e = end-same childrenOf children 1 0 (map (λ b. byte b 0) (records s)) ns (map-children (records s) (failing-none rightRecord 0 (records s) h)) in
+    let e = end-map wants children node 1 0 (records s) (all-map _ _ (λ b r. ap childrenOf (right-kind b r)) (records s) (failing-none rightRecord 0 (records s) h)) in
     rw (e, l) (shape-end (length s / 16) (endOf children 1 0 ns) (λ k q. omega (arith, end-bounds children 1 0 ns k q)))
 
 -- A term that stands at a place ends its size behind it.

@@ -2,7 +2,7 @@
 use mathlib.Core.Path.{_≡_}
 use Prim.Native.Nat.{ℕ, suc, _+_, _/_, _<_, _≤_}
 use mathlib.Core.Bool.{Bool, true, false, cond}
-use mathlib.Core.List.{List, map}
+use mathlib.Core.List.{List}
 use lib.ListN.{length, getD, drop}
 use lib.Dec.{eqb}
 use Rattle.cows.specs.Kinds.{childrenOf}
@@ -15,12 +15,12 @@ abbrev pub oneIf : Bool → ℕ
 oneIf true = 1
 oneIf false = 0
 
--- the kinds of a table's records; the end of the term at place m, one past the number of records where they run out
-unfoldable pub kindsOf : List ℕ → List ℕ
-kindsOf s = map (λ b. byte b 0) (records s)
+-- the terms that a record wants behind it; the end of the term at place m, one past the number of records where they run out
+abbrev pub wants : List ℕ → ℕ
+wants b = childrenOf (byte b 0)
 
 unfoldable pub endAt : List ℕ → ℕ → ℕ
-endAt s m = placeOr (suc (length s / 16)) (endOf childrenOf 1 m (drop m (kindsOf s)))
+endAt s m = placeOr (suc (length s / 16)) (endOf wants 1 m (drop m (records s)))
 
 unfoldable pub pickEnd : ℕ → ℕ → ℕ → ℕ → ℕ
 pickEnd c x a b = cond (eqb c 0) x (cond (eqb c 1) a b)

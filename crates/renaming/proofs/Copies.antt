@@ -1,9 +1,9 @@
 -- A copy of a body (specs/Names, Body): what is made of its records, with the names that were chosen, is the copy; and where bodies come from.
 use mathlib.Core.Path.{_≡_, refl, ap, subst, _∙_, sym}
 use mathlib.Core.List.{List, [], _++_, append-nil}
-use Prim.Native.Nat.{ℕ, zero, suc, _+_, _-_, _<_}
+use Prim.Native.Nat.{ℕ, _+_, _-_, _<_}
 use native.Mathlib.Omega.{arith}
-use lib.ListN.{length, getD, replicate, length-replicate}
+use lib.ListN.{length, replicate, length-replicate}
 use Rattle.cows.specs.Basics.{member, any}
 use Rattle.cows.specs.Terms.{Term, size, binders, atoms}
 use Rattle.cows.specs.Places.{sub, wayTo}
@@ -15,6 +15,7 @@ use Rattle.cows.proofs.Format.{length-encode, encode-injective}
 use Rattle.cows.proofs.Stands.{right-at}
 use Rattle.cows.proofs.Scopes.{counts-fill}
 use Rattle.cows.proofs.Atoms.{In, in-refl, in-fill, few-atoms}
+use Rattle.cows.proofs.Basics.{getD-zeros}
 use Rattle.records.specs.Holds.{Holds}
 use Rattle.records.proofs.Stands.{holds-stands}
 use Rattle.renaming.specs.Mapped.{mapped, named}
@@ -31,14 +32,9 @@ marked-copied s from to names body taken m names′ c =
     rw z (mapped-as (image (renaming taken (binders body))) names′ s from body (c .none) (λ a k. c .new a (m .among a k)) (m .stands))
 
 -- names just cleared mark nothing
-blank : (n a : ℕ) → _≡_ {A = ℕ} (getD (replicate n 0) a 0) 0
-blank zero a = refl
-blank (suc n) zero = refl
-blank (suc n) (suc a) = blank n a
-
 pub blank-marks : Marks (replicate 65536 0) []
 unfolding member any
-blank-marks = record { room = length-replicate {A = ℕ} 65536 0; entry = λ a. blank 65536 a }
+blank-marks = record { room = length-replicate {A = ℕ} 65536 0; entry = λ a. getD-zeros 65536 a }
 
 -- The part of a table that is to be copied is a body whose atoms are marked with the table's.
 module _ (s : List ℕ) (from to : ℕ) (b : Body s from to) where

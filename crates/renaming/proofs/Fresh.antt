@@ -13,12 +13,12 @@ use Rattle.cows.specs.Basics.{any, member}
 use Rattle.cows.specs.Terms.{atom}
 use Rattle.cows.specs.Moves.{least, fresh}
 use Rattle.cows.specs.Allows.{SameSet, Smallest}
-use Rattle.cows.proofs.Basics.{clash, cond-case, lt-case, or-false, or-left, or-right, not-so}
+use Rattle.cows.proofs.Basics.{clash, cond-case, lt-case, or-false, or-left, or-right, not-so, eq-case}
 use Rattle.cows.proofs.Sets.{in-values, in-variables, in-labels, Set, alike-sets, value-range, variable-range, label-range, set-case}
 use Rattle.cows.proofs.Renaming.{fresh-smallest, smallest-least}
 use Rattle.records.specs.Atoms.{classOf}
 use Rattle.renaming.specs.Names.{setOf, leastOf, NextFree, Taking, Wanting, Wanted, New}
-use Rattle.renaming.proofs.Occurring.{eq-case, after-store}
+use Rattle.renaming.proofs.Occurring.{after-store}
 
 -- The sets by their numbers: set k goes from leastOf k to endOf k (not included).
 endOf : ℕ → ℕ

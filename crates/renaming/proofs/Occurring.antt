@@ -8,13 +8,13 @@ use native.Mathlib.Omega.{arith}
 use lib.Dec.{eqb}
 use lib.ListN.{length, getD, set, length-set}
 use lib.Seq.{getD-set-same, getD-set-other}
-use borrow.Author.Tests.{eqb-true, eqb-false, eq-eqb, ne-eqb}
+use borrow.Author.Tests.{eqb-true, eq-eqb, ne-eqb}
 use Rattle.cows.specs.Basics.{any, every, member}
 use Rattle.cows.specs.Terms.{Basic, nil, kill, invoke, Prefix, receive, wait, protection, delimitation, replication, Join, choice, parallel, Term, leaf, under, both, value, variable, label, datum, atom, size, delimits, usesBasic, usesPrefix, optional, atoms}
 use Rattle.cows.specs.Kinds.{basic, prefix, join}
 use Rattle.cows.specs.Format.{word, nodes, layout, record16, slots, encode}
 use Rattle.cows.specs.Within.{RightBasic, RightPrefix, Right}
-use Rattle.cows.proofs.Basics.{never, bool-case, and-true, true-and, or-left, or-right, or-case, member-append, every-append}
+use Rattle.cows.proofs.Basics.{never, and-true, true-and, or-left, or-right, or-case, member-append, every-append, eq-case}
 use Rattle.cows.proofs.Records.{small-atom}
 use Rattle.cows.proofs.Format.{length-encode}
 use Rattle.cows.proofs.Fields.{layout-first, layout-second, layout-slot}
@@ -25,10 +25,6 @@ use Rattle.records.proofs.Pieces.{piece, word-piece}
 use Rattle.renaming.specs.Mapped.{across}
 use Rattle.renaming.specs.Names.{fields, entered, Marks}
 use Rattle.renaming.proofs.Across.{across-next, across-end, across-term}
-
--- two numbers are the same, or not
-pub eq-case : (P : Type 0) (a b : ℕ) → (a ≡ b → P) → (a ≢ b → P) → P
-eq-case P a b f g = bool-case P (eqb a b) (λ e. f (eqb-true a b e)) (λ e. g (eqb-false a b e))
 
 -- an entry after a store
 pub after-store : (l : List ℕ) (i v a : ℕ) → i < length l → getD (set l i v) a 0 ≡ cond (eqb a i) v (getD l a 0)
