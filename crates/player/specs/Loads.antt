@@ -9,6 +9,7 @@ use Rattle.cows.specs.Terms.{Term}
 use Rattle.cows.specs.Load.{load}
 use Rattle.records.specs.Ends.{oneIf}
 use Rattle.tables.specs.declared.Reply.{Reply}
+use Rattle.tables.specs.Verdict.{refusal}
 
 -- a record of this kind weighs: 1 kill, 2 invoke, 3 receive, 4 wait
 abbrev pub weighs : ℕ → Bool
@@ -27,5 +28,5 @@ loadBetween s i j = loadFrom s i (j - i)
 
 -- the reply to a judgement of a table: 0, 0 and its load, or the refusal, its place and 0
 abbrev pub loadReply : Result Term → Reply
-loadReply (refuse n p) = record { answer = n; place = p; records = 0 }
+loadReply (refuse n p) = refusal n p
 loadReply (accept t) = record { answer = 0; place = 0; records = load t }

@@ -2,9 +2,9 @@ use borrow.Author.Needs.{needs}
 use mathlib.Core.Path.{sym, _∙_}
 use native.Mathlib.Omega.{arith}
 use borrow.Author.Tests.{not-true, not-false}
-use Rattle.stepper.proofs.SixBytes.{wrong-move, right-length, no-kind, kill-read, communicate-read, timeout-read, elapse-read, unfold-read, extrude-read}
-use Rattle.stepper.proofs.reading.read_move.Statement.{statement}
-use Rattle.stepper.proofs.reading.read_move.Tie as tie
+use Rattle.proposals.proofs.SixBytes.{wrong-move, right-length, no-kind, kill-read, communicate-read, timeout-read, elapse-read, unfold-read, extrude-read}
+use Rattle.proposals.proofs.read_move.Statement.{statement}
+use Rattle.proposals.proofs.read_move.Tie as tie
 
 pub read-move-spec : {M : Type 1} → statement M
 read-move-spec =

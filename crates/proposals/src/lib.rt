@@ -1,10 +1,20 @@
-// The six bytes of a move: kind, a zero byte, number a, number b, which only a communication uses.
-use moves::Move;
+// Proposals: a move as it is proposed, in six bytes: kind, a zero byte, number a, number b, which only a communication uses. It is read once, here.
 use records::wide16;
 use records::word_at;
 ghost use mathlib.Core.Path.{_≡_};
 ghost use Rattle.cows.specs.Step.{rightMove, readMove};
-ghost use Rattle.moves.specs.Proposals.{moveOf};
+ghost use Rattle.proposals.specs.Proposals.{moveOf};
+
+// A move as it is read off its six bytes, or none.
+pub enum Move {
+    Kill(usize),
+    Communicate(usize, usize),
+    Timeout(usize),
+    Elapse(u16),
+    Unfold(usize),
+    Extrude(usize),
+    None,
+}
 
 // Whether the bytes have the form of a move, whatever its kind.
 fn right_move(m: &[u8]) -> bool

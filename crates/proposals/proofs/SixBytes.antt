@@ -1,4 +1,4 @@
--- The move that six bytes are (specs/Replies), by its kind.
+-- The move that six bytes are (cows, specs/Step, `readMove`), by its kind.
 use mathlib.Core.Path.{_≡_, refl}
 use mathlib.Core.Logic.{_≢_}
 use mathlib.Core.Bool.{true, false, _&&_, _||_}
