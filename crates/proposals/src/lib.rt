@@ -36,23 +36,13 @@ pub fn read_move(m: &[u8]) -> Move
     let kind = m[0];
     let d = word_at(m, 2);
     let a = wide16(d);
-    if kind == 0 {
-        return Move::Kill(a);
+    match kind {
+        0 => Move::Kill(a),
+        1 => Move::Communicate(a, wide16(word_at(m, 4))),
+        2 => Move::Timeout(a),
+        3 => Move::Elapse(d),
+        4 => Move::Unfold(a),
+        5 => Move::Extrude(a),
+        _ => Move::None,
     }
-    if kind == 1 {
-        return Move::Communicate(a, wide16(word_at(m, 4)));
-    }
-    if kind == 2 {
-        return Move::Timeout(a);
-    }
-    if kind == 3 {
-        return Move::Elapse(d);
-    }
-    if kind == 4 {
-        return Move::Unfold(a);
-    }
-    if kind == 5 {
-        return Move::Extrude(a);
-    }
-    Move::None
 }
