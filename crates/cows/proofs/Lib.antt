@@ -8,6 +8,8 @@ pub mod Format
 pub mod Fields
 pub mod Refusals
 pub mod Tables
+pub mod Lists
+pub mod Bounds
 pub mod Step
 pub mod Stands
 pub mod Reach
@@ -35,5 +37,4 @@ pub mod Corollaries
 pub mod Accepts
 pub mod Load
 pub mod Run
-pub mod Lists
 pub mod Theorems

@@ -6,18 +6,18 @@ use native.Mathlib.Omega.{arith}
 use lib.ListN.{length, take, drop}
 use lib.Seq.{drop-drop}
 use Rattle.cows.specs.Format.{bytes2, pieces}
-use Rattle.cows.specs.Step.{Reply}
+use Rattle.cows.specs.Step.{Reply, readMove}
 use Rattle.cows.specs.Run.{Run, turn, judgement, run, kept, replies, replyBytes}
 
-pub run-more : (r : Run) (ms : List (List ℕ)) (m : List ℕ) → run r (ms ++ (m ∷ [])) ≡ turn (run r ms) m
+pub run-more : (r : Run) (ms : List (List ℕ)) (m : List ℕ) → run r (ms ++ (m ∷ [])) ≡ turn (run r ms) (readMove m)
 unfolding run
 run-more r [] m = refl
-run-more r (x ∷ ms) m = run-more (turn r x) ms m
+run-more r (x ∷ ms) m = run-more (turn r (readMove x)) ms m
 
-pub replies-more : (r : Run) (ms : List (List ℕ)) (m : List ℕ) → replies r (ms ++ (m ∷ [])) ≡ replies r ms ++ (kept (run r ms) (judgement (run r ms) m) ∷ [])
+pub replies-more : (r : Run) (ms : List (List ℕ)) (m : List ℕ) → replies r (ms ++ (m ∷ [])) ≡ replies r ms ++ (kept (run r ms) (judgement (run r ms) (readMove m)) ∷ [])
 unfolding run replies
 replies-more r [] m = refl
-replies-more r (x ∷ ms) m = ap (λ l. kept r (judgement r x) ∷ l) (replies-more (turn r x) ms m)
+replies-more r (x ∷ ms) m = ap (λ l. kept r (judgement r (readMove x)) ∷ l) (replies-more (turn r (readMove x)) ms m)
 
 pub pieces-more : (w n : ℕ) (b : List ℕ) → pieces w (suc n) b ≡ pieces w n b ++ (take w (drop (w * n) b) ∷ [])
 unfolding pieces
@@ -39,7 +39,7 @@ length-pieces w (suc n) b = ap suc (length-pieces w n (drop w b))
 pub length-replies : (r : Run) (ms : List (List ℕ)) → length (replies r ms) ≡ length ms
 unfolding replies
 length-replies r [] = refl
-length-replies r (m ∷ ms) = ap suc (length-replies (turn r m) ms)
+length-replies r (m ∷ ms) = ap suc (length-replies (turn r (readMove m)) ms)
 
 pub length-bytes : (rs : List Reply) → length (replyBytes rs) ≡ 6 * length rs
 unfolding replyBytes bytes2

@@ -2,7 +2,6 @@
 use mathlib.Core.Path.{_≡_, refl, subst, _∙_}
 use mathlib.Core.Bool.{true, not, _||_}
 use mathlib.Core.Option.{Option, none, some}
-use mathlib.Core.List.{List}
 use Prim.Native.Nat.{ℕ, _≤_}
 use lib.Dec.{eqb}
 use lib.ListN.{length}
@@ -109,10 +108,10 @@ successor-kept t s (Unfold a) w e = sound-unfold t s a e (w .small) (w .right, w
 successor-kept t s (Extrude a) w e = sound-extrude t s a e (w .right, w .formed)
 
 -- What the rules allow, and what a step then gives, is within the limits.
-accepted-within : (t s : Term) (m : List ℕ) (room : ℕ) → Within t → Accepted t m room s → Within s
+accepted-within : (t s : Term) (m : Option Move) (room : ℕ) → Within t → Accepted t m room s → Within s
 accepted-within t s m room w a =
     let (r, f) = successor-kept t s (a .move) w (a .moves) in
     record { right = r; formed = f; small = a .small; shallow = a .shallow }
 
-pub step-within : (t s : Term) (m : List ℕ) (room : ℕ) → Within t → stepTerm t m room ≡ accept s → Within s
+pub step-within : (t s : Term) (m : Option Move) (room : ℕ) → Within t → stepTerm t m room ≡ accept s → Within s
 step-within t s m room w e = accepted-within t s m room w (step-accepted t s m room e)

@@ -27,11 +27,7 @@ fn refused(answer: u8, place: usize) -> Played
     ensures { λ r. ⌜ r ≡ refusedWith answer place ⌝ }
 {
     Played {
-        reply: Reply {
-            answer,
-            place,
-            records: 0,
-        },
+        reply: tables::refusal(answer, place),
         tally: tally::zeros(),
     }
 }
