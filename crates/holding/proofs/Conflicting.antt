@@ -17,6 +17,7 @@ use Rattle.cows.proofs.Fields.{kind-receive}
 use Rattle.cows.proofs.Stands.{receives-is, prefixed-is}
 use Rattle.records.specs.Holds.{Holds}
 use Rattle.records.proofs.Stands.{holds-kind}
+use Rattle.matching.specs.declared.Difference.{Difference}
 use Rattle.matching.specs.declared.Fit.the-variants.{Binds, Differs}
 use Rattle.matching.specs.Matching.{fitOf, EndsAt}
 use Rattle.matching.proofs.Parties.{receive-ends}
@@ -28,12 +29,12 @@ tightening l m r = holds (λ q. fewer l (fit q m)) (prefixed receives r)
 fewer-binds : (l n : ℕ) (x : Matching) → Binds n ≡ fitOf x → ltb n l ≡ fewer l x
 unfolding fewer
 fewer-binds l n (binds σ) e = ap (λ k. ltb k l) (let z : n ≡ length σ = cc in z)
-fewer-binds l n differs e = absurd (let z : _≡_ {A = ℕ} 0 1 = cc in omega arith)
+fewer-binds l n (differs d) e = absurd (let z : _≡_ {A = ℕ} 0 1 = cc in omega arith)
 
-fewer-differs : (l : ℕ) (x : Matching) → Differs ≡ fitOf x → false ≡ fewer l x
+fewer-differs : (l : ℕ) (d : Difference) (x : Matching) → Differs d ≡ fitOf x → false ≡ fewer l x
 unfolding fewer
-fewer-differs l (binds σ) e = absurd (let z : _≡_ {A = ℕ} 0 1 = cc in omega arith)
-fewer-differs l differs e = refl
+fewer-differs l d (binds σ) e = absurd (let z : _≡_ {A = ℕ} 0 1 = cc in omega arith)
+fewer-differs l d (differs e) z = refl
 
 module _ (s : List ℕ) (t : Term) (i l : ℕ) (m : Ends) (h : Holds s t) (p : i < size t) where
   pub no-receive : getD s (16 * i) 0 ≢ 3 → false ≡ tightening l m (sub t i)
@@ -56,6 +57,6 @@ module _ (s : List ℕ) (t : Term) (i l : ℕ) (m : Ends) (h : Holds s t) (p : i
     unfolding holds
     receive-fits n f = let (q, k, z) = receive-here in rw z (fewer-binds l n (fit q m) (f q k))
 
-    pub receive-differs : ((q : Ends) → EndsAt s i q → Differs ≡ fitOf (fit q m)) → false ≡ tightening l m (sub t i)
+    pub receive-differs : (d : Difference) → ((q : Ends) → EndsAt s i q → Differs d ≡ fitOf (fit q m)) → false ≡ tightening l m (sub t i)
     unfolding holds
-    receive-differs f = let (q, k, z) = receive-here in rw z (fewer-differs l (fit q m) (f q k))
+    receive-differs d f = let (q, k, z) = receive-here in rw z (fewer-differs l d (fit q m) (f q k))

@@ -14,5 +14,5 @@ tighter-spec =
     (λ c κs. search needs)
     (λ c. search needs)
     (λ c. search needs)
-    (λ c t m h p k z. receive-differs _ t _ _ m h p (c .before .before .before .if1 .left) (λ q x. sym (c .enum-told .given .1) ∙ c .before .before .fits-closed .ensures q m x k z))
+    (λ c t m h p k z. receive-differs _ t _ _ m h p (c .before .before .before .if1 .left) _ (λ q x. sym (c .enum-told .given .1) ∙ c .before .before .fits-closed .ensures q m x k z))
     (λ c t m h p k z. receive-fits _ t _ _ m h p (c .before .before .before .before .if1 .left) _ (λ q x. sym (c .before .n .given .1) ∙ c .before .before .before .fits-closed .ensures q m x k z)))
