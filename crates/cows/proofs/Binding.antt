@@ -13,10 +13,10 @@ use Rattle.cows.specs.Places.{inside, leftOf, rightOf, Way, wayTo, first
 use Rattle.cows.specs.Within.{Right, Guarded, one, counts, restricted, nowhere, Formed}
 use Rattle.cows.specs.Allows.{Matches, empty, takes, equals}
 use Rattle.cows.specs.Moves.{Substitution, binds, fit, outside, inScope, image, instantiate, bind}
-use Rattle.cows.proofs.Basics.{never, clash, cond-case, and-true, and-not, or-false, or-left, or-right, or-second, or-case, not-so, found-none, holds-some}
+use Rattle.cows.proofs.Basics.{never, cond-case, and-true, and-not, or-false, or-left, or-right, or-second, or-case, not-so, found-none, holds-some}
 use Rattle.cows.proofs.Places.{Everywhere, at-first, at-under, at-left, at-right, Fails, first-none}
 use Rattle.cows.proofs.Meeting.{fit-fits}
-use Rattle.cows.proofs.Sets.{value-range, variable-range, label-range}
+use Rattle.cows.proofs.Sets.{datum-value, value-range, variable-range, label-range}
 use Rattle.cows.proofs.Scopes.{Rule, inner, Used, local, Need, Inside, Weakens, And, inside-refl, need-weakens, all-map, used-mono, used-both, used-any, used-scoped, scoped-used, restricted-mono}
 use Rattle.cows.proofs.Mapping.{Carries, Fits, guarded-mapped, used-mapped, counts-at, right-mapped}
 use Rattle.cows.proofs.Parts.{Sound, Part, part-used, part-counts}
@@ -240,12 +240,12 @@ Values [] = Unit {0}
 Values (p ∷ σ) = ((variable (p .0) ≡ true) × (value (p .1) ≡ true)) × Values σ
 
 values-matches : {ws vs : List ℕ} {σ : Substitution} → Matches ws vs σ → every datum vs ≡ true → any variable vs ≡ false → Values σ
-unfolding every any datum
+unfolding every any
 values-matches empty d n = tt
 values-matches (takes {v = v} {vs = vs} e m) d n =
     let (d₁, d₂) = and-true (datum v) (every datum vs) d in
     let (n₁, n₂) = or-false (variable v) (any variable vs) n in
-    ((e, or-case _ (value v) (variable v) d₁ (λ q. q) (λ q. clash q n₁)), values-matches m d₂ n₂)
+    ((e, datum-value v d₁ n₁), values-matches m d₂ n₂)
 values-matches (equals {v = v} {vs = vs} e m) d n = values-matches m (and-true (datum v) (every datum vs) d .1) (or-false (variable v) (any variable vs) n .1)
 
 pub values-fit : (r m : Ends) (σ : Substitution) → every datum (m .tuple) ≡ true → fit r m ≡ binds σ → Values σ

@@ -13,4 +13,4 @@ agrees-at-spec =
     (λ c κs. search needs)
     (λ c.
     let i = c .before .before in
-    rw (c .equal .ensures, i .is-variable .ensures, c .before .atom-at2 .ensures, i .before .atom-at .ensures, variable-class, number-class, number-class)))
+    rw (c .equal .ensures, i .is-variable .ensures, c .before .atom-at2 .ensures, i .before .atom-at .ensures) (simp (variable-class, number-class))))
