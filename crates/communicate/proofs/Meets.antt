@@ -20,10 +20,10 @@ use Rattle.cows.proofs.Basics.{clash, and-true, true-and, or-both, or-right, no
 use Rattle.cows.proofs.Scopes.{counts-enclosed}
 use Rattle.cows.proofs.Fields.{append-bytes}
 use Rattle.cows.proofs.Parts.{Sound}
-use Rattle.cows.proofs.Binding.{AllBind, matched-binds}
+use Rattle.cows.proofs.Binding.{AllBind}
 use Rattle.cows.specs.Records.{boundNodes}
 use Rattle.cows.proofs.Binds.{bound-append, bind-nodes, bind-depth, Once, bind-size}
-use Rattle.cows.proofs.Meeting.{fit-fits, inScope-reaches}
+use Rattle.cows.proofs.Meeting.{fit-fits, matched-binds, inScope-reaches}
 use Rattle.cows.proofs.Preserving.{meeting-binds, scopes-passed}
 use Rattle.cows.proofs.Stands.{right-at, invokes-is, receives-is, prefixed-is, wanted-live}
 use Rattle.ways.specs.Ways.{startOf}

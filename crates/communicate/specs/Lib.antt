@@ -1,2 +1,2 @@
 pub mod Binding
-pub mod Mismatch
+pub mod Judging

@@ -1,0 +1,19 @@
+use mathlib.Core.Path.{refl}
+use native.Mathlib.Omega.{arith}
+use Rattle.ways.proofs.Tables.{walk-known}
+use Rattle.communicate.proofs.Communicates.{receive-span, records-left, meeting-planned}
+use Rattle.communicate.proofs.plan.Statement.{statement}
+use Rattle.communicate.proofs.plan.Tie as tie
+
+pub plan-spec : {M : Type 1} → statement M
+plan-spec =
+    tie.close
+    (tie.spec
+    (λ c κs. let p = c .before .before .before .pre in walk-known _ _ (p .known) _ _ _ (p .room) (p .live .walks))
+    (λ c κs.
+    let p = c .before .before .before .before .pre in
+    receive-span (p .known .table) (p .live) (c .choice-start .ensures (p .known .term) (p .live .walks)))
+    (λ c.
+    let p = c .before .before .before .before .before .pre in
+    omega (arith, c .left .ensures, records-left (p .known .table) (p .live) (c .before .choice-start .ensures (p .known .term) (p .live .walks)) (p .meets)))
+    (λ c t b z h m. meeting-planned z h (c .before .choice-start .ensures t (h .walks)) m _ _ _ refl refl (c .left .ensures) refl))
