@@ -2,15 +2,17 @@
 use mathlib.Core.Path.{_≡_}
 use mathlib.Core.Bool.{true}
 use mathlib.Core.List.{List, _++_}
-use Prim.Native.Nat.{ℕ, suc, _+_, _-_, _≤_, _<_}
+use Prim.Native.Nat.{ℕ, suc, _+_, _*_, _-_, _/_, _≤_, _<_}
 use lib.ListN.{length, take, drop}
 use Rattle.cows.specs.Basics.{every}
 use Rattle.cows.specs.Terms.{Term, leaf, under, Ends, size, depth, below, invokeOf, receiveOf}
 use Rattle.cows.specs.Places.{wayTo, sub}
-use Rattle.cows.specs.Format.{Node, nodes, bytes, encode}
+use Rattle.cows.specs.Format.{word, Node, nodes, bytes, encode}
 use Rattle.cows.specs.Active.{live}
 use Rattle.cows.specs.Moves.{Substitution, binds, fit, inScope, silence, continue, bind}
 use Rattle.cows.specs.Records.{boundNodes}
+use Rattle.matching.specs.Taking.{takesOf}
+use Rattle.renaming.specs.Bound.{bound}
 use Rattle.ways.specs.Ways.{startOf}
 
 -- The receive q at place a fits the invoke m at place b, and each variable that it binds is in scope.
@@ -44,3 +46,21 @@ pub record Met (t : Term) (a b : ℕ) (r : Term) : Type 0 where
   pub live-invoke : live (wayTo t b) ≡ true
   pub is : r ≡ bind pairs (continue (silence t b) a)
   pub leaves : Left t a b pairs r
+
+-- The n records of s from place i on, as they are written: the invoke at place b is silenced, and what the receive at place a takes from it is bound.
+abbrev pub metRecords : (s : List ℕ) (a b i n : ℕ) → List ℕ
+metRecords s a b i n =
+    bound (takesOf (word s (16 * a + 6)) (word s (16 * b + 6))) (takesOf (word s (16 * a + 8)) (word s (16 * b + 8))) (takesOf (word s (16 * a + 10)) (word s (16 * b + 10)))
+    (takesOf (word s (16 * a + 12)) (word s (16 * b + 12))) b s i n
+
+-- those ahead of place c, those from behind place a to place `end`, and those from place `rest` on
+unfoldable pub metParts : (s : List ℕ) (a b c end rest : ℕ) → List ℕ
+metParts s a b c end rest = metRecords s a b 0 c ++ (metRecords s a b (a + 1) (end - (a + 1)) ++ metRecords s a b rest (length s / 16 - rest))
+
+-- The places are in the table, and the three parts fit the output.
+pub record PartsFit (s : List ℕ) (a b c end rest : ℕ) (out : List ℕ) : Type 0 where
+  pub receive : 16 * a + 15 < length s
+  pub invoke : 16 * b + 15 < length s
+  pub front : 16 * c ≤ length s
+  pub body : 16 * end ≤ length s
+  pub room : length (metParts s a b c end rest) ≤ length out
