@@ -1,6 +1,6 @@
 -- What a communication leaves (specs/Binding: Matched, Leaves): the table of the successor by the records of the term as it was, its size, and that it is within the limits.
 use mathlib.Core.Path.{_≡_, sym, ap, subst, _∙_}
-use mathlib.Core.Bool.{true, false, not, _&&_}
+use mathlib.Core.Bool.{true, not, _&&_}
 use mathlib.Core.List.{List, [], _∷_, _++_}
 use Prim.Native.Nat.{ℕ, suc, _+_, _-_}
 use native.Mathlib.Omega.{arith}
@@ -15,7 +15,6 @@ use Rattle.cows.specs.Active.{wanted}
 use Rattle.cows.specs.Within.{Right, counts, Within}
 use Rattle.cows.specs.Allows.{Matches, empty, takes, equals, AllReach}
 use Rattle.cows.specs.Moves.{Substitution, fit, matched, silence, aroundChoice, continue, bind, communicateAt}
-use Rattle.cows.specs.Step.{overLimits}
 use Rattle.cows.proofs.Basics.{clash, and-true, true-and, or-both, or-right, not-so, bind-accept}
 use Rattle.cows.proofs.Scopes.{counts-enclosed}
 use Rattle.cows.proofs.Fields.{append-bytes}
@@ -28,7 +27,6 @@ use Rattle.cows.proofs.Preserving.{meeting-binds, scopes-passed}
 use Rattle.cows.proofs.Stands.{right-at, invokes-is, receives-is, prefixed-is, wanted-live}
 use Rattle.ways.specs.Ways.{startOf}
 use Rattle.communicate.specs.Binding.{Matched, Left, Met}
-use Rattle.plans.proofs.Planning.{within-limits}
 use Rattle.plans.proofs.Continuing.{cuts}
 use Rattle.communicate.proofs.Silences.{silence-enclosed, left-nodes, left-size, left-depth}
 
@@ -109,9 +107,6 @@ module _ (t : Term) (a b : ℕ) (q m : Ends) (σ : Substitution) (w : Within t) 
         shallow = omega (arith, bind-depth σ s, left-depth t a b (h .receiver) (h .receives) (h .invokes), w .shallow);
         small = omega (arith, left-count, k, w .small);
       }
-
-  pub left-limits : overLimits (bind σ s) ≡ false
-  left-limits = within-limits (bind σ s) (left .small) (left .shallow)
 
 -- What is accepted has such parties.
 pub accepted-met : (t r : Term) (a b : ℕ) → Within t → communicateAt t a b ≡ accept r → Met t a b r

@@ -35,7 +35,7 @@ use Rattle.renaming.specs.Mapped.{mapNode, mapRecord, along}
 use Rattle.renaming.specs.Bound.{takesOne, imageOfAll, goes, boundRecord, bound}
 use Rattle.renaming.proofs.Mapped.{record-mapped}
 use Rattle.renaming.proofs.Occurring.{not-zero}
-use Rattle.communicate.specs.Binding.{Matched, metRecords}
+use Rattle.communicate.specs.Binding.{Matched}
 use Rattle.matching.specs.Taking.{takesOf}
 use Rattle.communicate.proofs.Taking.{images-match, takers-match}
 
@@ -137,6 +137,12 @@ module _ (t₀ t₁ t₂ t₃ : Takes) (σ : Substitution) (same : (a : ℕ) →
       rw e
       (ap₂ _++_ (node-bound b i n (r .0)) (records-bound b s (suc i) ns (r .1) (has-right (record16 n) (bytes ns) (16 * suc i) (omega arith) k))
       ∙ sym (append-bytes (bindNode σ (cond (eqb i b) (basic nil) n)) (boundNodes σ (silenced b (suc i) ns))))
+
+-- The n records of s from place i on, as they are written: the invoke at place b is silenced, and what the receive at place a takes from it is bound.
+abbrev pub metRecords : (s : List ℕ) (a b i n : ℕ) → List ℕ
+metRecords s a b i n =
+    bound (takesOf (word s (16 * a + 6)) (word s (16 * b + 6))) (takesOf (word s (16 * a + 8)) (word s (16 * b + 8))) (takesOf (word s (16 * a + 10)) (word s (16 * b + 10)))
+    (takesOf (word s (16 * a + 12)) (word s (16 * b + 12))) b s i n
 
 -- The receive q at place a and the invoke m at place b match.
 module _ (s : List ℕ) (t : Term) (a b : ℕ) (q m : Ends) (σ : Substitution) (w : Within t) (h : Matched t a b q m σ) (k : Holds s t) where

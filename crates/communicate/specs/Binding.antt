@@ -1,19 +1,58 @@
--- What a communication asks of its two parties, and what it leaves, as it is written.
+-- What a communication asks of its two parties, as it is judged part by part, and what it leaves, as it is written.
 use mathlib.Core.Path.{_≡_}
 use mathlib.Core.Bool.{true}
 use mathlib.Core.List.{List, _++_}
-use Prim.Native.Nat.{ℕ, suc, _+_, _*_, _-_, _/_, _≤_, _<_}
+use Prim.Native.Nat.{ℕ, suc, _+_, _-_, _/_, _≤_, _<_}
 use lib.ListN.{length, take, drop}
-use Rattle.cows.specs.Basics.{every}
+use Rattle.cows.specs.Basics.{every, refuse, accept}
 use Rattle.cows.specs.Terms.{Term, leaf, under, Ends, size, depth, below, invokeOf, receiveOf}
 use Rattle.cows.specs.Places.{wayTo, sub}
-use Rattle.cows.specs.Format.{word, Node, nodes, bytes, encode}
+use Rattle.cows.specs.Format.{Node, nodes, bytes, encode}
 use Rattle.cows.specs.Active.{live}
-use Rattle.cows.specs.Moves.{Substitution, binds, fit, inScope, silence, continue, bind}
+use Rattle.cows.specs.Moves.{Substitution, binds, fit, inScope, silence, continue, bind, communicateAt}
 use Rattle.cows.specs.Records.{boundNodes}
-use Rattle.matching.specs.Taking.{takesOf}
-use Rattle.renaming.specs.Bound.{bound}
-use Rattle.ways.specs.Ways.{startOf}
+use Rattle.ways.specs.Known.{Known}
+use Rattle.ways.specs.Ways.{startOf, LiveAt, Walk}
+use Rattle.plans.specs.Plans.{resultOf}
+use Rattle.communicate.specs.declared.Sought.{Sought}
+use Rattle.communicate.specs.declared.Sought.the-variants.{Both, Absent}
+use Rattle.communicate.specs.declared.Answer.{Answer}
+use Rattle.communicate.specs.declared.Answer.the-variants.{Meets, Refused}
+
+-- A live receive stands at place a and a live invoke at place b, and these are the ways to them; or 11 at one of them.
+pub record BothLive (s : List ℕ) (a b : ℕ) (receiver : List ℕ) (k : ℕ) (sender : List ℕ) (n : ℕ) (t : Term) : Type 0 where
+  pub receive : LiveAt s receiver a 3 t k
+  pub invoke : LiveAt s sender b 2 t n
+
+abbrev pub Seeks : (s : List ℕ) (a b : ℕ) (receiver sender : List ℕ) (t : Term) → Sought → Type 0
+Seeks s a b receiver sender t (Both k n) = BothLive s a b receiver k sender n t
+Seeks s a b receiver sender t (Absent p) = communicateAt t a b ≡ refuse 11 p
+
+-- The two may meet and bind l variables, and so many records are left; or the refusal.
+pub record Meetable (t : Term) (a b l : ℕ) : Type 0 where
+  pub after : Term
+  pub accepted : communicateAt t a b ≡ accept after
+  pub count : size after + l + size (sub t (startOf a (wayTo t a))) ≡ size t + (size (sub t a) - 1)
+
+abbrev pub Settles : (t : Term) (a b : ℕ) → Answer → Type 0
+Settles t a b (Meets l) = Meetable t a b l
+Settles t a b (Refused j) = (n p : ℕ) × (resultOf j ≡ refuse n p) × (communicateAt t a b ≡ refuse n p)
+
+-- What asking them needs: the ways to two records of a known table.
+pub record Faces (s ends : List ℕ) (a b : ℕ) (receiver : List ℕ) (k : ℕ) (sender : List ℕ) (n : ℕ) : Type 0 where
+  pub known : Known s ends
+  pub to-receive : Walk s receiver k
+  pub to-invoke : Walk s sender n
+  pub receive-inside : a < length s / 16
+  pub invoke-inside : b < length s / 16
+
+-- What the plan needs: a live receive of a known table, and an invoke that it may meet.
+pub record Continues (s ends : List ℕ) (a : ℕ) (receiver : List ℕ) (k l : ℕ) : Type 0 where
+  pub known : Known s ends
+  pub live : LiveAt s receiver a 3 (known .term) k
+  pub way : Walk s receiver k
+  pub sender : ℕ
+  pub meets : Meetable (known .term) a sender l
 
 -- The receive q at place a fits the invoke m at place b, and each variable that it binds is in scope.
 pub record Matched (t : Term) (a b : ℕ) (q m : Ends) (σ : Substitution) : Type 0 where
@@ -46,21 +85,3 @@ pub record Met (t : Term) (a b : ℕ) (r : Term) : Type 0 where
   pub live-invoke : live (wayTo t b) ≡ true
   pub is : r ≡ bind pairs (continue (silence t b) a)
   pub leaves : Left t a b pairs r
-
--- The n records of s from place i on, as they are written: the invoke at place b is silenced, and what the receive at place a takes from it is bound.
-abbrev pub metRecords : (s : List ℕ) (a b i n : ℕ) → List ℕ
-metRecords s a b i n =
-    bound (takesOf (word s (16 * a + 6)) (word s (16 * b + 6))) (takesOf (word s (16 * a + 8)) (word s (16 * b + 8))) (takesOf (word s (16 * a + 10)) (word s (16 * b + 10)))
-    (takesOf (word s (16 * a + 12)) (word s (16 * b + 12))) b s i n
-
--- those ahead of place c, those from behind place a to place `end`, and those from place `rest` on
-unfoldable pub metParts : (s : List ℕ) (a b c end rest : ℕ) → List ℕ
-metParts s a b c end rest = metRecords s a b 0 c ++ (metRecords s a b (a + 1) (end - (a + 1)) ++ metRecords s a b rest (length s / 16 - rest))
-
--- The places are in the table, and the three parts fit the output.
-pub record PartsFit (s : List ℕ) (a b c end rest : ℕ) (out : List ℕ) : Type 0 where
-  pub receive : 16 * a + 15 < length s
-  pub invoke : 16 * b + 15 < length s
-  pub front : 16 * c ≤ length s
-  pub body : 16 * end ≤ length s
-  pub room : length (metParts s a b c end rest) ≤ length out

@@ -17,12 +17,10 @@ ghost use lib.ListN.{length};
 ghost use Rattle.cows.specs.Terms.{Term};
 ghost use Rattle.cows.specs.Places.{wayTo};
 ghost use Rattle.cows.specs.Moves.{communicateAt};
-ghost use Rattle.records.specs.Rewrites.{put};
 ghost use Rattle.ways.specs.Known.{Table, Known};
 ghost use Rattle.ways.specs.Ways.{startOf, LiveAt};
 ghost use Rattle.plans.specs.Plans.{Planned, Asks, Gives};
-ghost use Rattle.communicate.specs.Binding.{metParts, PartsFit};
-ghost use Rattle.communicate.specs.Judging.{BothLive, Seeks, Faces, Meetable, Settles, Continues};
+ghost use Rattle.communicate.specs.Binding.{BothLive, Seeks, Faces, Meetable, Settles, Continues};
 
 // Looking for the parties: the lengths of the ways to both, or the place of one that is not live.
 enum Sought {
@@ -77,12 +75,10 @@ fn asked(
     if !all_in_scope(s, a, b, receiver, k, sender, n) {
         return Answer::Refused(Judgement::Apart(a));
     }
-    let held = holding::first_held(s, ends, a, b);
-    if let Found::At(p) = held {
+    if let Found::At(p) = holding::first_held(s, ends, a, b) {
         return Answer::Refused(Judgement::Held(p));
     }
-    let looser = holding::conflicts::first_tighter(s, ends, b, l);
-    if let Found::At(p) = looser {
+    if let Found::At(p) = holding::conflicts::first_tighter(s, ends, b, l) {
         return Answer::Refused(Judgement::Looser(p));
     }
     Answer::Meets(l)
@@ -120,11 +116,10 @@ pub fn judge(s: &[u8], ends: &[u16], a: usize, b: usize) -> Plan
     }
 }
 
-// Writes what becomes of the records ahead of place `from`, of those from behind place a to place `end`, and of those from place `rest` on:
-// the invoke at place b is silenced, and what the receive at place a takes from it is bound.
-fn write_parts(s: &[u8], a: usize, b: usize, from: usize, end: usize, rest: usize, out: &mut [u8])
-    requires { ⌜ PartsFit (now s) a b from end rest (now out) ⌝ }
-    ensures { λ _. ⌜ now (out .exit) ≡ put (now (out .entry)) 0 (metParts (now (s .entry)) a b from end rest) ⌝ }
+// The successor when the receive at place a meets the invoke at place b: what stands ahead of the choice, the continuation, and what stands behind the choice, with the invoke silenced and the variables bound.
+pub fn write(s: &[u8], ends: &[u16], a: usize, b: usize, from: usize, out: &mut [u8])
+    requires { ⌜ Asks (λ t. communicateAt t a b) (λ t. startOf a (wayTo t a)) (now s) (now ends) from (now out) ⌝ }
+    ensures { λ _. ⌜ Gives (λ t. communicateAt t a b) (now (s .entry)) (now (ends .entry)) (now (out .entry)) (now (out .exit)) ⌝ }
 {
     let k = 16 * a;
     let m = 16 * b;
@@ -132,17 +127,9 @@ fn write_parts(s: &[u8], a: usize, b: usize, from: usize, end: usize, rest: usiz
     let t1 = takes_at(s, k + 8, m + 8);
     let t2 = takes_at(s, k + 10, m + 10);
     let t3 = takes_at(s, k + 12, m + 12);
+    let end = wide16(ends[a]);
+    let rest = wide16(ends[from]);
     let body = write_bound(s, 0, from, b, t0, t1, t2, t3, out, 0);
     let back = write_bound(s, a + 1, end, b, t0, t1, t2, t3, out, body);
     write_bound(s, rest, s.len() / 16, b, t0, t1, t2, t3, out, back);
-}
-
-// The successor when the receive at place a meets the invoke at place b: what stands ahead of the choice, the continuation, and what stands behind the choice.
-pub fn write(s: &[u8], ends: &[u16], a: usize, b: usize, from: usize, out: &mut [u8])
-    requires { ⌜ Asks (λ t. communicateAt t a b) (λ t. startOf a (wayTo t a)) (now s) (now ends) from (now out) ⌝ }
-    ensures { λ _. ⌜ Gives (λ t. communicateAt t a b) (now (s .entry)) (now (ends .entry)) (now (out .entry)) (now (out .exit)) ⌝ }
-{
-    let end = wide16(ends[a]);
-    let rest = wide16(ends[from]);
-    write_parts(s, a, b, from, end, rest, out);
 }

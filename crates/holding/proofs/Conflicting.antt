@@ -9,18 +9,17 @@ use native.Mathlib.Omega.{arith}
 use lib.Dec.{ltb}
 use lib.ListN.{length, getD}
 use Rattle.cows.specs.Basics.{holds}
-use Rattle.cows.specs.Terms.{Term, Ends, size, prefixed, receives, below, receiveOf}
+use Rattle.cows.specs.Terms.{Term, Ends, size, prefixed, receives, receiveOf}
 use Rattle.cows.specs.Places.{sub}
 use Rattle.cows.specs.Format.{byte, root, layout, record16, kindOf}
 use Rattle.cows.specs.Moves.{Matching, binds, differs, fit, fewer}
-use Rattle.cows.proofs.Fields.{kind-receive}
 use Rattle.cows.proofs.Stands.{receives-is, prefixed-is}
 use Rattle.records.specs.Holds.{Holds}
 use Rattle.records.proofs.Stands.{holds-kind}
 use Rattle.matching.specs.declared.Difference.{Difference}
 use Rattle.matching.specs.declared.Fit.the-variants.{Binds, Differs}
 use Rattle.matching.specs.Matching.{fitOf, EndsAt}
-use Rattle.matching.proofs.Parties.{receive-ends}
+use Rattle.matching.proofs.Parties.{receive-here}
 
 -- the test of a record
 abbrev pub tightening : ℕ → Ends → Term → Bool
@@ -46,17 +45,14 @@ module _ (s : List ℕ) (t : Term) (i l : ℕ) (m : Ends) (h : Holds s t) (p : i
       go (some q) x = absurd (e (holds-kind s t i h p ∙ ap kindOf (prefixed-is receives receiveOf receives-is (sub t i) q x)))
 
   module _ (e : getD s (16 * i) 0 ≡ 3) where
-    receive-here : (q : Ends) × EndsAt s i q × (prefixed receives (sub t i) ≡ some q)
+    receiving : (q : Ends) × EndsAt s i q × (prefixed receives (sub t i) ≡ some q)
     unfolding prefixed receives
-    receive-here =
-        let (x, o, ws, z) = kind-receive (sub t i) (sym (holds-kind s t i h p) ∙ e) in
-        let q : Ends = record { partner = x; operation = o; tuple = ws } in
-        (q, receive-ends s t i h p q (below (sub t i)) z, ap (prefixed receives) z)
+    receiving = let (q, z, k) = receive-here s t i h p (sym (holds-kind s t i h p) ∙ e) in (q, k, ap (prefixed receives) z)
 
     pub receive-fits : (n : ℕ) → ((q : Ends) → EndsAt s i q → Binds n ≡ fitOf (fit q m)) → ltb n l ≡ tightening l m (sub t i)
     unfolding holds
-    receive-fits n f = let (q, k, z) = receive-here in rw z (fewer-binds l n (fit q m) (f q k))
+    receive-fits n f = let (q, k, z) = receiving in rw z (fewer-binds l n (fit q m) (f q k))
 
     pub receive-differs : (d : Difference) → ((q : Ends) → EndsAt s i q → Differs d ≡ fitOf (fit q m)) → false ≡ tightening l m (sub t i)
     unfolding holds
-    receive-differs d f = let (q, k, z) = receive-here in rw z (fewer-differs l d (fit q m) (f q k))
+    receive-differs d f = let (q, k, z) = receiving in rw z (fewer-differs l d (fit q m) (f q k))

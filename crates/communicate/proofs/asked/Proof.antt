@@ -3,7 +3,7 @@ use borrow.Author.Tests.{not-true, not-false}
 use mathlib.Core.Path.{refl, sym, _∙_}
 use native.Mathlib.Omega.{arith}
 use Rattle.records.proofs.Laws.{found-at, found-nothing}
-use Rattle.communicate.proofs.Communicates.{settles-refused, ends-b, parties-fit, differ, meets, closed, apart, held, looser, may-meet, receive-inside, invoke-inside, receive-walk, invoke-walk}
+use Rattle.communicate.proofs.Communicates.{ends-b, parties-fit, differ, meets, closed, apart, held, looser, may-meet}
 use Rattle.communicate.proofs.asked.Statement.{statement}
 use Rattle.communicate.proofs.asked.Tie as tie
 
@@ -11,29 +11,25 @@ pub asked-spec : {M : Type 1} → statement M
 asked-spec =
     tie.close
     (tie.spec
-    (λ c κs. let f = c .before .before .before .before .pre in omega (arith, f .known .whole, receive-inside f, invoke-inside f))
+    (λ c κs. let f = c .before .before .before .before .pre in omega (arith, f .known .whole))
     (λ c. search needs)
     (λ c. search needs)
-    (λ c t z h. settles-refused _ 12 _ refl (differ z h _ (sym (c .enum-told .given .1) ∙ parties-fit z h (c .before .before .fits2 .ensures))))
-    (λ c κs.
-    let f = c .before .before .before .before .before .before .before .before .pre in
-    let i = receive-inside f in
-    let j = invoke-inside f in
-    (receive-walk f, invoke-walk f, omega (arith, f .known .whole), omega (arith, f .known .whole)))
+    (λ c t z h. (12, _, refl, differ z h _ (sym (c .enum-told .given .1) ∙ parties-fit z h (c .before .before .fits2 .ensures))))
+    (λ c κs. let f = c .before .before .before .before .before .before .before .before .pre in (f .to-receive, f .to-invoke, omega (arith, f .known .whole), omega (arith, f .known .whole)))
     (λ c t z h.
     let i = c .before .before .before in
     let e = sym (i .l .given .1) ∙ parties-fit z h (i .before .before .fits2 .ensures) in
-    settles-refused _ 13 _ refl (apart z h e (sym (c .before .all-in-scope .ensures t _ (meets z h e)) ∙ not-true _ (c .if1 .taken))))
-    (λ c κs. let f = c .before .before .before .before .before .before .before .before .before .before .pre in (f .known, receive-inside f, invoke-inside f))
+    (13, _, refl, apart z h e (sym (c .before .all-in-scope .ensures t _ (meets z h e)) ∙ not-true _ (c .if1 .taken))))
+    (λ c κs. let f = c .before .before .before .before .before .before .before .before .before .before .pre in (f .known, f .receive-inside, f .invoke-inside))
     (λ c. search needs)
     (λ c t z h.
     let j = c .before .before .before .before in
     let i = j .before .before .before in
     let e = sym (i .l .given .1) ∙ parties-fit z h (i .before .before .fits2 .ensures) in
     let y = sym (j .before .all-in-scope .ensures t _ (meets z h e)) ∙ not-false _ (j .if1 .left) in
-    settles-refused _ 14 _ refl (held z h e y _ (found-at _ _ (sym (c .before .held .given .1) ∙ c .before .before .before .first-held .ensures t z (h .receive .live) (h .invoke .live)))))
+    (14, _, refl, held z h e y _ (found-at _ _ (sym (c .before .p .given .1) ∙ c .before .before .before .first-held .ensures t z (h .receive .live) (h .invoke .live)))))
     (λ c. search needs)
-    (λ c κs. let f = c .before .before .before .before .before .before .before .before .before .before .before .before .before .pre in (f .known, invoke-inside f))
+    (λ c κs. let f = c .before .before .before .before .before .before .before .before .before .before .before .before .before .pre in (f .known, f .invoke-inside))
     (λ c. search needs)
     (λ c t z h.
     let l = c .before .before .before .before in
@@ -42,7 +38,7 @@ asked-spec =
     let e = sym (i .l .given .1) ∙ parties-fit z h (i .before .before .fits2 .ensures) in
     let y = sym (j .before .all-in-scope .ensures t _ (meets z h e)) ∙ not-false _ (j .if1 .left) in
     let x = found-nothing _ (sym (l .enum-told2 .given .1) ∙ l .before .before .first-held .ensures t z (h .receive .live) (h .invoke .live)) in
-    settles-refused _ 15 _ refl (looser z h e y x _ (found-at _ _ (sym (c .before .looser .given .1) ∙ c .before .before .before .first-tighter .ensures t _ z (ends-b z h) (closed z h e)))))
+    (15, _, refl, looser z h e y x _ (found-at _ _ (sym (c .before .p2 .given .1) ∙ c .before .before .before .first-tighter .ensures t _ z (ends-b z h) (closed z h e)))))
     (λ c. search needs)
     (λ c t z h.
     let l = c .before .before .before in

@@ -1,5 +1,5 @@
 use borrow.Author.Needs.{needs}
-use Rattle.communicate.proofs.Communicates.{seeks-absent, seeks-both, no-receive, no-invoke}
+use Rattle.communicate.proofs.Communicates.{no-receive, no-invoke}
 use Rattle.communicate.proofs.parties.Statement.{statement}
 use Rattle.communicate.proofs.parties.Tie as tie
 
@@ -11,7 +11,7 @@ parties-spec =
     (λ c. search needs)
     (λ c. search needs)
     (λ c. search needs)
-    (λ c t z. seeks-absent _ (no-receive t _ _ (c .before .before .before .before .live-at .ensures t z .none (c .enum-told .given .1))))
+    (λ c t z. no-receive t _ _ (c .before .before .before .before .live-at .ensures t z .none (c .enum-told .given .1)))
     (λ c κs. search needs)
     (λ c. search needs)
     (λ c. search needs)
@@ -19,11 +19,10 @@ parties-spec =
     (λ c. search needs)
     (λ c t z.
     let i = c .before .before .before .before .before .before .before in
-    let x = i .before .before .before .before .live-at .ensures t z .found _ (i .k .given .1) in
-    seeks-absent _ (no-invoke _ x (c .before .before .before .before .live-at2 .ensures t z .none (c .enum-told2 .given .1))))
+    no-invoke (i .before .before .before .before .live-at .ensures t z .found _ (i .k .given .1)) _ (c .before .before .before .before .live-at2 .ensures t z .none (c .enum-told2 .given .1)))
     (λ c. search needs)
     (λ c. search needs)
     (λ c t z.
     let j = c .before in
     let i = j .before .before .before .before .before .before .before in
-    seeks-both (record { receive = i .before .before .before .before .live-at .ensures t z .found _ (i .k .given .1); invoke = j .before .before .before .before .live-at2 .ensures t z .found _ (j .n .given .1) })))
+    record { receive = i .before .before .before .before .live-at .ensures t z .found _ (i .k .given .1); invoke = j .before .before .before .before .live-at2 .ensures t z .found _ (j .n .given .1) }))

@@ -1,6 +1,6 @@
+use borrow.Author.Needs.{needs}
 use mathlib.Core.Path.{refl}
 use native.Mathlib.Omega.{arith}
-use Rattle.ways.proofs.Tables.{walk-known}
 use Rattle.communicate.proofs.Communicates.{receive-span, records-left, meeting-planned}
 use Rattle.communicate.proofs.plan.Statement.{statement}
 use Rattle.communicate.proofs.plan.Tie as tie
@@ -9,7 +9,7 @@ pub plan-spec : {M : Type 1} → statement M
 plan-spec =
     tie.close
     (tie.spec
-    (λ c κs. let p = c .before .before .before .pre in walk-known _ _ (p .known) _ _ _ (p .room) (p .live .walks))
+    (λ c κs. c .before .before .before .pre .way)
     (λ c κs.
     let p = c .before .before .before .before .pre in
     receive-span (p .known .table) (p .live) (c .choice-start .ensures (p .known .term) (p .live .walks)))
