@@ -1,4 +1,4 @@
--- Communicate (specs/Moves, communicateAt) as it is judged (specs/Binding): the parties, each refusal in its order, and the plan of a meeting that is allowed.
+-- Communicate (specs/Moves, communicateAt) as it is judged (specs/Judging): the parties, each refusal in its order, and the plan of a meeting that is allowed.
 use mathlib.Core.Path.{_≡_, refl, ap, _∙_}
 use mathlib.Core.Bool.{true, false, _&&_}
 use mathlib.Core.Option.{none, some}
@@ -16,7 +16,7 @@ use Rattle.cows.specs.Moves.{Substitution, Matching, binds, differs, closedEnds
 use Rattle.cows.proofs.Meeting.{fit-fits}
 use Rattle.cows.proofs.Stands.{receives-is, invokes-is, prefixed-is, live-wanted}
 use Rattle.ways.specs.Known.{Table, Known}
-use Rattle.ways.specs.Ways.{startOf, LiveAt}
+use Rattle.ways.specs.Ways.{startOf, LiveAt, Walk}
 use Rattle.ways.proofs.Tables.{table-size, table-ended, live-inside, walk-known}
 use Rattle.matching.specs.declared.Difference.{Difference}
 use Rattle.matching.specs.declared.Fit.{Fit}
@@ -30,8 +30,8 @@ use Rattle.plans.specs.Cutting.{Span}
 use Rattle.plans.proofs.Planning.{within-limits, planned-allowed, absent}
 use Rattle.plans.proofs.Continuing.{span}
 use Rattle.scoping.specs.Scopes as scopes
-use Rattle.communicate.specs.Binding.{BothLive, Meetable, Faces, Matched}
-use Rattle.communicate.proofs.Meets.{left, accepted-met}
+use Rattle.communicate.specs.Judging.{BothLive, Meetable}
+use Rattle.communicate.proofs.Meets.{Matched, left, accepted-met}
 
 kind-of-receive : (s : Term) (q : Ends) → prefixed receives s ≡ some q → kindOf s ≡ 3
 unfolding kindOf root record16 layout byte
@@ -144,15 +144,11 @@ module _ {s ends : List ℕ} {t : Term} {a b : ℕ} {receiver : List ℕ} {k : �
 
 -- Both parties are in the table, and the ways to them may be walked.
 pub faces : {s ends : List ℕ} {a b : ℕ} {receiver : List ℕ} {k : ℕ} {sender : List ℕ} {n : ℕ} (q : Known s ends) → BothLive s a b receiver k sender n (q .term)
-    → length receiver ≡ 256 → length sender ≡ 256 → Faces s ends a b receiver k sender n
+    → length receiver ≡ 256 → length sender ≡ 256 → Known s ends × Walk s receiver k × Walk s sender n × (a < length s / 16) × (b < length s / 16)
 faces q h l m =
-    record {
-      known = q;
-      to-receive = walk-known _ _ q _ _ _ l (h .receive .walks);
-      to-invoke = walk-known _ _ q _ _ _ m (h .invoke .walks);
-      receive-inside = live-inside _ _ _ q _ _ _ (h .receive);
-      invoke-inside = live-inside _ _ _ q _ _ _ (h .invoke);
-    }
+    let x = h .receive in
+    let y = h .invoke in
+    (q, walk-known _ _ q _ _ _ l (x .walks), walk-known _ _ q _ _ _ m (y .walks), live-inside _ _ _ q _ _ _ x, live-inside _ _ _ q _ _ _ y)
 
 -- The plan of a meeting that is allowed.
 module _ {s ends : List ℕ} {t : Term} {receiver : List ℕ} {a k from : ℕ} (z : Table s ends t) (h : LiveAt s receiver a 3 t k) (f : from ≡ startOf a (wayTo t a)) where

@@ -21,10 +21,9 @@ use Rattle.ways.proofs.Tables.{table-size, table-ended}
 use Rattle.renaming.specs.Bound.{bound}
 use Rattle.plans.specs.Plans.{Asks}
 use Rattle.plans.specs.Cutting.{Span}
-use Rattle.communicate.specs.Binding.{Met}
 use Rattle.matching.specs.Taking.{takesOf}
 use Rattle.plans.proofs.Continuing.{span}
-use Rattle.communicate.proofs.Meets.{accepted-met}
+use Rattle.communicate.proofs.Meets.{Met, accepted-met}
 use Rattle.communicate.proofs.Replacing.{metRecords, part-bound}
 
 -- The bytes ahead of the choice, those of the continuation and those behind the choice, each of them bound, fit the output, and are the table of r.

@@ -35,8 +35,8 @@ use Rattle.renaming.specs.Mapped.{mapNode, mapRecord, along}
 use Rattle.renaming.specs.Bound.{takesOne, imageOfAll, goes, boundRecord, bound}
 use Rattle.renaming.proofs.Mapped.{record-mapped}
 use Rattle.renaming.proofs.Occurring.{not-zero}
-use Rattle.communicate.specs.Binding.{Matched}
 use Rattle.matching.specs.Taking.{takesOf}
+use Rattle.communicate.proofs.Meets.{Matched}
 use Rattle.communicate.proofs.Taking.{images-match, takers-match}
 
 -- The records from place i on, with nil at place b.

@@ -1,1 +1,1 @@
-pub mod Binding
+pub mod Judging

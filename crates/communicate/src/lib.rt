@@ -12,15 +12,15 @@ use records::wide16;
 use renaming::binding::write_bound;
 use scoping::all_in_scope;
 ghost use mathlib.Core.Path.{_≡_};
-ghost use Prim.Native.Nat.{ℕ};
+ghost use Prim.Native.Nat.{ℕ, _/_, _<_};
 ghost use lib.ListN.{length};
 ghost use Rattle.cows.specs.Terms.{Term};
 ghost use Rattle.cows.specs.Places.{wayTo};
 ghost use Rattle.cows.specs.Moves.{communicateAt};
 ghost use Rattle.ways.specs.Known.{Table, Known};
-ghost use Rattle.ways.specs.Ways.{startOf, LiveAt};
+ghost use Rattle.ways.specs.Ways.{startOf, LiveAt, Walk};
 ghost use Rattle.plans.specs.Plans.{Planned, Asks, Gives};
-ghost use Rattle.communicate.specs.Binding.{BothLive, Seeks, Faces, Meetable, Settles, Continues};
+ghost use Rattle.communicate.specs.Judging.{BothLive, Seeks, Meetable, Settles, Continues};
 
 // Looking for the parties: the lengths of the ways to both, or the place of one that is not live.
 enum Sought {
@@ -66,7 +66,7 @@ fn asked(
     sender: &[u16],
     n: usize,
 ) -> Answer
-    requires { ⌜ Faces (now s) (now ends) a b (now receiver) k (now sender) n ⌝ }
+    requires { ⌜ Known (now s) (now ends) × Walk (now s) (now receiver) k × Walk (now s) (now sender) n × (a < length (now s) / 16) × (b < length (now s) / 16) ⌝ }
     ensures { λ r. ⌜ ((t : Term) → Table (now (s .entry)) (now (ends .entry)) t → BothLive (now (s .entry)) a b (now (receiver .entry)) k (now (sender .entry)) n t → Settles t a b r) ⌝ }
 {
     let Fit::Binds(l) = fits(s, a, b) else {

@@ -16,7 +16,7 @@ use Rattle.cows.specs.Moves.{Matching, binds, differs, fit, fewer}
 use Rattle.cows.proofs.Stands.{receives-is, prefixed-is}
 use Rattle.records.specs.Holds.{Holds}
 use Rattle.records.proofs.Stands.{holds-kind}
-use Rattle.matching.specs.declared.Difference.{Difference}
+use Rattle.matching.specs.declared.Fit.{Fit}
 use Rattle.matching.specs.declared.Fit.the-variants.{Binds, Differs}
 use Rattle.matching.specs.Matching.{fitOf, EndsAt}
 use Rattle.matching.proofs.Parties.{receive-here}
@@ -25,15 +25,15 @@ use Rattle.matching.proofs.Parties.{receive-here}
 abbrev pub tightening : ℕ → Ends → Term → Bool
 tightening l m r = holds (λ q. fewer l (fit q m)) (prefixed receives r)
 
-fewer-binds : (l n : ℕ) (x : Matching) → Binds n ≡ fitOf x → ltb n l ≡ fewer l x
-unfolding fewer
-fewer-binds l n (binds σ) e = ap (λ k. ltb k l) (let z : n ≡ length σ = cc in z)
-fewer-binds l n (differs d) e = absurd (let z : _≡_ {A = ℕ} 0 1 = cc in omega arith)
+-- and of an answer
+abbrev pub fewerBound : ℕ → Fit → Bool
+fewerBound l (Binds n) = ltb n l
+fewerBound l (Differs d) = false
 
-fewer-differs : (l : ℕ) (d : Difference) (x : Matching) → Differs d ≡ fitOf x → false ≡ fewer l x
+fewer-bound : (l : ℕ) (x : Matching) → fewerBound l (fitOf x) ≡ fewer l x
 unfolding fewer
-fewer-differs l d (binds σ) e = absurd (let z : _≡_ {A = ℕ} 0 1 = cc in omega arith)
-fewer-differs l d (differs e) z = refl
+fewer-bound l (binds σ) = refl
+fewer-bound l (differs d) = refl
 
 module _ (s : List ℕ) (t : Term) (i l : ℕ) (m : Ends) (h : Holds s t) (p : i < size t) where
   pub no-receive : getD s (16 * i) 0 ≢ 3 → false ≡ tightening l m (sub t i)
@@ -49,10 +49,6 @@ module _ (s : List ℕ) (t : Term) (i l : ℕ) (m : Ends) (h : Holds s t) (p : i
     unfolding prefixed receives
     receiving = let (q, z, k) = receive-here s t i h p (sym (holds-kind s t i h p) ∙ e) in (q, k, ap (prefixed receives) z)
 
-    pub receive-fits : (n : ℕ) → ((q : Ends) → EndsAt s i q → Binds n ≡ fitOf (fit q m)) → ltb n l ≡ tightening l m (sub t i)
+    pub receive-tests : (r : Fit) → ((q : Ends) → EndsAt s i q → r ≡ fitOf (fit q m)) → fewerBound l r ≡ tightening l m (sub t i)
     unfolding holds
-    receive-fits n f = let (q, k, z) = receiving in rw z (fewer-binds l n (fit q m) (f q k))
-
-    pub receive-differs : (d : Difference) → ((q : Ends) → EndsAt s i q → Differs d ≡ fitOf (fit q m)) → false ≡ tightening l m (sub t i)
-    unfolding holds
-    receive-differs d f = let (q, k, z) = receiving in rw z (fewer-differs l d (fit q m) (f q k))
+    receive-tests r f = let (q, k, z) = receiving in rw (z, f q k) (fewer-bound l (fit q m))

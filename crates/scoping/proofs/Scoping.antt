@@ -70,14 +70,7 @@ module _ (s : List ℕ) (a b : ℕ) (receiver : List ℕ) (k : ℕ) (sender : Li
       rw (ends-a .slot0, ends-a .slot1, ends-a .slot2, ends-a .slot3, ends-b .slot0, ends-b .slot1, ends-b .slot2, ends-b .slot3)
       (matches-every (inScope t a b) (fitted .matches) (ends-a .few))
 
-  pub slot0 : Slot s receiver k sender n (word s (16 * a + 6)) (word s (16 * b + 6)) t a b
-  slot0 = slot 0 _ _ (ends-a .slot0) (ends-b .slot0)
-
-  pub slot1 : Slot s receiver k sender n (word s (16 * a + 8)) (word s (16 * b + 8)) t a b
-  slot1 = slot 1 _ _ (ends-a .slot1) (ends-b .slot1)
-
-  pub slot2 : Slot s receiver k sender n (word s (16 * a + 10)) (word s (16 * b + 10)) t a b
-  slot2 = slot 2 _ _ (ends-a .slot2) (ends-b .slot2)
-
-  pub slot3 : Slot s receiver k sender n (word s (16 * a + 12)) (word s (16 * b + 12)) t a b
-  slot3 = slot 3 _ _ (ends-a .slot3) (ends-b .slot3)
+  pub slots : Slot s receiver k sender n (word s (16 * a + 6)) (word s (16 * b + 6)) t a b × Slot s receiver k sender n (word s (16 * a + 8)) (word s (16 * b + 8)) t a b
+      × Slot s receiver k sender n (word s (16 * a + 10)) (word s (16 * b + 10)) t a b × Slot s receiver k sender n (word s (16 * a + 12)) (word s (16 * b + 12)) t a b
+  slots =
+      (slot 0 _ _ (ends-a .slot0) (ends-b .slot0), slot 1 _ _ (ends-a .slot1) (ends-b .slot1), slot 2 _ _ (ends-a .slot2) (ends-b .slot2), slot 3 _ _ (ends-a .slot3) (ends-b .slot3))

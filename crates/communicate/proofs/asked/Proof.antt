@@ -11,16 +11,16 @@ pub asked-spec : {M : Type 1} → statement M
 asked-spec =
     tie.close
     (tie.spec
-    (λ c κs. let f = c .before .before .before .before .pre in omega (arith, f .known .whole))
+    (λ c κs. let f = c .before .before .before .before .pre in omega (arith, f .0 .whole))
     (λ c. search needs)
     (λ c. search needs)
     (λ c t z h. (12, _, refl, differ z h _ (sym (c .enum-told .given .1) ∙ parties-fit z h (c .before .before .fits2 .ensures))))
-    (λ c κs. let f = c .before .before .before .before .before .before .before .before .pre in (f .to-receive, f .to-invoke, omega (arith, f .known .whole), omega (arith, f .known .whole)))
+    (λ c κs. let f = c .before .before .before .before .before .before .before .before .pre in (f .1, f .2, omega (arith, f .0 .whole), omega (arith, f .0 .whole)))
     (λ c t z h.
     let i = c .before .before .before in
     let e = sym (i .l .given .1) ∙ parties-fit z h (i .before .before .fits2 .ensures) in
     (13, _, refl, apart z h e (sym (c .before .all-in-scope .ensures t _ (meets z h e)) ∙ not-true _ (c .if1 .taken))))
-    (λ c κs. let f = c .before .before .before .before .before .before .before .before .before .before .pre in (f .known, f .receive-inside, f .invoke-inside))
+    (λ c κs. let f = c .before .before .before .before .before .before .before .before .before .before .pre in (f .0, f .3, f .4))
     (λ c. search needs)
     (λ c t z h.
     let j = c .before .before .before .before in
@@ -29,7 +29,7 @@ asked-spec =
     let y = sym (j .before .all-in-scope .ensures t _ (meets z h e)) ∙ not-false _ (j .if1 .left) in
     (14, _, refl, held z h e y _ (found-at _ _ (sym (c .before .p .given .1) ∙ c .before .before .before .first-held .ensures t z (h .receive .live) (h .invoke .live)))))
     (λ c. search needs)
-    (λ c κs. let f = c .before .before .before .before .before .before .before .before .before .before .before .before .before .pre in (f .known, f .invoke-inside))
+    (λ c κs. let f = c .before .before .before .before .before .before .before .before .before .before .before .before .before .pre in (f .0, f .4))
     (λ c. search needs)
     (λ c t z h.
     let l = c .before .before .before .before in
