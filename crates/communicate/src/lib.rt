@@ -25,17 +25,17 @@ ghost use Rattle.communicate.specs.Judging.{BothLive, Seeks, Meetable, S
 // Looking for the parties: the lengths of the ways to both, or the place of one that is not live.
 enum Sought {
     Both(usize, usize),
-    Absent(usize),
+    Missing(usize),
 }
 
 // What they are asked: they may meet and bind so many variables, or the refusal.
-enum Answer {
-    Meets(usize),
-    Refused(Judgement),
+enum Asked {
+    Agreed(usize),
+    Barred(Judgement),
 }
 
 // 11: the receive at place a and the invoke at place b; the ways to them are put down.
-fn parties(
+fn seek(
     s: &[u8],
     ends: &[u16],
     a: usize,
@@ -47,16 +47,16 @@ fn parties(
     ensures { λ r. ⌜ ((t : Term) → Table (now (s .entry)) (now (ends .entry)) t → Seeks (now (s .entry)) a b (now (receiver .exit)) (now (sender .exit)) t r) ⌝ }
 {
     let Found::At(k) = ways::live_at(s, ends, a, 3, receiver) else {
-        return Sought::Absent(a);
+        return Sought::Missing(a);
     };
     let Found::At(n) = ways::live_at(s, ends, b, 2, sender) else {
-        return Sought::Absent(b);
+        return Sought::Missing(b);
     };
     Sought::Both(k, n)
 }
 
 // 12 to 15: whether the parties match, what they bind is in scope, and nothing holds them back.
-fn asked(
+fn ask(
     s: &[u8],
     ends: &[u16],
     a: usize,
@@ -65,27 +65,27 @@ fn asked(
     k: usize,
     sender: &[u16],
     n: usize,
-) -> Answer
+) -> Asked
     requires { ⌜ Known (now s) (now ends) × Walk (now s) (now receiver) k × Walk (now s) (now sender) n × (a < length (now s) / 16) × (b < length (now s) / 16) ⌝ }
     ensures { λ r. ⌜ ((t : Term) → Table (now (s .entry)) (now (ends .entry)) t → BothLive (now (s .entry)) a b (now (receiver .entry)) k (now (sender .entry)) n t → Settles t a b r) ⌝ }
 {
     let Fit::Binds(l) = fits(s, a, b) else {
-        return Answer::Refused(Judgement::Differs(a));
+        return Asked::Barred(Judgement::Differs(a));
     };
     if !all_in_scope(s, a, b, receiver, k, sender, n) {
-        return Answer::Refused(Judgement::Apart(a));
+        return Asked::Barred(Judgement::Apart(a));
     }
     if let Found::At(p) = holding::first_held(s, ends, a, b) {
-        return Answer::Refused(Judgement::Held(p));
+        return Asked::Barred(Judgement::Held(p));
     }
     if let Found::At(p) = holding::conflicts::first_tighter(s, ends, b, l) {
-        return Answer::Refused(Judgement::Looser(p));
+        return Asked::Barred(Judgement::Looser(p));
     }
-    Answer::Meets(l)
+    Asked::Agreed(l)
 }
 
 // The plan of a meeting that binds l variables: the records that are left, and where the whole choice around the receive begins.
-fn plan(s: &[u8], ends: &[u16], a: usize, receiver: &[u16], k: usize, l: usize) -> Plan
+fn meeting_plan(s: &[u8], ends: &[u16], a: usize, receiver: &[u16], k: usize, l: usize) -> Plan
     requires { ⌜ Continues (now s) (now ends) a (now receiver) k l ⌝ }
     ensures { λ r. ⌜ ((t : Term) (b : ℕ) → Table (now (s .entry)) (now (ends .entry)) t → LiveAt (now (s .entry)) (now (receiver .entry)) a 3 t k → Meetable t a b l → Planned (communicateAt t a b) (startOf a (wayTo t a)) r) ⌝ }
 {
@@ -103,14 +103,14 @@ pub fn judge(s: &[u8], ends: &[u16], a: usize, b: usize) -> Plan
 {
     let mut receiver = [0u16; 256];
     let mut sender = [0u16; 256];
-    let sought = parties(s, ends, a, b, &mut receiver, &mut sender);
+    let sought = seek(s, ends, a, b, &mut receiver, &mut sender);
     match sought {
-        Sought::Absent(p) => refused(Judgement::Absent(p)),
+        Sought::Missing(p) => refused(Judgement::Absent(p)),
         Sought::Both(k, n) => {
-            let answer = asked(s, ends, a, b, &receiver, k, &sender, n);
+            let answer = ask(s, ends, a, b, &receiver, k, &sender, n);
             match answer {
-                Answer::Refused(judgement) => refused(judgement),
-                Answer::Meets(l) => plan(s, ends, a, &receiver, k, l),
+                Asked::Barred(judgement) => refused(judgement),
+                Asked::Agreed(l) => meeting_plan(s, ends, a, &receiver, k, l),
             }
         }
     }

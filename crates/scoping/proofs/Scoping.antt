@@ -19,7 +19,7 @@ use Rattle.cows.proofs.Meeting.{Fits, fit-fits}
 use Rattle.matching.specs.Matching.{slotTest, EndsAt}
 use Rattle.matching.proofs.Matches.{matches-every}
 use Rattle.matching.proofs.Parties.{receive-ends, invoke-ends}
-use Rattle.scoping.specs.Scopes.{Meets, Slot}
+use Rattle.scoping.specs.Scopes.{Meets, SlotSends}
 
 -- what a variable takes is a value of the tuple sent
 slot-sent : {ws vs : List ℕ} {σ : Substitution} → Matches ws vs σ → every datum vs ≡ true → any variable vs ≡ false → (i : ℕ) → variable (getD ws i 0) ≡ true
@@ -47,7 +47,7 @@ module _ (s : List ℕ) (a b : ℕ) (receiver : List ℕ) (k : ℕ) (sender : Li
   ends-b = invoke-ends s t b (h .to-sender .holds) (h .to-sender .inside) (h .invoke) (h .invokes)
 
   -- a slot of the two tuples
-  slot : (i : ℕ) (w v : ℕ) → w ≡ getD (h .receive .tuple) i 0 → v ≡ getD (h .invoke .tuple) i 0 → Slot s receiver k sender n w v t a b
+  slot : (i : ℕ) (w v : ℕ) → w ≡ getD (h .receive .tuple) i 0 → v ≡ getD (h .invoke .tuple) i 0 → SlotSends s receiver k sender n w v t a b
   unfolding any uses usesBasic member
   slot i w v ew ev e =
       let m = h .invoke in
@@ -70,7 +70,7 @@ module _ (s : List ℕ) (a b : ℕ) (receiver : List ℕ) (k : ℕ) (sender : Li
       rw (ends-a .slot0, ends-a .slot1, ends-a .slot2, ends-a .slot3, ends-b .slot0, ends-b .slot1, ends-b .slot2, ends-b .slot3)
       (matches-every (inScope t a b) (fitted .matches) (ends-a .few))
 
-  pub slots : Slot s receiver k sender n (word s (16 * a + 6)) (word s (16 * b + 6)) t a b × Slot s receiver k sender n (word s (16 * a + 8)) (word s (16 * b + 8)) t a b
-      × Slot s receiver k sender n (word s (16 * a + 10)) (word s (16 * b + 10)) t a b × Slot s receiver k sender n (word s (16 * a + 12)) (word s (16 * b + 12)) t a b
+  pub slots : SlotSends s receiver k sender n (word s (16 * a + 6)) (word s (16 * b + 6)) t a b × SlotSends s receiver k sender n (word s (16 * a + 8)) (word s (16 * b + 8)) t a b
+      × SlotSends s receiver k sender n (word s (16 * a + 10)) (word s (16 * b + 10)) t a b × SlotSends s receiver k sender n (word s (16 * a + 12)) (word s (16 * b + 12)) t a b
   slots =
       (slot 0 _ _ (ends-a .slot0) (ends-b .slot0), slot 1 _ _ (ends-a .slot1) (ends-b .slot1), slot 2 _ _ (ends-a .slot2) (ends-b .slot2), slot 3 _ _ (ends-a .slot3) (ends-b .slot3))

@@ -2,11 +2,11 @@ use borrow.Author.Needs.{needs}
 use mathlib.Core.Path.{refl}
 use native.Mathlib.Omega.{arith}
 use Rattle.communicate.proofs.Communicates.{receive-span, records-left, meeting-planned}
-use Rattle.communicate.proofs.plan.Statement.{statement}
-use Rattle.communicate.proofs.plan.Tie as tie
+use Rattle.communicate.proofs.meeting_plan.Statement.{statement}
+use Rattle.communicate.proofs.meeting_plan.Tie as tie
 
-pub plan-spec : {M : Type 1} → statement M
-plan-spec =
+pub meeting-plan-spec : {M : Type 1} → statement M
+meeting-plan-spec =
     tie.close
     (tie.spec
     (λ c κs. c .before .before .before .pre .way)

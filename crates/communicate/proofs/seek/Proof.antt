@@ -1,10 +1,10 @@
 use borrow.Author.Needs.{needs}
 use Rattle.communicate.proofs.Communicates.{no-receive, no-invoke}
-use Rattle.communicate.proofs.parties.Statement.{statement}
-use Rattle.communicate.proofs.parties.Tie as tie
+use Rattle.communicate.proofs.seek.Statement.{statement}
+use Rattle.communicate.proofs.seek.Tie as tie
 
-pub parties-spec : {M : Type 1} → statement M
-parties-spec =
+pub seek-spec : {M : Type 1} → statement M
+seek-spec =
     tie.close
     (tie.spec
     (λ c κs. search needs)

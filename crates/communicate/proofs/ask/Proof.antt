@@ -4,11 +4,11 @@ use mathlib.Core.Path.{refl, sym, _∙_}
 use native.Mathlib.Omega.{arith}
 use Rattle.records.proofs.Laws.{found-at, found-nothing}
 use Rattle.communicate.proofs.Communicates.{ends-b, parties-fit, differ, meets, closed, apart, held, looser, may-meet}
-use Rattle.communicate.proofs.asked.Statement.{statement}
-use Rattle.communicate.proofs.asked.Tie as tie
+use Rattle.communicate.proofs.ask.Statement.{statement}
+use Rattle.communicate.proofs.ask.Tie as tie
 
-pub asked-spec : {M : Type 1} → statement M
-asked-spec =
+pub ask-spec : {M : Type 1} → statement M
+ask-spec =
     tie.close
     (tie.spec
     (λ c κs. let f = c .before .before .before .before .pre in omega (arith, f .0 .whole))
