@@ -119,7 +119,7 @@ module _ (b : ℕ) where
     below-matched : (a : ℕ) → a < b → (m : Matching) → Below b (matched a m)
     unfolding matched
     below-matched a l (binds σ) = tt
-    below-matched a l differs = (omega arith, l)
+    below-matched a l (differs d) = (omega arith, l)
 
     below-successor : (v : Move) → NumbersBelow b v → Below b (successor t v)
     unfolding successor killAt communicateAt timeoutAt elapseBy unfoldAt extrudeAt

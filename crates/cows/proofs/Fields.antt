@@ -1,14 +1,13 @@
 -- What the bytes of a term's table say at a place: the record there, its kind, and what the kind says of the term; the fields of each kind.
 use mathlib.Core.Path.{_≡_, refl, sym, ap, subst, _∙_}
-use mathlib.Core.Logic.{_≢_}
 use mathlib.Core.List.{List, [], _∷_, _++_, append-assoc, append-nil}
-use Prim.Native.Nat.{ℕ, zero, suc, _+_, _*_, _≤_, _<_}
+use Prim.Native.Nat.{ℕ, zero, suc, _+_, _*_, _<_}
 use native.Mathlib.Omega.{arith}
 use native.Mathlib.Nat.{suc-add}
 use native.Mathlib.Numerals.{add-one}
 use lib.ListN.{length, getD, take, drop}
 use lib.Seq.{take-at, drop-at, drop-nil, drop-drop, getD-take, getD-drop}
-use Rattle.cows.specs.Terms.{Basic, nil, kill, invoke, Prefix, receive, wait, protection, delimitation, replication, choice, parallel, Term, leaf, under, both, size, below}
+use Rattle.cows.specs.Terms.{nil, kill, invoke, receive, wait, protection, delimitation, replication, choice, parallel, Term, leaf, under, both, size, below}
 use Rattle.cows.specs.Kinds.{Node, root, kindOf}
 use Rattle.cows.specs.Places.{Spot, spot, sub}
 use Rattle.cows.specs.Format.{bytes2, byte, word, nodes, layout, record16, bytes, encode}

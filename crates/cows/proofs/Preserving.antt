@@ -18,7 +18,8 @@ use Rattle.cows.proofs.Parts.{Sound, part-sound, part-kill, part-silenc
 use Rattle.cows.proofs.Stands.{right-at, wanted-is, invokes-is, replicates-is, prefixed-is}
 use Rattle.cows.proofs.Step.{Accepted, step-accepted}
 use Rattle.cows.proofs.Extrusion.{part-extrude}
-use Rattle.cows.proofs.Binding.{AllBind, sound-bind, part-bind, all-in-scope, values-fit, matched-binds, invokes-data}
+use Rattle.cows.proofs.Meeting.{matched-binds}
+use Rattle.cows.proofs.Binding.{AllBind, sound-bind, part-bind, all-in-scope, values-fit, invokes-data}
 use Rattle.cows.proofs.Silence.{silence-prefix}
 use Rattle.cows.proofs.Unfolding.{sound-afterUnfold}
 
