@@ -8,6 +8,8 @@ use plans::Plan;
 use plans::cutting::left;
 use plans::refused;
 use records::Found;
+use records::kinds;
+use records::limits;
 use records::wide16;
 use renaming::binding::write_bound;
 use scoping::all_in_scope;
@@ -46,10 +48,10 @@ fn seek(
     requires { ⌜ Known (now s) (now ends) × (length (now receiver) ≡ 256) × (length (now sender) ≡ 256) ⌝ }
     ensures { λ r. ⌜ ((t : Term) → Table (now (s .entry)) (now (ends .entry)) t → Seeks (now (s .entry)) a b (now (receiver .exit)) (now (sender .exit)) t r) ⌝ }
 {
-    let Found::At(k) = ways::live_at(s, ends, a, 3, receiver) else {
+    let Found::At(k) = ways::live_at(s, ends, a, kinds::RECEIVE, receiver) else {
         return Sought::Missing(a);
     };
-    let Found::At(n) = ways::live_at(s, ends, b, 2, sender) else {
+    let Found::At(n) = ways::live_at(s, ends, b, kinds::INVOKE, sender) else {
         return Sought::Missing(b);
     };
     Sought::Both(k, n)
@@ -101,8 +103,8 @@ pub fn judge(s: &[u8], ends: &[u16], a: usize, b: usize) -> Plan
     requires { ⌜ Known (now s) (now ends) ⌝ }
     ensures { λ r. ⌜ ((t : Term) → Table (now (s .entry)) (now (ends .entry)) t → Planned (communicateAt t a b) (startOf a (wayTo t a)) r) ⌝ }
 {
-    let mut receiver = [0u16; 256];
-    let mut sender = [0u16; 256];
+    let mut receiver = [0u16; limits::MAX_DEPTH];
+    let mut sender = [0u16; limits::MAX_DEPTH];
     let sought = seek(s, ends, a, b, &mut receiver, &mut sender);
     match sought {
         Sought::Missing(p) => refused(Judgement::Absent(p)),

@@ -2,6 +2,7 @@
 mod answering;
 
 use proposals::Move;
+use records::limits;
 use tables::Reply;
 ghost use lib.ListN.{length};
 ghost use Rattle.cows.specs.Terms.{Term};
@@ -30,7 +31,7 @@ pub fn step_known(s: &[u8], ends: &[u16], m: Move, out: &mut [u8]) -> Reply
 pub fn step(table: &[u8], m: &[u8], out: &mut [u8]) -> Reply
     ensures { λ r. ⌜ Stepped (now (table .entry)) (now (m .entry)) (now (out .entry)) (now (out .exit)) r × Demand2 (now (table .entry)) (now (m .entry)) (now (out .entry)) (now (out .exit)) r ⌝ }
 {
-    let mut ends = [0u16; 2050];
+    let mut ends = [0u16; limits::ENDS];
     let checked = tables::check_ends(table, &mut ends);
     if checked.answer != 0 {
         return checked;
