@@ -1,9 +1,9 @@
--- Communicate (specs/Moves, communicateAt) as it is judged: each refusal in its order, and the plan of a meeting that is allowed.
+-- Communicate (specs/Moves, communicateAt) as it is judged (specs/Judging): the parties, each refusal in its order, and the plan of a meeting that is allowed.
 use mathlib.Core.Path.{_≡_, refl, ap, _∙_}
 use mathlib.Core.Bool.{true, false, _&&_}
 use mathlib.Core.Option.{none, some}
 use mathlib.Core.List.{List}
-use Prim.Native.Nat.{ℕ, _+_, _-_, _/_}
+use Prim.Native.Nat.{ℕ, _+_, _*_, _-_, _/_, _<_}
 use native.Mathlib.Omega.{arith}
 use lib.Dec.{ltb, eqb}
 use lib.ListN.{length, getD}
@@ -14,25 +14,25 @@ use Rattle.cows.specs.Places.{wayTo, sub, first}
 use Rattle.cows.specs.Format.{byte, layout, record16}
 use Rattle.cows.specs.Active.{live, wanted}
 use Rattle.cows.specs.Moves.{Substitution, Matching, binds, differs, closedEnds, fit, matched, inScope, heldBack, tighter, silence, continue, bind, communicateAt}
-use Rattle.cows.proofs.Fields.{kind-receive, kind-invoke}
 use Rattle.cows.proofs.Meeting.{fit-fits}
 use Rattle.cows.proofs.Stands.{receives-is, invokes-is, prefixed-is, live-wanted}
-use Rattle.ways.specs.Known.{Table}
-use Rattle.ways.specs.Ways.{startOf, LiveAt}
+use Rattle.ways.specs.Known.{Table, Known}
+use Rattle.ways.specs.Ways.{startOf, LiveAt, Walk}
+use Rattle.ways.proofs.Tables.{table-size, table-ended, live-inside, walk-known}
+use Rattle.matching.specs.declared.Difference.{Difference}
+use Rattle.matching.specs.declared.Fit.{Fit}
+use Rattle.matching.specs.declared.Fit.the-variants.{Binds, Differs}
 use Rattle.matching.specs.Matching.{fitOf, EndsAt}
-use Rattle.matching.specs.declared.Fit.the-variants.{Binds}
-use Rattle.matching.specs.declared.Fit.the-variants as Fits
-use Rattle.ways.proofs.Tables.{table-size, table-ended}
-use Rattle.matching.proofs.Parties.{receive-ends, invoke-ends}
+use Rattle.matching.proofs.Parties.{receive-here, invoke-here}
 use Rattle.plans.specs.declared.Judgement.the-variants.{Allowed}
 use Rattle.plans.specs.declared.Plan.{Plan}
 use Rattle.plans.specs.Plans.{Planned}
 use Rattle.plans.specs.Cutting.{Span}
-use Rattle.scoping.specs.Scopes.{Meets}
-use Rattle.communicate.specs.Binding.{Matched}
-use Rattle.plans.proofs.Planning.{planned-allowed, absent}
+use Rattle.plans.proofs.Planning.{within-limits, planned-allowed, absent}
 use Rattle.plans.proofs.Continuing.{span}
-use Rattle.communicate.proofs.Meets.{left, left-limits}
+use Rattle.scoping.specs.Scopes as scopes
+use Rattle.communicate.specs.Judging.{BothLive, Meetable}
+use Rattle.communicate.proofs.Meets.{Matched, left, accepted-met}
 
 kind-of-receive : (s : Term) (q : Ends) → prefixed receives s ≡ some q → kindOf s ≡ 3
 unfolding kindOf root record16 layout byte
@@ -46,116 +46,125 @@ pub no-receive : (t : Term) (a b : ℕ) → (ltb a (size t) && live (wayTo t a) 
 unfolding communicateAt _>>=_
 no-receive t a b h = rw (absent (prefixed receives) 3 kind-of-receive t a h)
 
--- The receive.
-module _ (s ends receiver : List ℕ) (t : Term) (a b k : ℕ) (z : Table s ends t) (ha : LiveAt s receiver a 3 t k) where
-  pub receive-at : (q : Ends) × (sub t a ≡ under (receiveOf q) (below (sub t a)))
-  receive-at = let (p, o, ws, e) = kind-receive (sub t a) (ha .kind-is) in (record { partner = p; operation = o; tuple = ws }, e)
+module _ {s receiver : List ℕ} {t : Term} {a k : ℕ} (h : LiveAt s receiver a 3 t k) where
+  pub receiving : (q : Ends) × (sub t a ≡ under (receiveOf q) (below (sub t a))) × EndsAt s a q
+  receiving = receive-here s t a (h .walks .holds) (h .walks .inside) (h .kind-is)
+
+  receive-wanted : wanted (prefixed receives) t a ≡ accept (receiving .0)
+  unfolding prefixed receives
+  receive-wanted = live-wanted (prefixed receives) t a _ _ refl (record { at = record { placed = h .walks .inside; stands = receiving .1 }; live = h .live })
+
+  pub no-invoke : (b : ℕ) → (ltb b (size t) && live (wayTo t b) && eqb (kindOf (sub t b)) 2) ≡ false → communicateAt t a b ≡ refuse 11 b
+  unfolding communicateAt _>>=_
+  no-invoke b e = rw (receive-wanted, absent invokes 2 kind-of-invoke t b e)
+
+-- The receive q at place a and the invoke m at place b.
+module _ {s ends : List ℕ} {t : Term} {a b : ℕ} {receiver : List ℕ} {k : ℕ} {sender : List ℕ} {n : ℕ} (z : Table s ends t) (h : BothLive s a b receiver k sender n t) where
+  abbrev receive : (q : Ends) × (sub t a ≡ under (receiveOf q) (below (sub t a))) × EndsAt s a q
+  receive = receiving (h .receive)
+
+  pub invoke : (m : Ends) × (sub t b ≡ leaf (invokeOf m)) × EndsAt s b m
+  invoke = invoke-here s t b (h .invoke .walks .holds) (h .invoke .walks .inside) (h .invoke .kind-is)
 
   abbrev pub q : Ends
-  q = receive-at .0
+  q = receive .0
 
-  pub ends-a : EndsAt s a q
-  ends-a = receive-ends s t a (ha .walks .holds) (ha .walks .inside) q (below (sub t a)) (receive-at .1)
+  abbrev pub m : Ends
+  m = invoke .0
 
-  receive-wanted : wanted (prefixed receives) t a ≡ accept q
-  unfolding prefixed receives
-  receive-wanted =
-      live-wanted (prefixed receives) t a q (under (receiveOf q) (below (sub t a))) refl
-      (record { at = record { placed = ha .walks .inside; stands = receive-at .1 }; live = ha .live })
+  invoke-wanted : wanted invokes t b ≡ accept m
+  unfolding invokes
+  invoke-wanted = live-wanted invokes t b m _ refl (record { at = record { placed = h .invoke .walks .inside; stands = invoke .1 }; live = h .invoke .live })
 
-  pub no-invoke : (ltb b (size t) && live (wayTo t b) && eqb (kindOf (sub t b)) 2) ≡ false → communicateAt t a b ≡ refuse 11 b
-  unfolding communicateAt _>>=_
-  no-invoke h = rw (receive-wanted, absent invokes 2 kind-of-invoke t b h)
+  pub ends-b : EndsAt s b m
+  ends-b = invoke .2
 
-  -- where it would be cut out
-  pub receive-span : (from : ℕ) → from ≡ startOf a (wayTo t a) → Span ends (length s / 16) a from
-  receive-span from f = span s ends t z a (receiveOf q) (ha .walks .inside) (receive-at .1) from f
+  pub parties-fit : {r : Fit} → ((q m : Ends) → EndsAt s a q → EndsAt s b m → r ≡ fitOf (fit q m)) → r ≡ fitOf (fit q m)
+  parties-fit f = f q m (receive .2) ends-b
 
-  -- The invoke.
-  module _ (sender : List ℕ) (n : ℕ) (hb : LiveAt s sender b 2 t n) where
-    pub invoke-at : (m : Ends) × (sub t b ≡ leaf (invokeOf m))
-    invoke-at = let (p, o, ws, e) = kind-invoke (sub t b) (hb .kind-is) in (record { partner = p; operation = o; tuple = ws }, e)
+  pub differ : (d : Difference) → Differs d ≡ fitOf (fit q m) → communicateAt t a b ≡ refuse 12 a
+  unfolding communicateAt _>>=_ matched
+  differ d e = rw (receive-wanted (h .receive), invoke-wanted, go (fit q m) e)
+    where
+      go : (x : Matching) → Differs d ≡ fitOf x → matched a x ≡ refuse 12 a
+      go (binds σ) y = absurd (let c : _≡_ {A = ℕ} 0 1 = cc in omega arith)
+      go (differs x) y = refl
 
-    abbrev pub m : Ends
-    m = invoke-at .0
-
-    pub ends-b : EndsAt s b m
-    ends-b = invoke-ends s t b (hb .walks .holds) (hb .walks .inside) m (invoke-at .1)
-
-    invoke-wanted : wanted invokes t b ≡ accept m
-    unfolding invokes
-    invoke-wanted =
-        live-wanted invokes t b m (leaf (invokeOf m)) refl (record { at = record { placed = hb .walks .inside; stands = invoke-at .1 }; live = hb .live })
-
-    pub differ : Fits.Differs ≡ fitOf (fit q m) → communicateAt t a b ≡ refuse 12 a
-    unfolding communicateAt _>>=_ matched
-    differ e = rw (receive-wanted, invoke-wanted, go (fit q m) e)
+  -- They fit, and bind l variables.
+  module _ {l : ℕ} (e : Binds l ≡ fitOf (fit q m)) where
+    pub pairs : (σ : Substitution) × (fit q m ≡ binds σ) × (l ≡ length σ)
+    pairs = go (fit q m) refl e
       where
-        go : (x : Matching) → Fits.Differs ≡ fitOf x → x ≡ differs
-        go (binds σ) y = absurd (let c : _≡_ {A = ℕ} 0 1 = cc in omega arith)
-        go differs y = refl
+        go : (x : Matching) → fit q m ≡ x → Binds l ≡ fitOf x → (σ : Substitution) × (fit q m ≡ binds σ) × (l ≡ length σ)
+        go (binds σ) y c = (σ, y, let d : l ≡ length σ = cc in d)
+        go (differs x) y c = absurd (let d : _≡_ {A = ℕ} 0 1 = cc in omega arith)
 
-    -- They fit, and bind l variables.
-    module _ (l : ℕ) (e : Binds l ≡ fitOf (fit q m)) where
-      pub pairs : (σ : Substitution) × (fit q m ≡ binds σ) × (l ≡ length σ)
-      pairs = go (fit q m) refl e
-        where
-          go : (x : Matching) → fit q m ≡ x → Binds l ≡ fitOf x → (σ : Substitution) × (fit q m ≡ binds σ) × (l ≡ length σ)
-          go (binds σ) y c = (σ, y, let d : l ≡ length σ = cc in d)
-          go differs y c = absurd (let d : _≡_ {A = ℕ} 0 1 = cc in omega arith)
+    abbrev pub σ : Substitution
+    σ = pairs .0
 
-      abbrev pub σ : Substitution
-      σ = pairs .0
+    pub meets : scopes.Meets s a b receiver k sender n t σ
+    meets = record {
+      within = z .within;
+      to-receiver = h .receive .walks;
+      to-sender = h .invoke .walks;
+      receive = q;
+      invoke = m;
+      receives = receive .1;
+      invokes = invoke .1;
+      fits = pairs .1;
+    }
 
-      pub meets : Meets s a b receiver k sender n t σ
-      meets = record {
-        within = z .within;
-        to-receiver = ha .walks;
-        to-sender = hb .walks;
-        receive = q;
-        invoke = m;
-        receives = receive-at .1;
-        invokes = invoke-at .1;
-        fits = pairs .1;
-      }
+    pub closed : closedEnds m ≡ true
+    unfolding closedEnds
+    closed = rw (fit-fits q m σ (pairs .1) .closed)
 
-      pub closed : closedEnds m ≡ true
-      unfolding closedEnds
-      closed = rw (fit-fits q m σ (pairs .1) .closed)
+    pub apart : every (inScope t a b) σ ≡ false → communicateAt t a b ≡ refuse 13 a
+    unfolding communicateAt _>>=_ _>>_ matched forbid placeIf
+    apart y = rw (receive-wanted (h .receive), invoke-wanted, pairs .1, y)
 
-      pub apart : every (inScope t a b) σ ≡ false → communicateAt t a b ≡ refuse 13 a
+    -- Their scopes are in order.
+    module _ (y : every (inScope t a b) σ ≡ true) where
+      pub held : (p : ℕ) → first (heldBack a b) t ≡ some p → communicateAt t a b ≡ refuse 14 p
       unfolding communicateAt _>>=_ _>>_ matched forbid placeIf
-      apart y = rw (receive-wanted, invoke-wanted, pairs .1, y)
+      held p x = rw (receive-wanted (h .receive), invoke-wanted, pairs .1, y, x)
 
-      -- Their scopes are in order.
-      module _ (y : every (inScope t a b) σ ≡ true) where
-        pub held : (p : ℕ) → first (heldBack a b) t ≡ some p → communicateAt t a b ≡ refuse 14 p
+      module _ (x : first (heldBack a b) t ≡ none) where
+        pub looser : (p : ℕ) → first (tighter m l) t ≡ some p → communicateAt t a b ≡ refuse 15 p
         unfolding communicateAt _>>=_ _>>_ matched forbid placeIf
-        held p x = rw (receive-wanted, invoke-wanted, pairs .1, y, x)
+        looser p v = rw (receive-wanted (h .receive), invoke-wanted, pairs .1, y, x, ← pairs .2, v)
 
-        module _ (x : first (heldBack a b) t ≡ none) where
-          pub looser : (p : ℕ) → first (tighter m l) t ≡ some p → communicateAt t a b ≡ refuse 15 p
-          unfolding communicateAt _>>=_ _>>_ matched forbid placeIf
-          looser p v = rw (receive-wanted, invoke-wanted, pairs .1, y, x, ← pairs .2, v)
+        met : first (tighter m l) t ≡ none → communicateAt t a b ≡ accept (bind σ (continue (silence t b) a))
+        unfolding communicateAt _>>=_ _>>_ matched forbid placeIf
+        met v = rw (receive-wanted (h .receive), invoke-wanted, pairs .1, y, x, ← pairs .2, v)
 
-          abbrev after : Term
-          after = bind σ (continue (silence t b) a)
+        pub may-meet : first (tighter m l) t ≡ none → Meetable t a b l
+        may-meet v =
+            let p : Matched t a b q m σ =
+            record { receiver = h .receive .walks .inside; receives = receive .1; sender = h .invoke .walks .inside; invokes = invoke .1; fits = pairs .1; scopes = y } in
+            record { after = bind σ (continue (silence t b) a); accepted = met v; count = omega (arith, left t a b q m σ (z .within) p .count, pairs .2) }
 
-          met : first (tighter m l) t ≡ none → communicateAt t a b ≡ accept after
-          unfolding communicateAt _>>=_ _>>_ matched forbid placeIf
-          met v = rw (receive-wanted, invoke-wanted, pairs .1, y, x, ← pairs .2, v)
+-- Both parties are in the table, and the ways to them may be walked.
+pub faces : {s ends : List ℕ} {a b : ℕ} {receiver : List ℕ} {k : ℕ} {sender : List ℕ} {n : ℕ} (q : Known s ends) → BothLive s a b receiver k sender n (q .term)
+    → length receiver ≡ 256 → length sender ≡ 256 → Known s ends × Walk s receiver k × Walk s sender n × (a < length s / 16) × (b < length s / 16)
+faces q h l m =
+    let x = h .receive in
+    let y = h .invoke in
+    (q, walk-known _ _ q _ _ _ l (x .walks), walk-known _ _ q _ _ _ m (y .walks), live-inside _ _ _ q _ _ _ x, live-inside _ _ _ q _ _ _ y)
 
-        matched-parties : Matched t a b q m σ
-        matched-parties = record { receiver = ha .walks .inside; receives = receive-at .1; sender = hb .walks .inside; invokes = invoke-at .1; fits = pairs .1; scopes = y }
+-- The plan of a meeting that is allowed.
+module _ {s ends : List ℕ} {t : Term} {receiver : List ℕ} {a k from : ℕ} (z : Table s ends t) (h : LiveAt s receiver a 3 t k) (f : from ≡ startOf a (wayTo t a)) where
+  pub receive-span : Span ends (length s / 16) a from
+  receive-span = let r = receiving h in span s ends t z a (receiveOf (r .0)) (h .walks .inside) (r .1) from f
 
-        -- the records that are left
-        module _ (from : ℕ) (f : from ≡ startOf a (wayTo t a)) where
-          pub met-left : length s / 16 - (getD ends from 0 - from) + (getD ends a 0 - a - 1) ≡ size (bind σ (continue (silence t b) a)) + l
-          met-left =
-              let c = receive-span from f in
-              omega (arith, left t a b q m σ (z .within) matched-parties .count, pairs .2, ap (λ i. size (sub t i)) f, table-size s ends t z, table-ended s ends t z a (ha .walks .inside), table-ended s ends t z from (omega (arith, table-size s ends t z)), c)
+  module _ {b l : ℕ} (m : Meetable t a b l) where
+    pub records-left : length s / 16 - (getD ends from 0 - from) + (getD ends a 0 - a - 1) ≡ size (m .after) + l
+    records-left =
+        let w = table-size s ends t z in
+        let i : from < size t = omega (arith, receive-span) in
+        omega (arith, m .count, ap (λ c. size (sub t c)) f, table-ended s ends t z a (h .walks .inside), table-ended s ends t z from i, receive-span)
 
-          pub met-planned : (r : Plan) (i j : ℕ) → first (heldBack a b) t ≡ none → first (tighter m l) t ≡ none → r .judgement ≡ Allowed i → i ≡ j - l
-              → j ≡ length s / 16 - (getD ends from 0 - from) + (getD ends a 0 - a - 1) → r .from ≡ from → Planned (communicateAt t a b) (startOf a (wayTo t a)) r
-          met-planned r i j x v g c d o =
-              planned-allowed r (bind σ (continue (silence t b) a)) i g (met x v) (left-limits t a b q m σ (z .within) matched-parties) (omega (arith, met-left)) (o ∙ f)
+    pub meeting-planned : (r : Plan) (i j : ℕ) → r .judgement ≡ Allowed i → i ≡ j - l → j ≡ length s / 16 - (getD ends from 0 - from) + (getD ends a 0 - a - 1) → r .from ≡ from
+        → Planned (communicateAt t a b) (startOf a (wayTo t a)) r
+    meeting-planned r i j g c d o =
+        let w = accepted-met t (m .after) a b (z .within) (m .accepted) .leaves in
+        planned-allowed r (m .after) i g (m .accepted) (within-limits (m .after) (w .small) (w .shallow)) (omega (arith, records-left)) (o ∙ f)

@@ -22,17 +22,10 @@ use Rattle.ways.proofs.Tables.{table-size, table-ended}
 use Rattle.renaming.specs.Bound.{bound}
 use Rattle.plans.specs.Plans.{Asks}
 use Rattle.plans.specs.Cutting.{Span}
-use Rattle.communicate.specs.Binding.{Met}
 use Rattle.matching.specs.Taking.{takesOf}
 use Rattle.plans.proofs.Continuing.{span}
-use Rattle.communicate.proofs.Meets.{accepted-met}
-use Rattle.communicate.proofs.Replacing.{part-bound}
-
--- Where the parties and the choice stand in the table.
-pub record Spans (s ends : List ℕ) (a b from : ℕ) : Type 0 where
-  pub span : Span ends (length s / 16) a from
-  pub whole : length s ≡ 16 * (length s / 16)
-  pub sender : b < length s / 16
+use Rattle.communicate.proofs.Meets.{Met, accepted-met}
+use Rattle.communicate.proofs.Replacing.{metRecords, part-bound}
 
 -- The bytes ahead of the choice, those of the continuation and those behind the choice, each of them bound, fit the output, and are the table of r.
 pub record Parts (front body back out : List ℕ) (r : Term) : Type 0 where
@@ -46,61 +39,62 @@ pub joined : {front body back out : List ℕ} {r : Term} → Parts front body ba
     → d₃ ≡ put out 0 (encode r)
 joined {front} {body} {back} {out} p {d₁} {d₂} {d₃} {j} {k} x l y m z = rw (p .table) (and-then out 0 j front (body ++ back) l x (and-then d₁ j k body back m y z))
 
-module _ (s ends : List ℕ) (a b from : ℕ) (out : List ℕ) (q : Asks (λ t. communicateAt t a b) (λ t. startOf a (wayTo t a)) s ends from out) where
+module _ {s ends : List ℕ} (a b : ℕ) {from : ℕ} {out : List ℕ} (q : Asks (λ t. communicateAt t a b) (λ t. startOf a (wayTo t a)) s ends from out) where
   abbrev t : Term
   t = q .known .term
 
   met : Met t a b (q .successor)
   met = accepted-met t (q .successor) a b (q .known .table .within) (q .accepted)
 
-  pub asks-spans : Spans s ends a b from
-  asks-spans =
-      record {
-        span = span s ends t (q .known .table) a (receiveOf (met .receive)) (met .matched .receiver) (met .matched .receives) from (q .place-is);
-        whole = q .known .whole;
-        sender = omega (arith, met .matched .sender, table-size s ends t (q .known .table));
-      }
+  -- where the parties and the choice stand in the table
+  pub asks-span : Span ends (length s / 16) a from × (length s ≡ 16 * (length s / 16)) × (b < length s / 16)
+  asks-span = (
+    span s ends t (q .known .table) a (receiveOf (met .receive)) (met .matched .receiver) (met .matched .receives) from (q .place-is),
+    q .known .whole,
+    omega (arith, met .matched .sender, table-size s ends t (q .known .table)),
+  )
 
-  -- the four are what the pattern's slots take from the tuple's
-  module _ (t₀ t₁ t₂ t₃ : Takes) (e₀ : t₀ ≡ takesOf (word s (16 * a + 6)) (word s (16 * b + 6))) (e₁ : t₁ ≡ takesOf (word s (16 * a + 8)) (word s (16 * b + 8))) (e₂ : t₂ ≡ takesOf (word s (16 * a + 10)) (word s (16 * b + 10))) (e₃ : t₃ ≡ takesOf (word s (16 * a + 12)) (word s (16 * b + 12))) (end rest : ℕ) (f : end ≡ getD ends a 0) (g : rest ≡ getD ends from 0) where
-    abbrev c : ℕ
-    c = startOf a (wayTo t a)
+  abbrev c : ℕ
+  c = startOf a (wayTo t a)
 
-    abbrev N : List Node
-    N = nodes (silence t b)
+  abbrev N : List Node
+  N = nodes (silence t b)
 
-    bound-part : (i n : ℕ) → i + n ≤ size t → bound t₀ t₁ t₂ t₃ b s i n ≡ bytes (boundNodes (met .pairs) (take n (drop i N)))
-    bound-part = part-bound s t a b (met .receive) (met .invoke) (met .pairs) (q .known .table .within) (met .matched) (q .known .table .holds) t₀ t₁ t₂ t₃ e₀ e₁ e₂ e₃
+  bound-part : (i n : ℕ) → i + n ≤ size t → metRecords s a b i n ≡ bytes (boundNodes (met .pairs) (take n (drop i N)))
+  bound-part = part-bound s t a b (met .receive) (met .invoke) (met .pairs) (q .known .table .within) (met .matched) (q .known .table .holds)
 
-    whole : length s / 16 ≡ size t
-    whole = table-size s ends t (q .known .table)
+  whole : length s / 16 ≡ size t
+  whole = table-size s ends t (q .known .table)
 
-    front-part : bound t₀ t₁ t₂ t₃ b s 0 (from - 0) ≡ bytes (boundNodes (met .pairs) (take c N))
-    front-part =
-        let z : from - 0 ≡ from = omega arith in
-        rw z (bound-part 0 from (omega (arith, asks-spans .span, whole))) ∙ ap (λ x. bytes (boundNodes (met .pairs) (take x N))) (q .place-is)
+  front-part : metRecords s a b 0 from ≡ bytes (boundNodes (met .pairs) (take c N))
+  front-part = bound-part 0 from (omega (arith, asks-span, whole)) ∙ ap (λ x. bytes (boundNodes (met .pairs) (take x N))) (q .place-is)
 
-    body-part : bound t₀ t₁ t₂ t₃ b s (a + 1) (end - (a + 1)) ≡ bytes (boundNodes (met .pairs) (take (size (sub t a) - 1) (drop (suc a) N)))
+  module _ {end rest : ℕ} (f : end ≡ getD ends a 0) (g : rest ≡ getD ends from 0) where
+    body-part : metRecords s a b (a + 1) (end - (a + 1)) ≡ bytes (boundNodes (met .pairs) (take (size (sub t a) - 1) (drop (suc a) N)))
     body-part =
         let e = table-ended s ends t (q .known .table) a (met .matched .receiver) in
         let z : end - (a + 1) ≡ size (sub t a) - 1 = omega arith in
-        rw (z, add-one a) (bound-part (suc a) (size (sub t a) - 1) (omega (arith, asks-spans .span, whole)))
+        rw (z, add-one a) (bound-part (suc a) (size (sub t a) - 1) (omega (arith, asks-span, whole)))
 
-    back-part : bound t₀ t₁ t₂ t₃ b s rest (length s / 16 - rest) ≡ bytes (boundNodes (met .pairs) (drop (c + size (sub t c)) N))
+    back-part : metRecords s a b rest (length s / 16 - rest) ≡ bytes (boundNodes (met .pairs) (drop (c + size (sub t c)) N))
     back-part =
         let n = silence-size t b (invokeOf (met .invoke)) (met .matched .invokes) in
-        let e = table-ended s ends t (q .known .table) from (omega (arith, asks-spans .span, whole)) in
-        bound-part rest (length s / 16 - rest) (omega (arith, asks-spans .span, whole))
+        let e = table-ended s ends t (q .known .table) from (omega (arith, asks-span, whole)) in
+        bound-part rest (length s / 16 - rest) (omega (arith, asks-span, whole))
         ∙ (ap (λ x. bytes (boundNodes (met .pairs) x)) (take-all (length s / 16 - rest) (drop rest N) (omega (arith, whole, length-drop rest N, length-nodes (silence t b))))
         ∙ ap (λ x. bytes (boundNodes (met .pairs) (drop x N))) (g ∙ (e ∙ ap (λ x. x + size (sub t x)) (q .place-is))))
 
-    parts-table : encode (q .successor) ≡ bound t₀ t₁ t₂ t₃ b s 0 (from - 0) ++ (bound t₀ t₁ t₂ t₃ b s (a + 1) (end - (a + 1)) ++ bound t₀ t₁ t₂ t₃ b s rest (length s / 16 - rest))
-    parts-table = met .leaves .table ∙ sym (ap₂ _++_ front-part (ap₂ _++_ body-part back-part))
+    met-parts : Parts (metRecords s a b 0 from) (metRecords s a b (a + 1) (end - (a + 1))) (metRecords s a b rest (length s / 16 - rest)) out (q .successor)
+    met-parts =
+        let x = metRecords s a b 0 from in
+        let y = metRecords s a b (a + 1) (end - (a + 1)) in
+        let z = metRecords s a b rest (length s / 16 - rest) in
+        let e : encode (q .successor) ≡ x ++ (y ++ z) = met .leaves .table ∙ sym (ap₂ _++_ front-part (ap₂ _++_ body-part back-part)) in
+        let l : length x + length y + length z ≤ length out = omega (arith, ap length e, length-append x (y ++ z), length-append y z, length-encode (q .successor), q .room) in
+        record { front-fits = omega arith; body-fits = omega arith; back-fits = l; table = e }
 
-    pub asks-parts : Parts (bound t₀ t₁ t₂ t₃ b s 0 (from - 0)) (bound t₀ t₁ t₂ t₃ b s (a + 1) (end - (a + 1))) (bound t₀ t₁ t₂ t₃ b s rest (length s / 16 - rest)) out (q .successor)
-    asks-parts =
-        let x = bound t₀ t₁ t₂ t₃ b s 0 (from - 0) in
-        let y = bound t₀ t₁ t₂ t₃ b s (a + 1) (end - (a + 1)) in
-        let z = bound t₀ t₁ t₂ t₃ b s rest (length s / 16 - rest) in
-        let l : length x + length y + length z ≤ length out = omega (arith, ap length parts-table, length-append x (y ++ z), length-append y z, length-encode (q .successor), q .room) in
-        record { front-fits = omega arith; body-fits = omega arith; back-fits = l; table = parts-table }
+    -- by what the code finds the slots to take
+    pub asks-parts : {t₀ t₁ t₂ t₃ : Takes} → t₀ ≡ takesOf (word s (16 * a + 6)) (word s (16 * b + 6)) → t₁ ≡ takesOf (word s (16 * a + 8)) (word s (16 * b + 8))
+        → t₂ ≡ takesOf (word s (16 * a + 10)) (word s (16 * b + 10)) → t₃ ≡ takesOf (word s (16 * a + 12)) (word s (16 * b + 12))
+        → Parts (bound t₀ t₁ t₂ t₃ b s 0 (from - 0)) (bound t₀ t₁ t₂ t₃ b s (a + 1) (end - (a + 1))) (bound t₀ t₁ t₂ t₃ b s rest (length s / 16 - rest)) out (q .successor)
+    asks-parts e₀ e₁ e₂ e₃ = let z : from - 0 ≡ from = omega arith in rw (z, e₀, e₁, e₂, e₃) met-parts

@@ -1,37 +1,63 @@
--- What a communication leaves (specs/Binding: Matched, Leaves): the table of the successor by the records of the term as it was, its size, and that it is within the limits.
+-- What a communication leaves: the table of the successor by the records of the term as it was, its size, and that it is within the limits.
 use mathlib.Core.Path.{_≡_, sym, ap, subst, _∙_}
-use mathlib.Core.Bool.{true, false, not, _&&_}
+use mathlib.Core.Bool.{true, not, _&&_}
 use mathlib.Core.List.{List, [], _∷_, _++_}
-use Prim.Native.Nat.{ℕ, suc, _+_, _-_}
+use Prim.Native.Nat.{ℕ, suc, _+_, _-_, _≤_, _<_}
 use native.Mathlib.Omega.{arith}
 use lib.Dec.{eqb}
 use lib.ListN.{length, take, drop}
 use borrow.Author.Tests.{eqb-true, eq-eqb, not-true}
-use Rattle.cows.specs.Basics.{any, member, accept}
-use Rattle.cows.specs.Terms.{choice, parallel, Term, under, Ends, variable, size, invokes, prefixed, receives, below, receiveOf}
+use Rattle.cows.specs.Basics.{any, member, accept, every}
+use Rattle.cows.specs.Terms.{choice, parallel, Term, under, Ends, variable, size, invokes, prefixed, receives, below, receiveOf, leaf, depth, invokeOf}
 use Rattle.cows.specs.Kinds.{Node, distinct}
 use Rattle.cows.specs.Places.{inside, leftOf, rightOf, Way, wayTo, sub, frameDelimits, enclosed, frameChooses}
 use Rattle.cows.specs.Format.{nodes, bytes, encode}
 use Rattle.cows.specs.Active.{wanted}
 use Rattle.cows.specs.Within.{Right, counts, Within}
 use Rattle.cows.specs.Allows.{Matches, empty, takes, equals, AllReach}
-use Rattle.cows.specs.Moves.{Substitution, fit, matched, silence, aroundChoice, continue, bind, communicateAt}
-use Rattle.cows.specs.Step.{overLimits}
+use Rattle.cows.specs.Moves.{Substitution, binds, fit, matched, inScope, silence, aroundChoice, continue, bind, communicateAt}
 use Rattle.cows.proofs.Basics.{clash, and-true, true-and, or-both, or-right, not-so, bind-accept}
 use Rattle.cows.proofs.Scopes.{counts-enclosed}
 use Rattle.cows.proofs.Fields.{append-bytes}
 use Rattle.cows.proofs.Parts.{Sound}
-use Rattle.cows.proofs.Binding.{AllBind, matched-binds}
+use Rattle.cows.proofs.Binding.{AllBind}
 use Rattle.cows.specs.Records.{boundNodes}
 use Rattle.cows.proofs.Binds.{bound-append, bind-nodes, bind-depth, Once, bind-size}
-use Rattle.cows.proofs.Meeting.{fit-fits, inScope-reaches}
+use Rattle.cows.proofs.Meeting.{fit-fits, matched-binds, inScope-reaches}
 use Rattle.cows.proofs.Preserving.{meeting-binds, scopes-passed}
 use Rattle.cows.proofs.Stands.{right-at, invokes-is, receives-is, prefixed-is, wanted-live}
 use Rattle.ways.specs.Ways.{startOf}
-use Rattle.communicate.specs.Binding.{Matched, Left, Met}
-use Rattle.plans.proofs.Planning.{within-limits}
 use Rattle.plans.proofs.Continuing.{cuts}
 use Rattle.communicate.proofs.Silences.{silence-enclosed, left-nodes, left-size, left-depth}
+
+-- The receive q at place a fits the invoke m at place b, and each variable that it binds is in scope.
+pub record Matched (t : Term) (a b : ℕ) (q m : Ends) (σ : Substitution) : Type 0 where
+  pub receiver : a < size t
+  pub receives : sub t a ≡ under (receiveOf q) (below (sub t a))
+  pub sender : b < size t
+  pub invokes : sub t b ≡ leaf (invokeOf m)
+  pub fits : fit q m ≡ binds σ
+  pub scopes : every (inScope t a b) σ ≡ true
+
+-- What the two leave, r, is within the limits. Of the records N, those of t with the invoke silenced, the choice that begins at place c is cut out but for the continuation,
+-- and the variables are bound.
+pub record Leaves (t : Term) (a : ℕ) (σ : Substitution) (c : ℕ) (N : List Node) (r : Term) : Type 0 where
+  pub table : encode r ≡ bytes (boundNodes σ (take c N)) ++ (bytes (boundNodes σ (take (size (sub t a) - 1) (drop (suc a) N))) ++ bytes (boundNodes σ (drop (c + size (sub t c)) N)))
+  pub count : size r + length σ + size (sub t c) ≡ size t + (size (sub t a) - 1)
+  pub shallow : depth r ≤ 256
+  pub small : size r ≤ 2048
+
+-- the same with the choice's place and the records in full
+abbrev pub Left : Term → ℕ → ℕ → Substitution → Term → Type 0
+Left t a b σ r = Leaves t a σ (startOf a (wayTo t a)) (nodes (silence t b)) r
+
+-- There are such parties, and r is what they leave.
+pub record Met (t : Term) (a b : ℕ) (r : Term) : Type 0 where
+  pub receive : Ends
+  pub invoke : Ends
+  pub pairs : Substitution
+  pub matched : Matched t a b receive invoke pairs
+  pub leaves : Left t a b pairs r
 
 -- the variables bound are the pattern's, and those are distinct
 keys-member : {ws vs : List ℕ} {σ : Substitution} → Matches ws vs σ → (y : ℕ) → any (λ (p : ℕ × ℕ). eqb (p .0) y) σ ≡ true → member y ws ≡ true
@@ -111,9 +137,6 @@ module _ (t : Term) (a b : ℕ) (q m : Ends) (σ : Substitution) (w : Within t) 
         small = omega (arith, left-count, k, w .small);
       }
 
-  pub left-limits : overLimits (bind σ s) ≡ false
-  left-limits = within-limits (bind σ s) (left .small) (left .shallow)
-
 -- What is accepted has such parties.
 pub accepted-met : (t r : Term) (a b : ℕ) → Within t → communicateAt t a b ≡ accept r → Met t a b r
 unfolding communicateAt
@@ -126,13 +149,4 @@ accepted-met t r a b w e =
     let y = wanted-live invokes t b m _ (invokes-is (sub t b) m) em in
     let h : Matched t a b q m σ =
     record { receiver = x .at .placed; receives = x .at .stands; sender = y .at .placed; invokes = y .at .stands; fits = matched-binds a (fit q m) σ eσ; scopes = es } in
-    record {
-      receive = q;
-      invoke = m;
-      pairs = σ;
-      matched = h;
-      live-receive = x .live;
-      live-invoke = y .live;
-      is = sym is;
-      leaves = subst (Left t a b σ) is (left t a b q m σ w h);
-    }
+    record { receive = q; invoke = m; pairs = σ; matched = h; leaves = subst (Left t a b σ) is (left t a b q m σ w h) }

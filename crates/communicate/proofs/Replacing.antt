@@ -6,7 +6,7 @@ use mathlib.Core.List.{List, [], _∷_, _++_, append-nil, flatMap}
 use Prim.Native.Nat.{ℕ, zero, suc, _+_, _*_, _≤_, _<_}
 use native.Mathlib.Omega.{arith}
 use lib.Dec.{eqb}
-use lib.ListN.{length, take, drop, length-drop, take-append-drop}
+use lib.ListN.{length, getD, take, drop, length-drop, take-append-drop}
 use lib.Seq.{length-take-le}
 use borrow.Author.Tests.{eq-eqb, ne-eqb}
 use Rattle.cows.specs.Basics.{any, holds}
@@ -37,8 +37,8 @@ use Rattle.renaming.specs.Mapped.{mapNode, mapRecord, along}
 use Rattle.renaming.specs.Bound.{takesOne, imageOfAll, goes, boundRecord, bound}
 use Rattle.renaming.proofs.Mapped.{record-mapped}
 use Rattle.renaming.proofs.Occurring.{not-zero}
-use Rattle.communicate.specs.Binding.{Matched}
 use Rattle.matching.specs.Taking.{takesOf}
+use Rattle.communicate.proofs.Meets.{Matched}
 use Rattle.communicate.proofs.Taking.{images-match, takers-match}
 
 -- The records from place i on, with nil at place b.
@@ -130,8 +130,14 @@ module _ (t₀ t₁ t₂ t₃ : Takes) (σ : Substitution) (same : (a : ℕ) →
       (ap₂ _++_ (node-bound b i n (r .0)) (records-bound b s (suc i) ns (r .1) (has-right (record16 n) (bytes ns) (16 * suc i) (omega arith) k))
       ∙ sym (append-bytes (bindNode σ (cond (eqb i b) (basic nil) n)) (boundNodes σ (silenced b (suc i) ns))))
 
--- The receive q at place a and the invoke m at place b match, and the four are what the pattern's slots take from the tuple's.
-module _ (s : List ℕ) (t : Term) (a b : ℕ) (q m : Ends) (σ : Substitution) (w : Within t) (h : Matched t a b q m σ) (k : Holds s t) (t₀ t₁ t₂ t₃ : Takes) (e₀ : t₀ ≡ takesOf (word s (16 * a + 6)) (word s (16 * b + 6))) (e₁ : t₁ ≡ takesOf (word s (16 * a + 8)) (word s (16 * b + 8))) (e₂ : t₂ ≡ takesOf (word s (16 * a + 10)) (word s (16 * b + 10))) (e₃ : t₃ ≡ takesOf (word s (16 * a + 12)) (word s (16 * b + 12))) where
+-- The n records of s from place i on, as they are written: the invoke at place b is silenced, and what the receive at place a takes from it is bound.
+abbrev pub metRecords : (s : List ℕ) (a b i n : ℕ) → List ℕ
+metRecords s a b i n =
+    bound (takesOf (word s (16 * a + 6)) (word s (16 * b + 6))) (takesOf (word s (16 * a + 8)) (word s (16 * b + 8))) (takesOf (word s (16 * a + 10)) (word s (16 * b + 10)))
+    (takesOf (word s (16 * a + 12)) (word s (16 * b + 12))) b s i n
+
+-- The receive q at place a and the invoke m at place b match.
+module _ (s : List ℕ) (t : Term) (a b : ℕ) (q m : Ends) (σ : Substitution) (w : Within t) (h : Matched t a b q m σ) (k : Holds s t) where
   receiver : EndsAt s a q
   receiver = receive-ends s t a k (h .receiver) q (below (sub t a)) (h .receives)
 
@@ -146,15 +152,9 @@ module _ (s : List ℕ) (t : Term) (a b : ℕ) (q m : Ends) (σ : Substitution) 
       let r : Right (leaf (invokeOf m)) = subst Right (h .invokes) (right-at t b (w .right)) in
       all-in-scope t a b (w .formed) σ (values-fit q m σ (r .2 .1) (h .fits)) (h .scopes)
 
-  images-all : (x : ℕ) → imageOfAll t₀ t₁ t₂ t₃ x ≡ image σ x
-  images-all x =
-      rw (e₀, e₁, e₂, e₃, receiver .slot0, receiver .slot1, receiver .slot2, receiver .slot3, sender .slot0, sender .slot1, sender .slot2, sender .slot3)
-      (images-match t matches all-bind (receiver .few) x)
-
-  takers-all : (x : ℕ) → x ≢ 0 → takesOne t₀ t₁ t₂ t₃ x ≡ any (λ (p : ℕ × ℕ). eqb (p .0) x) σ
-  takers-all x z =
-      rw (e₀, e₁, e₂, e₃, receiver .slot0, receiver .slot1, receiver .slot2, receiver .slot3, sender .slot0, sender .slot1, sender .slot2, sender .slot3)
-      (takers-match t matches all-bind (receiver .few) x)
+  -- what the slots of the pattern take from the tuple's
+  abbrev slot : ℕ → Takes
+  slot i = takesOf (getD (q .tuple) i 0) (getD (m .tuple) i 0)
 
   -- the n records from place i on
   module _ (i n : ℕ) (l : i + n ≤ size t) where
@@ -174,11 +174,12 @@ module _ (s : List ℕ) (t : Term) (a b : ℕ) (q m : Ends) (σ : Substitution) 
         ap (λ x. take n (drop i x)) (silence-nodes t b (h .sender) (h .invokes) ∙ silenced-is b 0 b (nodes t) (omega arith) (omega (arith, h .sender, length-nodes t)))
         ∙ (ap (take n) (silenced-drop b 0 i i (nodes t) (omega arith)) ∙ silenced-take b i n (drop i (nodes t)))
 
-    pub part-bound : bound t₀ t₁ t₂ t₃ b s i n ≡ bytes (boundNodes σ (take n (drop i (nodes (silence t b)))))
+    pub part-bound : metRecords s a b i n ≡ bytes (boundNodes σ (take n (drop i (nodes (silence t b)))))
     unfolding variable
     part-bound =
         let z : length part ≡ n = length-take-le n (drop i (nodes t)) (omega (arith, length-drop i (nodes t), length-nodes t)) in
         let r : RightNodes part = all-take RightNode n (drop i (nodes t)) (all-take RightNode i (nodes t) (right-nodes t (k .right)) .1) .0 in
-        rw part-silenced
-        (subst (λ x. bound t₀ t₁ t₂ t₃ b s i x ≡ bytes (boundNodes σ (silenced b i part))) z
-        (records-bound t₀ t₁ t₂ t₃ σ images-all takers-all (image-other t σ all-bind 0 refl) b s i part r part-has))
+        let l = receiver .few in
+        rw (part-silenced, receiver .slot0, receiver .slot1, receiver .slot2, receiver .slot3, sender .slot0, sender .slot1, sender .slot2, sender .slot3)
+        (subst (λ x. bound (slot 0) (slot 1) (slot 2) (slot 3) b s i x ≡ bytes (boundNodes σ (silenced b i part))) z
+        (records-bound (slot 0) (slot 1) (slot 2) (slot 3) σ (images-match t matches all-bind l) (λ x e. takers-match t matches all-bind l x) (image-other t σ all-bind 0 refl) b s i part r part-has))

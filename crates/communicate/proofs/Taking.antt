@@ -19,6 +19,7 @@ use Rattle.records.specs.declared.Atom.the-variants.{Variable}
 use Rattle.records.specs.declared.Takes.{Takes}
 use Rattle.records.specs.Atoms.{numberOf, takesVariable, imageOf}
 use Rattle.records.proofs.Atoms.{class-variable}
+use Rattle.ways.proofs.Frames.{eqb-flip}
 use Rattle.renaming.specs.Bound.{takesOne, imageOfAll}
 use Rattle.renaming.proofs.Bound.{not-taken, not-changed}
 use Rattle.matching.specs.Taking.{takesOf}
@@ -33,9 +34,6 @@ images (suc n) w v x = imageOf (takesOf (w 0) (v 0)) x (images n (λ i. w (suc i
 takers : ℕ → (ℕ → ℕ) → (ℕ → ℕ) → variables.Variable → Bool → Bool
 takers zero w v x y = y
 takers (suc n) w v x y = takers n (λ i. w (suc i)) (λ i. v (suc i)) x (y || takesVariable (takesOf (w 0) (v 0)) x)
-
-eqb-turned : (a b : ℕ) → eqb a b ≡ eqb b a
-eqb-turned a b = same-test (λ z. eq-eqb b a (sym (eqb-true a b z))) (λ z. eq-eqb a b (sym (eqb-true b a z)))
 
 none-takes : (w v : ℕ) → variable w ≡ false → (x : variables.Variable) (y : Bool) → (y || takesVariable (takesOf w v) x) ≡ y
 none-takes w v e x y = rw (takes-none w v e) (or-none y)
@@ -60,7 +58,7 @@ module _ (t : Term) where
   takers-variable empty h (suc n) l x y = ap (takers n (λ i. 0) (λ i. 0) x) (none-takes 0 0 refl x y) ∙ takers-variable empty h n (omega arith) x y
   takers-variable (takes e m) h zero l x y = absurd (omega arith)
   takers-variable (takes {w = w} {v = v} {ws = ws} {vs = vs} {σ = σ} e m) h (suc n) l x y =
-      ap (λ b. takers n (λ i. getD ws i 0) (λ i. getD vs i 0) x (y || b)) (ap (λ r. takesVariable r x) (takes-so w v e (h .0 .datum)) ∙ eqb-turned (x .0) w)
+      ap (λ b. takers n (λ i. getD ws i 0) (λ i. getD vs i 0) x (y || b)) (ap (λ r. takesVariable r x) (takes-so w v e (h .0 .datum)) ∙ eqb-flip (x .0) w)
       ∙ (takers-variable m (h .1) n (omega arith) x (y || eqb w (x .0)) ∙ or-assoc y (eqb w (x .0)) (any (λ (p : ℕ × ℕ). eqb (p .0) (x .0)) σ))
   takers-variable (equals e m) h zero l x y = absurd (omega arith)
   takers-variable (equals {v = v} {ws = ws} {vs = vs} e m) h (suc n) l x y =

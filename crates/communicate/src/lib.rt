@@ -8,25 +8,93 @@ use plans::Plan;
 use plans::cutting::left;
 use plans::refused;
 use records::Found;
+use records::kinds;
+use records::limits;
 use records::wide16;
 use renaming::binding::write_bound;
 use scoping::all_in_scope;
 ghost use mathlib.Core.Path.{_≡_};
+ghost use Prim.Native.Nat.{ℕ, _/_, _<_};
+ghost use lib.ListN.{length};
 ghost use Rattle.cows.specs.Terms.{Term};
 ghost use Rattle.cows.specs.Places.{wayTo};
 ghost use Rattle.cows.specs.Moves.{communicateAt};
 ghost use Rattle.ways.specs.Known.{Table, Known};
-ghost use Rattle.ways.specs.Ways.{startOf};
+ghost use Rattle.ways.specs.Ways.{startOf, LiveAt, Walk};
 ghost use Rattle.plans.specs.Plans.{Planned, Asks, Gives};
-ghost use Rattle.communicate.specs.Mismatch.{mismatchOf};
+ghost use Rattle.communicate.specs.Judging.{BothLive, Seeks, Meetable, Settles, Continues};
 
-// 12: what the proposer is told of a matching.
-fn mismatch(f: Fit, a: usize) -> Judgement
-    ensures { λ r. ⌜ r ≡ mismatchOf f a ⌝ }
+// Looking for the parties: the lengths of the ways to both, or the place of one that is not live.
+enum Sought {
+    Both(usize, usize),
+    Missing(usize),
+}
+
+// What they are asked: they may meet and bind so many variables, or the refusal.
+enum Asked {
+    Agreed(usize),
+    Barred(Judgement),
+}
+
+// 11: the receive at place a and the invoke at place b; the ways to them are put down.
+fn seek(
+    s: &[u8],
+    ends: &[u16],
+    a: usize,
+    b: usize,
+    receiver: &mut [u16],
+    sender: &mut [u16],
+) -> Sought
+    requires { ⌜ Known (now s) (now ends) × (length (now receiver) ≡ 256) × (length (now sender) ≡ 256) ⌝ }
+    ensures { λ r. ⌜ ((t : Term) → Table (now (s .entry)) (now (ends .entry)) t → Seeks (now (s .entry)) a b (now (receiver .exit)) (now (sender .exit)) t r) ⌝ }
 {
-    match f {
-        Fit::Binds(l) => Judgement::Allowed(l),
-        Fit::Differs => Judgement::Differs(a),
+    let Found::At(k) = ways::live_at(s, ends, a, kinds::RECEIVE, receiver) else {
+        return Sought::Missing(a);
+    };
+    let Found::At(n) = ways::live_at(s, ends, b, kinds::INVOKE, sender) else {
+        return Sought::Missing(b);
+    };
+    Sought::Both(k, n)
+}
+
+// 12 to 15: whether the parties match, what they bind is in scope, and nothing holds them back.
+fn ask(
+    s: &[u8],
+    ends: &[u16],
+    a: usize,
+    b: usize,
+    receiver: &[u16],
+    k: usize,
+    sender: &[u16],
+    n: usize,
+) -> Asked
+    requires { ⌜ Known (now s) (now ends) × Walk (now s) (now receiver) k × Walk (now s) (now sender) n × (a < length (now s) / 16) × (b < length (now s) / 16) ⌝ }
+    ensures { λ r. ⌜ ((t : Term) → Table (now (s .entry)) (now (ends .entry)) t → BothLive (now (s .entry)) a b (now (receiver .entry)) k (now (sender .entry)) n t → Settles t a b r) ⌝ }
+{
+    let Fit::Binds(l) = fits(s, a, b) else {
+        return Asked::Barred(Judgement::Differs(a));
+    };
+    if !all_in_scope(s, a, b, receiver, k, sender, n) {
+        return Asked::Barred(Judgement::Apart(a));
+    }
+    if let Found::At(p) = holding::first_held(s, ends, a, b) {
+        return Asked::Barred(Judgement::Held(p));
+    }
+    if let Found::At(p) = holding::conflicts::first_tighter(s, ends, b, l) {
+        return Asked::Barred(Judgement::Looser(p));
+    }
+    Asked::Agreed(l)
+}
+
+// The plan of a meeting that binds l variables: the records that are left, and where the whole choice around the receive begins.
+fn meeting_plan(s: &[u8], ends: &[u16], a: usize, receiver: &[u16], k: usize, l: usize) -> Plan
+    requires { ⌜ Continues (now s) (now ends) a (now receiver) k l ⌝ }
+    ensures { λ r. ⌜ ((t : Term) (b : ℕ) → Table (now (s .entry)) (now (ends .entry)) t → LiveAt (now (s .entry)) (now (receiver .entry)) a 3 t k → Meetable t a b l → Planned (communicateAt t a b) (startOf a (wayTo t a)) r) ⌝ }
+{
+    let from = ways::choice_start(s, receiver, k, a);
+    Plan {
+        judgement: Judgement::Allowed(left(ends, s.len() / 16, a, from) - l),
+        from,
     }
 }
 
@@ -35,33 +103,18 @@ pub fn judge(s: &[u8], ends: &[u16], a: usize, b: usize) -> Plan
     requires { ⌜ Known (now s) (now ends) ⌝ }
     ensures { λ r. ⌜ ((t : Term) → Table (now (s .entry)) (now (ends .entry)) t → Planned (communicateAt t a b) (startOf a (wayTo t a)) r) ⌝ }
 {
-    let mut receiver = [0u16; 256];
-    let Found::At(k) = ways::live_at(s, ends, a, 3, &mut receiver) else {
-        return refused(Judgement::Absent(a));
-    };
-    let mut sender = [0u16; 256];
-    let Found::At(n) = ways::live_at(s, ends, b, 2, &mut sender) else {
-        return refused(Judgement::Absent(b));
-    };
-    let matching = fits(s, a, b);
-    let Fit::Binds(l) = matching else {
-        return refused(mismatch(matching, a));
-    };
-    if !all_in_scope(s, a, b, &receiver, k, &sender, n) {
-        return refused(Judgement::Apart(a));
-    }
-    let held = holding::first_held(s, ends, a, b);
-    if let Found::At(p) = held {
-        return refused(Judgement::Held(p));
-    }
-    let looser = holding::conflicts::first_tighter(s, ends, b, l);
-    if let Found::At(p) = looser {
-        return refused(Judgement::Looser(p));
-    }
-    let from = ways::choice_start(s, &receiver, k, a);
-    Plan {
-        judgement: Judgement::Allowed(left(ends, s.len() / 16, a, from) - l),
-        from,
+    let mut receiver = [0u16; limits::MAX_DEPTH];
+    let mut sender = [0u16; limits::MAX_DEPTH];
+    let sought = seek(s, ends, a, b, &mut receiver, &mut sender);
+    match sought {
+        Sought::Missing(p) => refused(Judgement::Absent(p)),
+        Sought::Both(k, n) => {
+            let answer = ask(s, ends, a, b, &receiver, k, &sender, n);
+            match answer {
+                Asked::Barred(judgement) => refused(judgement),
+                Asked::Agreed(l) => meeting_plan(s, ends, a, &receiver, k, l),
+            }
+        }
     }
 }
 

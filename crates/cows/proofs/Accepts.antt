@@ -6,7 +6,7 @@ use Rattle.cows.specs.Basics.{accept}
 use Rattle.cows.specs.Terms.{Term}
 use Rattle.cows.specs.Format.{Bytes}
 use Rattle.cows.specs.Tables.{judge}
-use Rattle.cows.specs.Step.{judgeStep}
+use Rattle.cows.specs.Step.{readMove, judgeStep}
 use Rattle.cows.specs.Within.{Within}
 use Rattle.cows.specs.Accepts.{Accepts}
 use Rattle.cows.proofs.Basics.{same-accept}
@@ -32,7 +32,7 @@ accepted-accepts table m room s h e =
     }
 
 -- the step on the term
-on-term : (table m : List ℕ) (room : ℕ) (s : Term) (r : Accepts table m room s) → Accepted (r .term) m room s
+on-term : (table m : List ℕ) (room : ℕ) (s : Term) (r : Accepts table m room s) → Accepted (r .term) (readMove m) room s
 on-term table m room s r = record {
   move = r .move;
   reads = r .reads;
@@ -50,4 +50,4 @@ pub accepts-one : (table m : List ℕ) (room : ℕ) (s u : Term) → Accepts tab
 accepts-one table m room s u a b = same-accept (sym (accepts-accepted table m room s a) ∙ accepts-accepted table m room u b)
 
 pub accepts-within : (table m : List ℕ) (room : ℕ) (s : Term) → Accepts table m room s → Within s
-accepts-within table m room s r = step-within (r .term) s m room (r .within) (accepted-step (r .term) s m room (on-term table m room s r))
+accepts-within table m room s r = step-within (r .term) s (readMove m) room (r .within) (accepted-step (r .term) s (readMove m) room (on-term table m room s r))

@@ -15,14 +15,14 @@ use Rattle.cows.specs.Kinds.{open-kinds}
 use Rattle.cows.specs.Places.{Frame, inside, leftOf, rightOf, plug, Way, fill, wayTo, sub, first, enclosed, frameChooses, passed}
 use Rattle.cows.specs.Within.{Right, one, counts, Within}
 use Rattle.cows.specs.Active.{live, wanted, onKind}
-use Rattle.cows.specs.Moves.{Substitution, binds, Matching, differs, haltBeside, haltInside, afterKill, killAt, fit, matched, inScope, heldBack, tighter, silence, continue, bind, communicateAt, timeoutAt, shorter, elapseBy, renaming, afterUnfold, unfoldAt, fitting, exchange, afterExtrude, extrudeAt, Move, Kill, Communicate, Timeout, Elapse, Unfold, Extrude, successor, freshCopy}
+use Rattle.cows.specs.Moves.{Substitution, binds, haltBeside, haltInside, afterKill, killAt, fit, matched, inScope, heldBack, tighter, silence, continue, bind, communicateAt, timeoutAt, shorter, elapseBy, renaming, afterUnfold, unfoldAt, fitting, exchange, afterExtrude, extrudeAt, Move, Kill, Communicate, Timeout, Elapse, Unfold, Extrude, successor, freshCopy}
 use Rattle.cows.specs.Allows.{Stands, Live, Meets, Renames, Ended, Choice, Exchanged, Replaced, Instantiated, Elapsed, Parent, onLeft, onRight, protected, delimited, Allows, by-kill, by-communicate, by-timeout, by-elapse, by-unfold, by-extrude}
 use Rattle.cows.proofs.Basics.{never, and-true, or-false, or-right, not-so, any-append, bind-accept, same-accept, forbid-accept, placeIf-none}
 use Rattle.cows.proofs.Renaming.{renaming-renames, renames-unique}
 use Rattle.cows.proofs.Atoms.{few-binders, few-atoms, binders-right}
 use Rattle.cows.proofs.Places.{fill-spot}
 use Rattle.cows.proofs.Stands.{sub-ind, right-at, scoped-at, kills-is, invokes-is, receives-is, waits-is, delimits-is, replicates-is, prefixed-is, wanted-live, live-wanted, first-fails, fails-first, prefixed-stands}
-use Rattle.cows.proofs.Meeting.{fit-fits, fits-fit, inScope-reaches, reaches-inScope, heldBack-unheld, unheld-heldBack, tighter-tightest, tightest-tighter}
+use Rattle.cows.proofs.Meeting.{fit-fits, fits-fit, matched-binds, inScope-reaches, reaches-inScope, heldBack-unheld, unheld-heldBack, tighter-tightest, tightest-tighter}
 use Rattle.cows.proofs.Scopes.{counts-fill, counts-enclosed}
 use Rattle.cows.proofs.Parts.{part-counts, part-silence, part-continue}
 use Rattle.cows.proofs.Recordwise.{map-replaced, replaced-map, elapse-elapsed, elapsed-elapse}
@@ -85,11 +85,6 @@ unfolding killAt _>>=_ kills
 allows-kill t a k l = rw (live-wanted kills t a k (leaf (kill k)) refl l)
 
 -- communicate
-matched-accept : (a : ℕ) (m : Matching) (σ : Substitution) → matched a m ≡ accept σ → m ≡ binds σ
-unfolding matched
-matched-accept a (binds τ) σ e = ap binds (same-accept e)
-matched-accept a differs σ e = cc
-
 meets : (t : Term) (a b : ℕ) (r m : Ends) (σ : Substitution) → wanted (prefixed receives) t a ≡ accept r → wanted invokes t b ≡ accept m → fit r m ≡ binds σ
     → every (inScope t a b) σ ≡ true → first (heldBack a b) t ≡ none → first (tighter m (length σ)) t ≡ none → Meets t a b σ
 meets t a b r m σ er em eσ sc hb tg =
@@ -119,7 +114,7 @@ communicate-meets t s a b e =
     let (sc, e₄) = forbid-accept 13 (placeIf (not (every (inScope t a b) σ)) a) _ s e₃ in
     let (hb, e₅) = forbid-accept 14 (first (heldBack a b) t) _ s e₄ in
     let (tg, e₆) = forbid-accept 15 (first (tighter m (length σ)) t) _ s e₅ in
-    (σ, meets t a b r m σ er em (matched-accept a (fit r m) σ eσ) (not-false _ (placeIf-none _ a sc)) hb tg, same-accept e₆)
+    (σ, meets t a b r m σ er em (matched-binds a (fit r m) σ eσ) (not-false _ (placeIf-none _ a sc)) hb tg, same-accept e₆)
 
 pub meets-communicate : (t : Term) (a b : ℕ) (σ : Substitution) → Meets t a b σ → communicateAt t a b ≡ accept (bind σ (continue (silence t b) a))
 unfolding communicateAt _>>=_ _>>_ forbid matched placeIf prefixed receives invokes

@@ -7,15 +7,17 @@ use Prim.Native.Nat.{ℕ, suc, _+_, _≤_}
 use native.Mathlib.Omega.{arith}
 use lib.Dec.{eqb}
 use borrow.Author.Tests.{eqb-true, eqb-false, eq-eqb, not-true}
-use Rattle.cows.specs.Basics.{any, every, member, holds, found, accept, All}
+use Rattle.cows.specs.Basics.{any, every, member, holds, found, All}
 use Rattle.cows.specs.Terms.{nil, kill, invoke, Prefix, receive, wait, protection, delimitation, replication, choice, parallel, Term, leaf, under, both, Ends, value, variable, label, datum, size, invokes, prefixed, delimits, delimitsAtom, usesBasic, usesPrefix, binders}
 use Rattle.cows.specs.Kinds.{guard, open-kinds}
 use Rattle.cows.specs.Places.{inside, leftOf, rightOf, Way, wayTo, first, frameDelimits, enclosed}
 use Rattle.cows.specs.Within.{Right, Guarded, one, counts, restricted, nowhere, Formed}
-use Rattle.cows.specs.Moves.{Substitution, Matching, binds, differs, extend, match, closedEnds, fit, matched, outside, inScope, image, instantiate, bind}
-use Rattle.cows.proofs.Basics.{never, cond-case, and-true, and-not, or-false, or-left, or-right, or-second, or-case, not-so, found-none, holds-some, same-accept}
+use Rattle.cows.specs.Allows.{Matches, empty, takes, equals}
+use Rattle.cows.specs.Moves.{Substitution, binds, fit, outside, inScope, image, instantiate, bind}
+use Rattle.cows.proofs.Basics.{never, cond-case, and-true, and-not, or-false, or-left, or-right, or-second, or-case, not-so, found-none, holds-some}
 use Rattle.cows.proofs.Places.{Everywhere, at-first, at-under, at-left, at-right, Fails, first-none}
-use Rattle.cows.proofs.Sets.{value-range, variable-range, label-range}
+use Rattle.cows.proofs.Meeting.{fit-fits}
+use Rattle.cows.proofs.Sets.{datum-value, value-range, variable-range, label-range}
 use Rattle.cows.proofs.Scopes.{Rule, inner, Used, local, Need, Inside, Weakens, And, inside-refl, need-weakens, all-map, used-mono, used-both, used-any, used-scoped, scoped-used, restricted-mono}
 use Rattle.cows.proofs.Mapping.{Carries, Fits, guarded-mapped, used-mapped, counts-at, right-mapped}
 use Rattle.cows.proofs.Parts.{Sound, Part, part-used, part-counts}
@@ -236,41 +238,20 @@ in-scope t a b x v f vx e = instead-everywhere x v (restricted t) vx [] 0 t none
 abbrev pub Values : Substitution → Type 0
 Values σ = All (λ (p : ℕ × ℕ). (variable (p .0) ≡ true) × (value (p .1) ≡ true)) σ
 
-abbrev ValuesOf : Matching → Type 0
-ValuesOf differs = Unit {0}
-ValuesOf (binds σ) = Values σ
-
-values-extend : (w v : ℕ) (m : Matching) → value v ≡ true → ValuesOf m → ValuesOf (extend w v m)
-unfolding extend
-values-extend w v differs h k = tt
-values-extend w v (binds σ) h k = cond-case ValuesOf (variable w) (λ e. ((e, h), k)) (λ e. cond-case ValuesOf (eqb w v) (λ q. k) (λ q. tt))
-
-values-match : (ws vs : List ℕ) → every datum vs ≡ true → any variable vs ≡ false → ValuesOf (match ws vs)
-unfolding match every any datum
-values-match [] [] d n = tt
-values-match [] (v ∷ vs) d n = tt
-values-match (w ∷ ws) [] d n = tt
-values-match (w ∷ ws) (v ∷ vs) d n =
+values-matches : {ws vs : List ℕ} {σ : Substitution} → Matches ws vs σ → every datum vs ≡ true → any variable vs ≡ false → Values σ
+unfolding every any
+values-matches empty d n = tt
+values-matches (takes {v = v} {vs = vs} e m) d n =
     let (d₁, d₂) = and-true (datum v) (every datum vs) d in
     let (n₁, n₂) = or-false (variable v) (any variable vs) n in
-    values-extend w v (match ws vs) (or-case _ (value v) (variable v) d₁ (λ e. e) (λ e. never (sym n₁ ∙ e))) (values-match ws vs d₂ n₂)
+    ((e, datum-value v d₁ n₁), values-matches m d₂ n₂)
+values-matches (equals {v = v} {vs = vs} e m) d n = values-matches m (and-true (datum v) (every datum vs) d .1) (or-false (variable v) (any variable vs) n .1)
 
 pub values-fit : (r m : Ends) (σ : Substitution) → every datum (m .tuple) ≡ true → fit r m ≡ binds σ → Values σ
-unfolding fit closedEnds any
-values-fit r m σ d e = subst ValuesOf e (cond-case ValuesOf test fits (λ q. tt))
-  where
-    test : Bool
-    test = closedEnds m && eqb (r .partner) (m .partner) && eqb (r .operation) (m .operation)
-
-    fits : test ≡ true → ValuesOf (match (r .tuple) (m .tuple))
-    fits q =
-        let c = not-true _ (and-true (closedEnds m) (eqb (r .partner) (m .partner)) (and-true (closedEnds m && eqb (r .partner) (m .partner)) (eqb (r .operation) (m .operation)) q .0) .0) in
-        values-match (r .tuple) (m .tuple) d (or-false (variable (m .operation)) _ (or-false (variable (m .partner)) _ c .1) .1)
-
-pub matched-binds : (a : ℕ) (m : Matching) (σ : Substitution) → matched a m ≡ accept σ → m ≡ binds σ
-unfolding matched
-matched-binds a (binds τ) σ e = ap binds (same-accept e)
-matched-binds a differs σ e = cc
+unfolding any
+values-fit r m σ d e =
+    let f = fit-fits r m σ e in
+    values-matches (f .matches) d (or-false (variable (m .operation)) _ (or-false (variable (m .partner)) _ (f .closed) .1) .1)
 
 -- an invoke sends data
 pub invokes-data : (s : Term) (m : Ends) → invokes s ≡ some m → Right s → every datum (m .tuple) ≡ true

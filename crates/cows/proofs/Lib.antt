@@ -10,6 +10,8 @@ pub mod Format
 pub mod Fields
 pub mod Refusals
 pub mod Tables
+pub mod Lists
+pub mod Bounds
 pub mod Step
 pub mod Stands
 pub mod Reach
@@ -37,5 +39,4 @@ pub mod Corollaries
 pub mod Accepts
 pub mod Load
 pub mod Run
-pub mod Lists
 pub mod Theorems

@@ -3,48 +3,63 @@ use mathlib.Core.Path.{_≡_, refl, sym, ap, subst, _∙_}
 use mathlib.Core.Bool.{Bool, true, false, cond, not, _&&_, _||_}
 use mathlib.Core.Option.{none, some}
 use mathlib.Core.List.{List, [], _∷_}
-use Prim.Native.Nat.{ℕ, _+_, _<_}
+use Prim.Native.Nat.{ℕ, suc, _+_, _<_}
 use native.Mathlib.Omega.{arith}
 use lib.Dec.{ltb, eqb}
 use lib.ListN.{length}
 use borrow.Author.Tests.{ltb-true, ltb-false, lt-ltb, eqb-true, eq-eqb, not-true, not-false}
-use Rattle.cows.specs.Basics.{any, every, member, holds, found}
+use Rattle.cows.specs.Basics.{any, every, member, holds, found, accept}
 use Rattle.cows.specs.Terms.{kill, receive, delimitation, Term, leaf, under, Ends, variable, size, kills, prefixed, receives, delimits, below, binders, receiveOf}
 use Rattle.cows.specs.Places.{Spot, wayTo, sub, first, encloses, enclosed}
 use Rattle.cows.specs.Active.{ready}
-use Rattle.cows.specs.Moves.{Substitution, Matching, binds, differs, extend, match, closedEnds, fit, outside, inScope, readyKill, heldBack, fewer, tighter}
+use Rattle.cows.specs.Moves.{Substitution, Matching, Mismatch, unsetVariable, otherEndpoint, otherCount, otherValue, binds, differs, provided, besides, match, closedEnds, fit, matched, outside, inScope, readyKill, heldBack, fewer, tighter}
 use Rattle.cows.specs.Allows.{Stands, Matches, empty, takes, equals, Reaches, AllReach, Unheld, Tightest}
-use Rattle.cows.proofs.Basics.{never, clash, bool-case, and-true, true-and, or-left, or-right, or-second, or-case, found-none, none-found, holds-some}
+use Rattle.cows.proofs.Basics.{never, clash, bool-case, and-true, true-and, or-left, or-right, or-second, or-case, found-none, none-found, holds-some, same-accept}
 use Rattle.cows.proofs.Stands.{kills-is, receives-is, delimits-is, prefixed-stands, first-fails, fails-first, first-found, Delimited, member-delimited, delimited-member}
 
 -- matching
 same-binds : {σ τ : Substitution} → binds σ ≡ binds τ → σ ≡ τ
 same-binds e = cc
 
-pub match-matches : (ws vs : List ℕ) (σ : Substitution) → match ws vs ≡ binds σ → Matches ws vs σ
-unfolding match extend
-match-matches [] [] σ e = subst (Matches [] []) (same-binds e) empty
-match-matches [] (v ∷ vs) σ e = never cc
-match-matches (w ∷ ws) [] σ e = never cc
-match-matches (w ∷ ws) (v ∷ vs) σ e = go (match ws vs) (match-matches ws vs) e
+provided-binds : (test : Bool) (d : Mismatch) (rest : Matching) (σ : Substitution) → provided test d rest ≡ binds σ → (test ≡ true) × (rest ≡ binds σ)
+unfolding provided
+provided-binds true d rest σ e = (refl, e)
+provided-binds false d rest σ e = never cc
+
+besides-binds : (w v : ℕ) (rest : Matching) (σ : Substitution) → besides w v rest ≡ binds σ → (τ : Substitution) × (rest ≡ binds τ) × ((w, v) ∷ τ ≡ σ)
+unfolding besides
+besides-binds w v (binds τ) σ e = (τ, refl, same-binds e)
+besides-binds w v (differs d) σ e = never cc
+
+match-matches : (n : ℕ) (ws vs : List ℕ) (σ : Substitution) → length ws ≡ length vs → match n ws vs ≡ binds σ → Matches ws vs σ
+unfolding match
+match-matches n [] [] σ l e = subst (Matches [] []) (same-binds e) empty
+match-matches n [] (v ∷ vs) σ l e = absurd (omega arith)
+match-matches n (w ∷ ws) [] σ l e = absurd (omega arith)
+match-matches n (w ∷ ws) (v ∷ vs) σ l e = pick (variable w) refl (λ τ. match-matches (suc n) ws vs τ (omega arith)) e
   where
-    pick : (p q : Bool) (τ : Substitution) → variable w ≡ p → eqb w v ≡ q → Matches ws vs τ → cond p (binds ((w, v) ∷ τ)) (cond q (binds τ) differs) ≡ binds σ → Matches (w ∷ ws) (v ∷ vs) σ
-    pick true q τ p e m h = subst (Matches (w ∷ ws) (v ∷ vs)) (same-binds h) (takes p m)
-    pick false true τ p e m h = rw (← same-binds h, eqb-true w v e) (equals (ap variable (sym (eqb-true w v e)) ∙ p) m)
-    pick false false τ p e m h = never cc
+    rest : Matching
+    rest = match (suc n) ws vs
 
-    go : (m : Matching) → ((τ : Substitution) → m ≡ binds τ → Matches ws vs τ) → extend w v m ≡ binds σ → Matches (w ∷ ws) (v ∷ vs) σ
-    go (binds τ) f h = pick (variable w) (eqb w v) τ refl refl (f τ refl) h
-    go differs f h = never cc
+    pick : (p : Bool) → variable w ≡ p → ((τ : Substitution) → rest ≡ binds τ → Matches ws vs τ) → cond p (besides w v rest) (provided (eqb w v) (otherValue n) rest) ≡ binds σ → Matches (w ∷ ws) (v ∷ vs) σ
+    pick true p f h = let (τ, r, k) = besides-binds w v rest σ h in subst (Matches (w ∷ ws) (v ∷ vs)) k (takes p (f τ r))
+    pick false p f h =
+        let (q, r) = provided-binds (eqb w v) (otherValue n) rest σ h in
+        rw (eqb-true w v q) (equals (ap variable (sym (eqb-true w v q)) ∙ p) (f σ r))
 
-pub matches-match : {ws vs : List ℕ} {σ : Substitution} → Matches ws vs σ → match ws vs ≡ binds σ
-unfolding match extend
-matches-match empty = refl
-matches-match (takes e m) = rw (matches-match m, e)
-matches-match (equals {v = v} e m) = rw (matches-match m, e, eq-eqb v v refl)
+matches-match : {ws vs : List ℕ} {σ : Substitution} → Matches ws vs σ → (n : ℕ) → match n ws vs ≡ binds σ
+unfolding match besides provided
+matches-match empty n = refl
+matches-match (takes e m) n = rw (matches-match m (suc n), e)
+matches-match (equals {v = v} e m) n = rw (matches-match m (suc n), e, eq-eqb v v refl)
+
+pub matches-lengths : {ws vs : List ℕ} {σ : Substitution} → Matches ws vs σ → length ws ≡ length vs
+matches-lengths empty = refl
+matches-lengths (takes e m) = ap suc (matches-lengths m)
+matches-lengths (equals e m) = ap suc (matches-lengths m)
 
 pub matches-unique : {ws vs : List ℕ} {σ τ : Substitution} → Matches ws vs σ → Matches ws vs τ → σ ≡ τ
-matches-unique m k = same-binds (sym (matches-match m) ∙ matches-match k)
+matches-unique m k = same-binds (sym (matches-match m 0) ∙ matches-match k 0)
 
 -- the receive r fits the invoke m
 pub record Fits (r m : Ends) (σ : Substitution) : Type 0 where
@@ -55,18 +70,21 @@ pub record Fits (r m : Ends) (σ : Substitution) : Type 0 where
 
 pub fit-fits : (r m : Ends) (σ : Substitution) → fit r m ≡ binds σ → Fits r m σ
 unfolding fit closedEnds
-fit-fits r m σ e = go (closedEnds m && eqb (r .partner) (m .partner) && eqb (r .operation) (m .operation)) refl e
-  where
-    go : (b : Bool) → (closedEnds m && eqb (r .partner) (m .partner) && eqb (r .operation) (m .operation)) ≡ b → cond b (match (r .tuple) (m .tuple)) differs ≡ binds σ → Fits r m σ
-    go true h k =
-        let (h₁, o) = and-true (closedEnds m && eqb (r .partner) (m .partner)) (eqb (r .operation) (m .operation)) h in
-        let (c, p) = and-true (closedEnds m) (eqb (r .partner) (m .partner)) h₁ in
-        record { closed = not-true _ c; partner = eqb-true _ _ p; operation = eqb-true _ _ o; matches = match-matches _ _ σ k }
-    go false h k = never cc
+fit-fits r m σ e =
+    let (c, e₁) = provided-binds (closedEnds m) unsetVariable _ σ e in
+    let (h, e₂) = provided-binds (eqb (r .partner) (m .partner) && eqb (r .operation) (m .operation)) otherEndpoint _ σ e₁ in
+    let (l, e₃) = provided-binds (eqb (length (r .tuple)) (length (m .tuple))) otherCount _ σ e₂ in
+    let (p, o) = and-true (eqb (r .partner) (m .partner)) (eqb (r .operation) (m .operation)) h in
+    record { closed = not-true _ c; partner = eqb-true _ _ p; operation = eqb-true _ _ o; matches = match-matches 0 _ _ σ (eqb-true _ _ l) e₃ }
 
 pub fits-fit : (r m : Ends) (σ : Substitution) → Fits r m σ → fit r m ≡ binds σ
-unfolding fit closedEnds
-fits-fit r m σ f = rw (f .closed, eq-eqb _ _ (f .partner), eq-eqb _ _ (f .operation)) (matches-match (f .matches))
+unfolding fit closedEnds provided
+fits-fit r m σ f = rw (f .closed, eq-eqb _ _ (f .partner), eq-eqb _ _ (f .operation), eq-eqb _ _ (matches-lengths (f .matches))) (matches-match (f .matches) 0)
+
+pub matched-binds : (a : ℕ) (m : Matching) (σ : Substitution) → matched a m ≡ accept σ → m ≡ binds σ
+unfolding matched
+matched-binds a (binds τ) σ e = ap binds (same-accept e)
+matched-binds a (differs d) σ e = cc
 
 -- 13: the delimitation of a value, if there is one, encloses the variable's
 abbrev Nested : Term → ℕ → ℕ → Type 0
@@ -155,7 +173,7 @@ unheld-heldBack t a b h k = fails-first (heldBack a b) t (λ n p e.
 fewer-binds : (l : ℕ) (m : Matching) → fewer l m ≡ true → (σ : Substitution) × (m ≡ binds σ) × (length σ < l)
 unfolding fewer
 fewer-binds l (binds σ) e = (σ, refl, ltb-true (length σ) l e)
-fewer-binds l differs e = never e
+fewer-binds l (differs d) e = never e
 
 pub tighter-tightest : (t : Term) (m : Ends) (l : ℕ) → any variable (m .partner ∷ m .operation ∷ m .tuple) ≡ false → first (tighter m l) t ≡ none
     → Tightest t (m .partner) (m .operation) (m .tuple) l

@@ -2,7 +2,6 @@
 use mathlib.Core.Path.{_≡_, refl, subst, _∙_}
 use mathlib.Core.Bool.{true, not, _||_}
 use mathlib.Core.Option.{Option, none, some}
-use mathlib.Core.List.{List}
 use Prim.Native.Nat.{ℕ, _≤_}
 use lib.Dec.{eqb}
 use lib.ListN.{length}
@@ -19,7 +18,8 @@ use Rattle.cows.proofs.Parts.{Sound, part-sound, part-kill, part-silenc
 use Rattle.cows.proofs.Stands.{right-at, wanted-is, invokes-is, replicates-is, prefixed-is}
 use Rattle.cows.proofs.Step.{Accepted, step-accepted}
 use Rattle.cows.proofs.Extrusion.{part-extrude}
-use Rattle.cows.proofs.Binding.{AllBind, sound-bind, part-bind, all-in-scope, values-fit, matched-binds, invokes-data}
+use Rattle.cows.proofs.Meeting.{matched-binds}
+use Rattle.cows.proofs.Binding.{AllBind, sound-bind, part-bind, all-in-scope, values-fit, invokes-data}
 use Rattle.cows.proofs.Silence.{silence-prefix}
 use Rattle.cows.proofs.Unfolding.{sound-afterUnfold}
 
@@ -109,10 +109,10 @@ successor-kept t s (Unfold a) w e = sound-unfold t s a e (w .small) (w .right, w
 successor-kept t s (Extrude a) w e = sound-extrude t s a e (w .right, w .formed)
 
 -- What the rules allow, and what a step then gives, is within the limits.
-accepted-within : (t s : Term) (m : List ℕ) (room : ℕ) → Within t → Accepted t m room s → Within s
+accepted-within : (t s : Term) (m : Option Move) (room : ℕ) → Within t → Accepted t m room s → Within s
 accepted-within t s m room w a =
     let (r, f) = successor-kept t s (a .move) w (a .moves) in
     record { right = r; formed = f; small = a .small; shallow = a .shallow }
 
-pub step-within : (t s : Term) (m : List ℕ) (room : ℕ) → Within t → stepTerm t m room ≡ accept s → Within s
+pub step-within : (t s : Term) (m : Option Move) (room : ℕ) → Within t → stepTerm t m room ≡ accept s → Within s
 step-within t s m room w e = accepted-within t s m room w (step-accepted t s m room e)

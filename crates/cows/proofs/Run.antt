@@ -13,7 +13,7 @@ use Rattle.cows.specs.Format.{encode}
 use Rattle.cows.specs.Tables.{judge}
 use Rattle.cows.specs.Within.{Within}
 use Rattle.cows.specs.Step.{readMove, stepTerm, judgeStep}
-use Rattle.cows.specs.Run.{Tally, counted, noTally, sum, counts, Run, start, judgement, enter, turn, run, lostBy, losses}
+use Rattle.cows.specs.Run.{Tally, counted, noTally, sum, adds, Run, start, judgement, enter, turn, run, lostBy, losses}
 use Rattle.cows.proofs.Basics.{bind-accept, accept-bind, forbid-accept, same-accept, same-some}
 use Rattle.cows.proofs.Stands.{wanted-is}
 use Rattle.cows.proofs.Tables.{within-judge}
@@ -77,11 +77,11 @@ load-law t s (Extrude a) e = law-extrude t s a e
 abbrev pub Balanced : ℕ → ℕ → Run → Type 0
 Balanced x l r = x + r .tally .copied ≡ 2 * r .tally .communications + r .tally .kills + r .tally .timeouts + load (r .table) + l
 
-balanced-count : (x l : ℕ) (c : Tally) (t s : Term) (m : Move) → successor t m ≡ accept s → Balanced x l (record { table = t; tally = c }) → Balanced x (l + lost t m) (record { table = s; tally = sum c (counts t m) })
-unfolding counted noTally sum counts copies spent
+balanced-count : (x l : ℕ) (c : Tally) (t s : Term) (m : Move) → successor t m ≡ accept s → Balanced x l (record { table = t; tally = c }) → Balanced x (l + lost t m) (record { table = s; tally = sum c (adds (copies t m) m) })
+unfolding counted sum adds spent
 balanced-count x l c t s m e h = go m (load-law t s m e)
   where
-    go : (m : Move) → Law t m s → Balanced x (l + lost t m) (record { table = s; tally = sum c (counts t m) })
+    go : (m : Move) → Law t m s → Balanced x (l + lost t m) (record { table = s; tally = sum c (adds (copies t m) m) })
     go (Kill a) k = omega arith
     go (Communicate a b) k = omega arith
     go (Timeout a) k = omega arith
@@ -89,11 +89,11 @@ balanced-count x l c t s m e h = go m (load-law t s m e)
     go (Unfold a) k = omega arith
     go (Extrude a) k = omega arith
 
-balanced-turn : (x l : ℕ) (r : Run) (m : List ℕ) → Balanced x l r → Balanced x (l + lostBy (r .table) (readMove m) (judgement r m)) (turn r m)
+balanced-turn : (x l : ℕ) (r : Run) (m : Option Move) → Balanced x l r → Balanced x (l + lostBy (r .table) m (judgement r m)) (turn r m)
 unfolding turn judgement enter lostBy
-balanced-turn x l r m h = go (readMove m) refl (stepTerm (r .table) m 32768) refl
+balanced-turn x l r m h = go m refl (stepTerm (r .table) m 32768) refl
   where
-    go : (o : Option Move) → readMove m ≡ o → (q : Result Term) → stepTerm (r .table) m 32768 ≡ q → Balanced x (l + lostBy (r .table) o q) (enter r o q)
+    go : (o : Option Move) → m ≡ o → (q : Result Term) → stepTerm (r .table) m 32768 ≡ q → Balanced x (l + lostBy (r .table) o q) (enter r o q)
     go o eo (refuse n p) eq = omega arith
     go none eo (accept s) eq = omega arith
     go (some move) eo (accept s) eq =
@@ -103,7 +103,7 @@ balanced-turn x l r m h = go (readMove m) refl (stepTerm (r .table) m 32768) ref
 balanced-run : (x l : ℕ) (r : Run) (ms : List (List ℕ)) → Balanced x l r → Balanced x (l + losses r ms) (run r ms)
 unfolding run losses
 balanced-run x l r [] h = omega arith
-balanced-run x l r (m ∷ ms) h = omega (arith, balanced-run x (l + lostBy (r .table) (readMove m) (judgement r m)) (turn r m) ms (balanced-turn x l r m h))
+balanced-run x l r (m ∷ ms) h = omega (arith, balanced-run x _ (turn r (readMove m)) ms (balanced-turn x l r (readMove m) h))
 
 -- Demand 3: the balance of every list of moves, refused ones included, and the inequality.
 pub run-balance : (t : Term) (ms : List (List ℕ)) → Balanced (load t) (losses (start t) ms) (run (start t) ms)
@@ -115,14 +115,14 @@ pub run-bound : (t : Term) (ms : List (List ℕ)) → let r = run (start t) ms i
 run-bound t ms = omega (arith, run-balance t ms)
 
 -- The run's judgement of a move is the step's on the bytes of the table that it keeps.
-pub judgement-step : (r : Run) (m : List ℕ) → Within (r .table) → judgement r m ≡ judgeStep (encode (r .table)) m 32768
+pub judgement-step : (r : Run) (m : List ℕ) → Within (r .table) → judgement r (readMove m) ≡ judgeStep (encode (r .table)) m 32768
 unfolding judgement judgeStep
-judgement-step r m w = sym (accept-bind (judge (encode (r .table))) (λ t. stepTerm t m 32768) (r .table) (within-judge (r .table) w))
+judgement-step r m w = sym (accept-bind (judge (encode (r .table))) (λ t. stepTerm t (readMove m) 32768) (r .table) (within-judge (r .table) w))
 
 -- Every table that a run keeps is within the limits, if the start table is.
-turn-within : (r : Run) (m : List ℕ) → Within (r .table) → Within (turn r m .table)
+turn-within : (r : Run) (m : Option Move) → Within (r .table) → Within (turn r m .table)
 unfolding turn judgement enter
-turn-within r m w = go (readMove m) (stepTerm (r .table) m 32768) refl
+turn-within r m w = go m (stepTerm (r .table) m 32768) refl
   where
     go : (o : Option Move) (q : Result Term) → stepTerm (r .table) m 32768 ≡ q → Within (enter r o q .table)
     go o (refuse n p) e = w
@@ -132,4 +132,4 @@ turn-within r m w = go (readMove m) (stepTerm (r .table) m 32768) refl
 pub run-within : (r : Run) (ms : List (List ℕ)) → Within (r .table) → Within (run r ms .table)
 unfolding run
 run-within r [] w = w
-run-within r (m ∷ ms) w = run-within (turn r m) ms (turn-within r m w)
+run-within r (m ∷ ms) w = run-within (turn r (readMove m)) ms (turn-within r (readMove m) w)

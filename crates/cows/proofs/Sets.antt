@@ -7,7 +7,7 @@ use lib.Dec.{ltb, leb}
 use borrow.Author.Tests.{ltb-true, leb-true, le-leb, lt-leb, lt-ltb, le-ltb}
 use Rattle.cows.specs.Terms.{value, variable, label, datum, atom}
 use Rattle.cows.specs.Allows.{SameSet}
-use Rattle.cows.proofs.Basics.{and-true}
+use Rattle.cows.proofs.Basics.{clash, and-true, or-case}
 
 -- the sets are ranges
 abbrev pub Set : Bool → Bool → Bool → ℕ → Type 0
@@ -25,6 +25,10 @@ pub in-labels : (a : ℕ) → 49152 ≤ a → a < 65536 → Set false false true
 unfolding value variable label
 in-labels a h k =
     (rw (le-leb 1 a (omega arith), le-ltb a 32768 (omega arith)), rw (le-leb 32768 a (omega arith), le-ltb a 49152 h), rw (le-leb 49152 a h, lt-ltb a 65536 k))
+
+pub datum-value : (a : ℕ) → datum a ≡ true → variable a ≡ false → value a ≡ true
+unfolding datum
+datum-value a d n = or-case _ (value a) (variable a) d (λ e. e) (λ e. clash e n)
 
 pub alike-sets : (p q r : Bool) (a b : ℕ) → Set p q r a → Set p q r b → SameSet a b
 alike-sets p q r a b h k = record { values = h .0 ∙ sym (k .0); variables = h .1 ∙ sym (k .1); labels = h .2 ∙ sym (k .2) }

@@ -2,6 +2,7 @@
 use mathlib.Core.Path.{_≡_, sym, ap, _∙_}
 use mathlib.Core.Logic.{_≢_, _↔_}
 use mathlib.Core.Bool.{false}
+use mathlib.Core.Option.{Option}
 use mathlib.Core.List.{List, _++_, _∷_}
 use Prim.Native.Nat.{ℕ, _+_, _*_, _≤_}
 use native.Mathlib.Omega.{arith}
@@ -16,7 +17,7 @@ use Rattle.cows.specs.Within.{Within}
 use Rattle.cows.specs.Moves.{Substitution, silence, Move, Kill, Communicate, Timeout, Elapse, Unfold, Extrude, successor}
 use Rattle.cows.specs.Allows.{Stands, Meets, Matches, Unheld, Tightest, Halted, Ended, Allows}
 use Rattle.cows.specs.Remains.{MeetingLeaves}
-use Rattle.cows.specs.Step.{judgeStep, stepTerm, stepReply, stepOutput}
+use Rattle.cows.specs.Step.{readMove, judgeStep, stepTerm, stepReply, stepOutput}
 use Rattle.cows.specs.Accepts.{Accepts}
 use Rattle.cows.specs.Load.{load, shielded, endedBy, dropped, lost, spent, copies}
 use Rattle.cows.specs.Run.{Run, start, judgement, run, losses}
@@ -87,7 +88,7 @@ kill-leaves t s a k w e h = kill-spares t s a k w e h
 pub accepted-within : (table m : List ℕ) (room : ℕ) (s : Term) → Accepts table m room s → Within s
 accepted-within table m room s a = accepts-within table m room s a
 
-pub successor-within : (t s : Term) (m : List ℕ) (room : ℕ) → Within t → stepTerm t m room ≡ accept s → Within s
+pub successor-within : (t s : Term) (m : Option Move) (room : ℕ) → Within t → stepTerm t m room ≡ accept s → Within s
 successor-within t s m room w e = step-within t s m room w e
 
 pub tables-within : (t : Term) (ms : List (List ℕ)) → Within t → Within (run (start t) ms .table)
@@ -129,7 +130,7 @@ pub list-bound : (t : Term) (ms : List (List ℕ)) → let r = run (start t) ms 
 list-bound t ms = run-bound t ms
 
 -- the run's judgement of a move is the step's on the table that it keeps
-pub run-steps : (r : Run) (m : List ℕ) → Within (r .table) → judgement r m ≡ judgeStep (encode (r .table)) m 32768
+pub run-steps : (r : Run) (m : List ℕ) → Within (r .table) → judgement r (readMove m) ≡ judgeStep (encode (r .table)) m 32768
 run-steps r m w = judgement-step r m w
 
 -- 5. A refusal leaves the output as it was; an acceptance changes no byte behind the successor.

@@ -53,35 +53,46 @@ killAt t a = do
   k ← wanted kills t a
   accept (afterKill k t a)
 
--- Communicate. What matching says: the tuples match and bind these variables, or something differs.
+-- Communicate. What differs, in the order in which it is looked for: a variable in the message, the endpoint, the tuples' counts, the value in a slot (from 0).
+pub data Mismatch : Type 0 where
+  unsetVariable : Mismatch
+  otherEndpoint : Mismatch
+  otherCount : Mismatch
+  otherValue : ℕ → Mismatch
+
+-- What matching says: the tuples match and bind these variables, or this differs.
 pub data Matching : Type 0 where
   binds : Substitution → Matching
-  differs : Matching
+  differs : Mismatch → Matching
 
--- a variable takes the value at its place; a value equals it
-unfoldable pub extend : ℕ → ℕ → Matching → Matching
-extend w v differs = differs
-extend w v (binds σ) = cond (variable w) (binds ((w, v) ∷ σ)) (cond (eqb w v) (binds σ) differs)
+-- a test before the rest of a matching, and what differs if it fails; a variable that takes a value besides
+unfoldable pub provided : Bool → Mismatch → Matching → Matching
+provided test d rest = cond test rest (differs d)
 
-unfoldable pub match : List ℕ → List ℕ → Matching
-match [] [] = binds []
-match [] (v ∷ vs) = differs
-match (w ∷ ws) [] = differs
-match (w ∷ ws) (v ∷ vs) = extend w v (match ws vs)
+unfoldable pub besides : ℕ → ℕ → Matching → Matching
+besides w v (binds σ) = binds ((w, v) ∷ σ)
+besides w v (differs d) = differs d
 
--- The receive r fits the invoke m: m holds no variable, endpoints are equal, and so are the tuples' counts and values.
+-- The slots of two tuples of one count, from the n-th on: a pattern variable takes the value at its place; a value equals the value sent.
+unfoldable pub match : ℕ → List ℕ → List ℕ → Matching
+match n [] vs = binds []
+match n (w ∷ ws) [] = binds []
+match n (w ∷ ws) (v ∷ vs) = let rest = match (suc n) ws vs in cond (variable w) (besides w v rest) (provided (eqb w v) (otherValue n) rest)
+
+-- The receive r fits the invoke m: m holds no variable; endpoints and tuple counts are equal; so is each value in the pattern to the value sent.
 unfoldable pub closedEnds : Ends → Bool
 closedEnds m = not (any variable (m .partner ∷ m .operation ∷ m .tuple))
 
 unfoldable pub fit : Ends → Ends → Matching
 fit r m =
-    cond (closedEnds m && eqb (r .partner) (m .partner) && eqb (r .operation) (m .operation))
-    (match (r .tuple) (m .tuple)) differs
+    provided (closedEnds m) unsetVariable
+    (provided (eqb (r .partner) (m .partner) && eqb (r .operation) (m .operation)) otherEndpoint
+    (provided (eqb (length (r .tuple)) (length (m .tuple))) otherCount (match 0 (r .tuple) (m .tuple))))
 
--- 12: endpoint, count, value or unset variable.
+-- 12: endpoint, count, value or unset variable, alike.
 unfoldable pub matched : ℕ → Matching → Result Substitution
 matched a (binds σ) = accept σ
-matched a differs = refuse 12 a
+matched a (differs d) = refuse 12 a
 
 -- 13: the delimitation of a variable encloses both parties, and that of its value, if there is one, the variable's.
 -- (A delimitation of x that stands outside every one of v.)
@@ -105,7 +116,7 @@ heldBack a b n z =
 -- 15: a ready receive that fits the same invoke and has fewer pattern variables.
 unfoldable pub fewer : ℕ → Matching → Bool
 fewer l (binds σ) = ltb (length σ) l
-fewer l differs = false
+fewer l (differs d) = false
 
 unfoldable pub tighter : Ends → ℕ → ℕ → Spot → Bool
 tighter m l n z = ready (z .way) && holds (λ r. fewer l (fit r m)) (prefixed receives (z .here))
@@ -261,5 +272,5 @@ successor t (Extrude a) = extrudeAt t a
 
 -- (for computed checks) to unfold this is to unfold every definition of this file
 unfoldable pub open-moves : Unit {0}
-unfolding haltUnder haltBoth halt haltBeside haltInside afterKill killAt extend match closedEnds fit matched outside inScope readyKill heldBack fewer tighter silence aroundChoice continue mapBasic mapPrefix mapNode mapAtoms image instantiate bind communicateAt timeoutAt lower elapse shorter elapseBy smallest least fresh renaming freshCopy afterUnfold unfoldAt fitting exchange afterExtrude extrudeAt successor
+unfolding haltUnder haltBoth halt haltBeside haltInside afterKill killAt provided besides match closedEnds fit matched outside inScope readyKill heldBack fewer tighter silence aroundChoice continue mapBasic mapPrefix mapNode mapAtoms image instantiate bind communicateAt timeoutAt lower elapse shorter elapseBy smallest least fresh renaming freshCopy afterUnfold unfoldAt fitting exchange afterExtrude extrudeAt successor
 open-moves = tt

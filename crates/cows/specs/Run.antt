@@ -7,14 +7,13 @@ use lib.Dec.{ltb}
 use lib.ListN.{length, drop, replicate}
 use Rattle.cows.specs.Limits.{maxBytes, maxListBytes}
 use Rattle.cows.specs.Basics.{placeIf, Result, refuse, accept, _>>=_, _>>_, forbid}
-use Rattle.cows.specs.Cut.{cut}
-use Rattle.cows.specs.Terms.{Term, size, below}
-use Rattle.cows.specs.Places.{sub}
+use Rattle.cows.specs.Terms.{Term, size}
 use Rattle.cows.specs.Format.{bytes2, encode}
 use Rattle.cows.specs.Tables.{judge}
 use Rattle.cows.specs.Moves.{Move, Kill, Communicate, Timeout, Elapse, Unfold, Extrude}
 use Rattle.cows.specs.Step.{Reply, readMove, stepTerm}
-use Rattle.cows.specs.Load.{load, lost}
+use Rattle.cows.specs.Load.{lost, copies}
+use Rattle.cows.specs.Cut.{cut}
 
 -- The tally: communications (meetings), kills (stops), timeouts (expiries), and the load copied by unfoldings.
 pub record Tally : Type 0 where
@@ -33,14 +32,14 @@ noTally = counted 0 0 0 0
 unfoldable pub sum : Tally → Tally → Tally
 sum c d = counted (c .communications + d .communications) (c .kills + d .kills) (c .timeouts + d .timeouts) (c .copied + d .copied)
 
--- What an accepted move counts: a meeting, a stop or an expiry 1 in its count, an unfolding the load of the body as it stood before; time and floating nothing.
-unfoldable pub counts : Term → Move → Tally
-counts t (Kill a) = counted 0 1 0 0
-counts t (Communicate a b) = counted 1 0 0 0
-counts t (Timeout a) = counted 0 0 1 0
-counts t (Elapse d) = noTally
-counts t (Unfold a) = counted 0 0 0 (load (below (sub t a)))
-counts t (Extrude a) = noTally
+-- What an accepted move that copies the load l adds to the tally: a meeting, a stop or an expiry 1 in its count, and each l.
+unfoldable pub adds : ℕ → Move → Tally
+adds l (Kill a) = counted 0 1 0 l
+adds l (Communicate a b) = counted 1 0 0 l
+adds l (Timeout a) = counted 0 0 1 l
+adds l (Elapse d) = counted 0 0 0 l
+adds l (Unfold a) = counted 0 0 0 l
+adds l (Extrude a) = counted 0 0 0 l
 
 -- The run keeps a table, at first the start table, and the tally, at first zeros.
 pub record Run : Type 0 where
@@ -50,21 +49,21 @@ pub record Run : Type 0 where
 unfoldable pub start : Term → Run
 start t = record { table = t; tally = noTally }
 
--- It judges each move singly on that table, with 32,768 bytes of output. Refused: table and tally stay. Accepted: the successor is kept and counted.
-unfoldable pub judgement : Run → List ℕ → Result Term
+-- It judges each move, as it was read, singly on that table, with 32,768 bytes of output. Refused: table and tally stay. Accepted: the successor is kept and counted.
+unfoldable pub judgement : Run → Option Move → Result Term
 judgement r m = stepTerm (r .table) m maxBytes
 
 unfoldable pub enter : Run → Option Move → Result Term → Run
 enter r move (refuse n p) = r
 enter r none (accept s) = r
-enter r (some move) (accept s) = record { table = s; tally = sum (r .tally) (counts (r .table) move) }
+enter r (some move) (accept s) = record { table = s; tally = sum (r .tally) (adds (copies (r .table) move) move) }
 
-unfoldable pub turn : Run → List ℕ → Run
-turn r m = enter r (readMove m) (judgement r m)
+unfoldable pub turn : Run → Option Move → Run
+turn r m = enter r m (judgement r m)
 
 unfoldable pub run : Run → List (List ℕ) → Run
 run r [] = r
-run r (m ∷ ms) = run (turn r m) ms
+run r (m ∷ ms) = run (turn r (readMove m)) ms
 
 -- Its reply to each: answer, place and the number of records then kept.
 unfoldable pub kept : Run → Result Term → Reply
@@ -73,7 +72,7 @@ kept r (accept s) = record { answer = 0; place = 0; records = size s }
 
 unfoldable pub replies : Run → List (List ℕ) → List Reply
 replies r [] = []
-replies r (m ∷ ms) = kept r (judgement r m) ∷ replies (turn r m) ms
+replies r (m ∷ ms) = kept r (judgement r (readMove m)) ∷ replies (turn r (readMove m)) ms
 
 -- The load that a list's accepted moves lost, each on the table that it was judged on.
 unfoldable pub lostBy : Term → Option Move → Result Term → ℕ
@@ -83,7 +82,7 @@ lostBy t (some move) (accept s) = lost t move
 
 unfoldable pub losses : Run → List (List ℕ) → ℕ
 losses r [] = 0
-losses r (m ∷ ms) = lostBy (r .table) (readMove m) (judgement r m) + losses (turn r m) ms
+losses r (m ∷ ms) = lostBy (r .table) (readMove m) (judgement r (readMove m)) + losses (turn r (readMove m)) ms
 
 -- Move n of a list is its n-th six bytes, whatever they hold; a tail of 1 to 5 bytes is no move.
 abbrev pub movesOf : List ℕ → List (List ℕ)
@@ -135,5 +134,5 @@ play table moves out slots = judgePlay table moves (length out) (length slots)
 
 -- (for computed checks) to unfold this is to unfold every definition of this file
 unfoldable pub open-run : Unit {0}
-unfolding counted noTally sum counts start judgement enter turn run kept replies lostBy losses played judgePlay playedReply playedTally playedOutput playedReplies play
+unfolding counted noTally sum adds start judgement enter turn run kept replies lostBy losses played judgePlay playedReply playedTally playedOutput playedReplies play
 open-run = tt

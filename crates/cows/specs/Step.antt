@@ -29,30 +29,32 @@ readMove m =
     ∷ [])
     (byte m 0))
 
+-- A move on a term, as it was read: 10 if it is none, and else its own refusals, 11 to 18, and the successor.
+unfoldable pub proposed : Option Move → Term → Result Term
+proposed m t = do
+  move ← need 10 0 m
+  successor t move
+
 -- 20: successor over 2,048 records or depth 256.
 unfoldable pub overLimits : Term → Bool
 overLimits s = ltb maxRecords (size s) || ltb maxDepth (depth s)
 
--- A move on a term, with no word of an output: refusals 10 to 20.
-unfoldable pub allowed : Term → List ℕ → Result Term
-allowed t m = do
-  move ← need 10 0 (readMove m)
-  s ← successor t move
+-- A successor with room for so many bytes: 20; 21, output shorter than the successor.
+unfoldable pub fitted : ℕ → Term → Result Term
+fitted room s = do
   forbid 20 (placeIf (overLimits s) 0)
-  accept s
-
--- 21: output shorter than the successor. A move on a term with room for so many bytes.
-unfoldable pub stepTerm : Term → List ℕ → ℕ → Result Term
-stepTerm t m room = do
-  s ← allowed t m
   forbid 21 (placeIf (ltb room (16 * size s)) 0)
   accept s
+
+-- A move on a term: refusals 10 to 21.
+unfoldable pub stepTerm : Term → Option Move → ℕ → Result Term
+stepTerm t m room = proposed m t >>= fitted room
 
 -- A move on a table.
 unfoldable pub judgeStep : List ℕ → List ℕ → ℕ → Result Term
 judgeStep table m room = do
   t ← judge table
-  stepTerm t m room
+  stepTerm t (readMove m) room
 
 -- The reply; the output as it then is: the successor from its start and the rest untouched, or all untouched.
 pub record Reply : Type 0 where
@@ -76,5 +78,5 @@ stepOutput table m out = written (judgeStep table m (length out)) out
 
 -- (for computed checks) to unfold this is to unfold every definition of this file
 unfoldable pub open-step : Unit {0}
-unfolding rightMove readMove overLimits allowed stepTerm judgeStep reply written stepReply stepOutput
+unfolding rightMove readMove proposed overLimits fitted stepTerm judgeStep reply written stepReply stepOutput
 open-step = tt

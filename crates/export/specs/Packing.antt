@@ -19,17 +19,17 @@ abbrev pub packed : Reply → ℕ
 packed r = r .answer + 256 * r .place + 4294967296 * r .records
 
 -- What a step on any bytes gives, its reply packed.
-pub record Stepped (table m out after : List ℕ) (r : ℕ) : Type 0 where
+pub record StepPacked (table m out after : List ℕ) (r : ℕ) : Type 0 where
   pub replies : r ≡ packed (replyOf (stepReply table m out))
   pub output : after ≡ stepOutput table m out
 
 -- communications, kills, timeouts and the load copied
-abbrev pub counts : Tally → List ℕ
-counts c = c .communications ∷ c .kills ∷ c .timeouts ∷ c .copied ∷ []
+abbrev pub fourCounts : Tally → List ℕ
+fourCounts c = c .communications ∷ c .kills ∷ c .timeouts ∷ c .copied ∷ []
 
 -- What a play on any bytes gives, its reply packed.
 pub record PlayedWith (table moves out after slots after′ tally : List ℕ) (r : ℕ) : Type 0 where
   pub replied : r ≡ packed (replyOf (playedReply (play table moves out slots)))
-  pub tallied : tally ≡ counts (tallyOf (playedTally (play table moves out slots)))
+  pub tallied : tally ≡ fourCounts (tallyOf (playedTally (play table moves out slots)))
   pub output : after ≡ playedOutput (play table moves out slots) out
   pub slots-are : after′ ≡ playedReplies (play table moves out slots) slots

@@ -5,7 +5,7 @@ ghost use mathlib.Core.Path.{_≡_};
 ghost use Rattle.cows.specs.Tables.{judge};
 ghost use Rattle.tables.specs.Verdict.{checkReply};
 ghost use Rattle.player.specs.Loads.{loadReply};
-ghost use Rattle.export.specs.Packing.{Fits, packed, Stepped, PlayedWith};
+ghost use Rattle.export.specs.Packing.{Fits, packed, StepPacked, PlayedWith};
 
 // A reply in 64 bits: the answer in the lowest 8, the place in the 24 above them, the records in the highest 32.
 fn pack(r: Reply) -> u64
@@ -29,7 +29,7 @@ pub extern "C" fn wigandoy_check(table: &[u8]) -> u64
 // One move on a table: `stepper::step`, packed.
 #[no_mangle]
 pub extern "C" fn wigandoy_step(table: &[u8], m: &[u8], out: &mut [u8]) -> u64
-    ensures { λ r. ⌜ Stepped (now (table .entry)) (now (m .entry)) (now (out .entry)) (now (out .exit)) r ⌝ }
+    ensures { λ r. ⌜ StepPacked (now (table .entry)) (now (m .entry)) (now (out .entry)) (now (out .exit)) r ⌝ }
 {
     pack(stepper::step(table, m, out))
 }

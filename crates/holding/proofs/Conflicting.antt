@@ -14,27 +14,27 @@ use Rattle.cows.specs.Kinds.{root, kindOf}
 use Rattle.cows.specs.Places.{sub}
 use Rattle.cows.specs.Format.{byte, layout, record16}
 use Rattle.cows.specs.Moves.{Matching, binds, differs, fit, fewer}
-use Rattle.cows.proofs.Fields.{kind-receive}
 use Rattle.cows.proofs.Stands.{receives-is, prefixed-is}
 use Rattle.records.specs.Holds.{Holds}
 use Rattle.records.proofs.Stands.{holds-kind}
+use Rattle.matching.specs.declared.Fit.{Fit}
 use Rattle.matching.specs.declared.Fit.the-variants.{Binds, Differs}
 use Rattle.matching.specs.Matching.{fitOf, EndsAt}
-use Rattle.matching.proofs.Parties.{receive-ends}
+use Rattle.matching.proofs.Parties.{receive-here}
 
 -- the test of a record
 abbrev pub tightening : ℕ → Ends → Term → Bool
 tightening l m r = holds (λ q. fewer l (fit q m)) (prefixed receives r)
 
-fewer-binds : (l n : ℕ) (x : Matching) → Binds n ≡ fitOf x → ltb n l ≡ fewer l x
-unfolding fewer
-fewer-binds l n (binds σ) e = ap (λ k. ltb k l) (let z : n ≡ length σ = cc in z)
-fewer-binds l n differs e = absurd (let z : _≡_ {A = ℕ} 0 1 = cc in omega arith)
+-- and of an answer
+abbrev pub fewerBound : ℕ → Fit → Bool
+fewerBound l (Binds n) = ltb n l
+fewerBound l (Differs d) = false
 
-fewer-differs : (l : ℕ) (x : Matching) → Differs ≡ fitOf x → false ≡ fewer l x
+fewer-bound : (l : ℕ) (x : Matching) → fewerBound l (fitOf x) ≡ fewer l x
 unfolding fewer
-fewer-differs l (binds σ) e = absurd (let z : _≡_ {A = ℕ} 0 1 = cc in omega arith)
-fewer-differs l differs e = refl
+fewer-bound l (binds σ) = refl
+fewer-bound l (differs d) = refl
 
 module _ (s : List ℕ) (t : Term) (i l : ℕ) (m : Ends) (h : Holds s t) (p : i < size t) where
   pub no-receive : getD s (16 * i) 0 ≢ 3 → false ≡ tightening l m (sub t i)
@@ -46,17 +46,10 @@ module _ (s : List ℕ) (t : Term) (i l : ℕ) (m : Ends) (h : Holds s t) (p : i
       go (some q) x = absurd (e (holds-kind s t i h p ∙ ap kindOf (prefixed-is receives receiveOf receives-is (sub t i) q x)))
 
   module _ (e : getD s (16 * i) 0 ≡ 3) where
-    receive-here : (q : Ends) × EndsAt s i q × (prefixed receives (sub t i) ≡ some q)
+    receiving : (q : Ends) × EndsAt s i q × (prefixed receives (sub t i) ≡ some q)
     unfolding prefixed receives
-    receive-here =
-        let (x, o, ws, z) = kind-receive (sub t i) (sym (holds-kind s t i h p) ∙ e) in
-        let q : Ends = record { partner = x; operation = o; tuple = ws } in
-        (q, receive-ends s t i h p q (below (sub t i)) z, ap (prefixed receives) z)
+    receiving = let (q, z, k) = receive-here s t i h p (sym (holds-kind s t i h p) ∙ e) in (q, k, ap (prefixed receives) z)
 
-    pub receive-fits : (n : ℕ) → ((q : Ends) → EndsAt s i q → Binds n ≡ fitOf (fit q m)) → ltb n l ≡ tightening l m (sub t i)
+    pub receive-tests : (r : Fit) → ((q : Ends) → EndsAt s i q → r ≡ fitOf (fit q m)) → fewerBound l r ≡ tightening l m (sub t i)
     unfolding holds
-    receive-fits n f = let (q, k, z) = receive-here in rw z (fewer-binds l n (fit q m) (f q k))
-
-    pub receive-differs : ((q : Ends) → EndsAt s i q → Differs ≡ fitOf (fit q m)) → false ≡ tightening l m (sub t i)
-    unfolding holds
-    receive-differs f = let (q, k, z) = receive-here in rw z (fewer-differs l (fit q m) (f q k))
+    receive-tests r f = let (q, k, z) = receiving in rw (z, f q k) (fewer-bound l (fit q m))

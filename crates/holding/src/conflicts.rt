@@ -3,6 +3,7 @@ use crate::ready_kind;
 use matching::Fit;
 use matching::fits_closed;
 use records::Found;
+use records::kinds;
 use records::wide16;
 ghost use mathlib.Core.Path.{_≡_};
 ghost use mathlib.Core.Bool.{true};
@@ -22,7 +23,7 @@ fn tighter(s: &[u8], i: usize, b: usize, l: usize) -> bool
     requires { ⌜ (16 * i + 15 < length (now s)) × (16 * b + 15 < length (now s)) ⌝ }
     ensures { λ r. ⌜ ((t : Term) (m : Ends) → Holds (now (s .entry)) t → i < size t → EndsAt (now (s .entry)) b m → closedEnds m ≡ true → r ≡ holds (λ q. fewer l (fit q m)) (prefixed receives (sub t i))) ⌝ }
 {
-    if s[16 * i] != 3 {
+    if s[16 * i] != kinds::RECEIVE {
         return false;
     }
     let Fit::Binds(n) = fits_closed(s, i, b) else {

@@ -1,7 +1,6 @@
-// Matching: whether a receive fits an invoke, by the atoms of their records. The meeting and the conflict test both ask it.
+// Matching: whether a receive fits an invoke, by the atoms of their records, and what differs if not. The meeting and the conflict test both ask it.
 pub mod taking;
 
-use records::Atom;
 use records::atom_at;
 use records::closed;
 use records::equal;
@@ -11,65 +10,57 @@ ghost use mathlib.Core.Path.{_≡_};
 ghost use mathlib.Core.Bool.{true};
 ghost use Prim.Native.Nat.{_+_, _*_, _≤_, _<_};
 ghost use lib.ListN.{length};
-ghost use Rattle.cows.specs.Terms.{Ends};
+ghost use Rattle.cows.specs.Terms.{Ends, variable};
 ghost use Rattle.cows.specs.Format.{word};
 ghost use Rattle.cows.specs.Moves.{closedEnds, fit};
-ghost use Rattle.records.specs.Atoms.{classOf};
-ghost use Rattle.matching.specs.Matching.{fitOf, slotOf, agrees, boundIn, slotsAt, EndsAt};
+ghost use Rattle.records.specs.Ends.{oneIf};
+ghost use Rattle.matching.specs.Matching.{fitOf, agree, firstApart, slotsAt, EndsAt};
 
-// The tuples match and bind so many variables, or something differs.
+// What differs, in the order in which it is looked for; a slot of the tuples by its index.
+pub enum Difference {
+    Unset,
+    Endpoint,
+    Count,
+    Slot(usize),
+}
+
+// The tuples match and bind so many variables, or this differs.
 pub enum Fit {
     Binds(usize),
-    Differs,
+    Differs(Difference),
 }
 
-// In one slot: a variable takes the value there, a value is the same, or they are not.
-enum SlotFit {
-    Takes,
-    Same,
-    Other,
-}
-
-// The atom w of a pattern, and the atom v of a message at its place.
-fn slot(w: Atom, v: Atom) -> SlotFit
-    ensures { λ r. ⌜ r ≡ slotOf w v ⌝ }
-{
-    if is_variable(w) {
-        return SlotFit::Takes;
-    }
-    if equal(w, v) {
-        return SlotFit::Same;
-    }
-    SlotFit::Other
-}
-
-fn agrees(w: SlotFit) -> bool
-    ensures { λ r. ⌜ r ≡ agrees w ⌝ }
-{
-    match w {
-        SlotFit::Takes => true,
-        SlotFit::Same => true,
-        SlotFit::Other => false,
-    }
-}
-
-// How many variables are bound there.
-fn bound_in(w: SlotFit) -> usize
-    ensures { λ r. ⌜ (r ≡ boundIn w) × (r ≤ 1) ⌝ }
-{
-    match w {
-        SlotFit::Takes => 1,
-        SlotFit::Same => 0,
-        SlotFit::Other => 0,
-    }
-}
-
-// The slots at byte k of a pattern and at byte m of a message.
-fn slot_at(s: &[u8], k: usize, m: usize) -> SlotFit
+// Whether the slot at byte k of a pattern and that at byte m of a message agree: a variable takes the value there, a value is the same.
+fn agrees_at(s: &[u8], k: usize, m: usize) -> bool
     requires { ⌜ (k + 1 < length (now s)) × (m + 1 < length (now s)) ⌝ }
-    ensures { λ r. ⌜ r ≡ slotOf (classOf (word (now (s .entry)) k)) (classOf (word (now (s .entry)) m)) ⌝ }
+    ensures { λ r. ⌜ r ≡ agree (word (now (s .entry)) k) (word (now (s .entry)) m) ⌝ }
 {
-    slot(atom_at(s, k), atom_at(s, m))
+    let w = atom_at(s, k);
+    is_variable(w) | equal(w, atom_at(s, m))
+}
+
+// How many variables stand at byte k: one or none.
+fn variables_at(s: &[u8], k: usize) -> usize
+    requires { ⌜ k + 1 < length (now s) ⌝ }
+    ensures { λ r. ⌜ (r ≡ oneIf (variable (word (now (s .entry)) k))) × (r ≤ 1) ⌝ }
+{
+    is_variable(atom_at(s, k)) as usize
+}
+
+// The index of the first of four slots that does not agree: w, x and y say of the first three whether they do.
+fn first_apart(w: bool, x: bool, y: bool) -> usize
+    ensures { λ r. ⌜ r ≡ firstApart w x y ⌝ }
+{
+    if !w {
+        return 0;
+    }
+    if !x {
+        return 1;
+    }
+    if !y {
+        return 2;
+    }
+    3
 }
 
 // The tuples of the records at bytes k and m, slot by slot.
@@ -77,14 +68,15 @@ fn slots_fit(s: &[u8], k: usize, m: usize) -> Fit
     requires { ⌜ (k + 15 < length (now s)) × (m + 15 < length (now s)) ⌝ }
     ensures { λ r. ⌜ r ≡ slotsAt (now (s .entry)) k m ⌝ }
 {
-    let w = slot_at(s, k + 6, m + 6);
-    let x = slot_at(s, k + 8, m + 8);
-    let y = slot_at(s, k + 10, m + 10);
-    let z = slot_at(s, k + 12, m + 12);
-    if !(agrees(w) & (agrees(x) & (agrees(y) & agrees(z)))) {
-        return Fit::Differs;
+    let w = agrees_at(s, k + 6, m + 6);
+    let x = agrees_at(s, k + 8, m + 8);
+    let y = agrees_at(s, k + 10, m + 10);
+    let z = agrees_at(s, k + 12, m + 12);
+    if !(w & (x & (y & z))) {
+        return Fit::Differs(Difference::Slot(first_apart(w, x, y)));
     }
-    Fit::Binds(bound_in(w) + bound_in(x) + bound_in(y) + bound_in(z))
+    let front = variables_at(s, k + 6) + variables_at(s, k + 8);
+    Fit::Binds(front + variables_at(s, k + 10) + variables_at(s, k + 12))
 }
 
 // Whether the receive at place a fits the invoke at place b, which holds no variable.
@@ -94,11 +86,11 @@ pub fn fits_closed(s: &[u8], a: usize, b: usize) -> Fit
 {
     let k = 16 * a;
     let m = 16 * b;
-    if (word_at(s, k + 2) != word_at(s, m + 2)) | (word_at(s, k + 4) != word_at(s, m + 4)) {
-        return Fit::Differs;
+    if !((word_at(s, k + 2) == word_at(s, m + 2)) & (word_at(s, k + 4) == word_at(s, m + 4))) {
+        return Fit::Differs(Difference::Endpoint);
     }
     if s[k + 1] != s[m + 1] {
-        return Fit::Differs;
+        return Fit::Differs(Difference::Count);
     }
     slots_fit(s, k, m)
 }
@@ -109,7 +101,7 @@ pub fn fits(s: &[u8], a: usize, b: usize) -> Fit
     ensures { λ r. ⌜ ((q m : Ends) → EndsAt (now (s .entry)) a q → EndsAt (now (s .entry)) b m → r ≡ fitOf (fit q m)) ⌝ }
 {
     if !closed(s, 16 * b) {
-        return Fit::Differs;
+        return Fit::Differs(Difference::Unset);
     }
     fits_closed(s, a, b)
 }

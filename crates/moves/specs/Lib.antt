@@ -1,1 +1,1 @@
-pub mod Proposals
+pub mod Places

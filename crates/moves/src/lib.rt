@@ -2,26 +2,18 @@
 use plans::Judgement;
 use plans::Plan;
 use plans::refused;
+use proposals::Move;
 ghost use Rattle.cows.specs.Terms.{Term};
+ghost use Rattle.cows.specs.Step.{proposed};
 ghost use Rattle.ways.specs.Known.{Table, Known};
 ghost use Rattle.plans.specs.Plans.{Planned, Asks, Gives};
-ghost use Rattle.moves.specs.Proposals.{proposed, placeIn};
-
-// A move as it is read off its six bytes, or none.
-pub enum Move {
-    Kill(usize),
-    Communicate(usize, usize),
-    Timeout(usize),
-    Elapse(u16),
-    Unfold(usize),
-    Extrude(usize),
-    None,
-}
+ghost use Rattle.proposals.specs.Proposals.{moveOf};
+ghost use Rattle.moves.specs.Places.{planPlace};
 
 // A move on a known table is judged: whether it is allowed, how many records its successor has, and from which place on the table changes.
 pub fn judge(s: &[u8], ends: &[u16], m: Move) -> Plan
     requires { ⌜ Known (now s) (now ends) ⌝ }
-    ensures { λ r. ⌜ ((t : Term) → Table (now (s .entry)) (now (ends .entry)) t → Planned (proposed m t) (placeIn m t) r) ⌝ }
+    ensures { λ r. ⌜ ((t : Term) → Table (now (s .entry)) (now (ends .entry)) t → Planned (proposed (moveOf m) t) (planPlace m t) r) ⌝ }
 {
     match m {
         Move::Kill(a) => kill::judge(s, ends, a),
@@ -36,8 +28,8 @@ pub fn judge(s: &[u8], ends: &[u16], m: Move) -> Plan
 
 // The successor of a move that is allowed; `from` is the place of its plan.
 pub fn write(s: &[u8], ends: &[u16], m: Move, from: usize, out: &mut [u8])
-    requires { ⌜ Asks (proposed m) (placeIn m) (now s) (now ends) from (now out) ⌝ }
-    ensures { λ _. ⌜ Gives (proposed m) (now (s .entry)) (now (ends .entry)) (now (out .entry)) (now (out .exit)) ⌝ }
+    requires { ⌜ Asks (proposed (moveOf m)) (planPlace m) (now s) (now ends) from (now out) ⌝ }
+    ensures { λ _. ⌜ Gives (proposed (moveOf m)) (now (s .entry)) (now (ends .entry)) (now (out .entry)) (now (out .exit)) ⌝ }
 {
     match m {
         Move::Kill(a) => kill::write(s, ends, a, from, out),

@@ -1,19 +1,21 @@
 -- A list of moves (specs/Nights): the state before the first move, one move more, and the end.
 use mathlib.Core.Path.{_≡_, refl, sym, ap, subst, _∙_}
 use mathlib.Core.List.{List, [], _∷_, _++_, flatMap}
+use mathlib.Core.Option.{Option}
 use Prim.Native.Nat.{ℕ, _+_, _*_, _-_, _/_, _≤_, _<_}
 use native.Mathlib.Omega.{arith}
 use native.Mathlib.Numerals.{add-one}
 use lib.ListN.{length, getD, take, drop, length-append, length-drop}
-use lib.Seq.{sets-eq, getD-take, getD-drop, take-at, drop-at, drop-drop, length-take-le}
+use lib.Seq.{sets-eq, getD-take, getD-drop, take-at, drop-at, drop-drop}
 use Rattle.cows.specs.Basics.{Result, refuse, accept}
 use Rattle.cows.specs.Terms.{Term, size}
 use Rattle.cows.specs.Format.{bytes2, byte, word}
-use Rattle.cows.specs.Step.{Reply, stepTerm}
+use Rattle.cows.specs.Moves.{Move}
+use Rattle.cows.specs.Step.{Reply, readMove, stepTerm}
 use Rattle.cows.specs.Run.{noTally, Run, start, run, judgement, turn, kept, replies, replyBytes, reply6}
 use Rattle.cows.specs.Cut.{cut, pieces}
 use Rattle.cows.proofs.Lists.{run-more, replies-more, bytes-more, length-replies, length-bytes}
-use Rattle.cows.proofs.Step.{Below, below-step}
+use Rattle.cows.proofs.Bounds.{Below, read-small, below-step}
 use Rattle.cows.proofs.Cut.{length-pieces, pieces-more}
 use Rattle.records.specs.Rewrites.{put}
 use Rattle.tables.specs.declared.Reply as code
@@ -22,24 +24,24 @@ use Rattle.tally.specs.Counted.{tallyOf, Small}
 use Rattle.tally.proofs.Counting.{zeros-small, sum-small}
 use Rattle.player.specs.declared.turns.Kept.{Kept}
 use Rattle.player.specs.declared.turns.Next.{Next}
-use Rattle.player.specs.Turns.{Keeps, Goes}
-use Rattle.player.specs.Nights.{sixBytes, bookAt, repliesAt, moveAt, Ready, Made, Recorded, Opens, Playing, Ends}
+use Rattle.player.specs.Turns.{KeepsRun, GoesOn}
+use Rattle.player.specs.Nights.{sixBytes, bookAt, repliesAt, bytesAt, moveAt, CanMove, Made, Recorded, CanPlay, Playing, NightOver}
 use Rattle.player.proofs.Turning.{kept-records}
 
-pub part-move : (l : List ℕ) (i : ℕ) → take (6 * i + 6 - 6 * i) (drop (6 * i) l) ≡ moveAt l i
+pub part-move : (l : List ℕ) (i : ℕ) → readMove (take (6 * i + 6 - 6 * i) (drop (6 * i) l)) ≡ moveAt l i
 part-move l i = let e : 6 * i + 6 - 6 * i ≡ 6 = omega arith in rw e
 
-pub moved : {m v x y ends x′ y′ ends′ : List ℕ} {k : Kept} {r : Next} → m ≡ v → Goes m k x y ends x′ y′ ends′ r → Goes v k x y ends x′ y′ ends′ r
-moved {x = x} {y = y} {ends = ends} {x′ = x′} {y′ = y′} {ends′ = ends′} {k = k} {r = r} e g = subst (λ m. Goes m k x y ends x′ y′ ends′ r) e g
+pub moved : {m v : Option Move} {x y ends x′ y′ ends′ : List ℕ} {k : Kept} {r : Next} → m ≡ v → GoesOn m k x y ends x′ y′ ends′ r → GoesOn v k x y ends x′ y′ ends′ r
+moved {x = x} {y = y} {ends = ends} {x′ = x′} {y′ = y′} {ends′ = ends′} {k = k} {r = r} e g = subst (λ m. GoesOn m k x y ends x′ y′ ends′ r) e g
 
 -- the book with one move more
 book-next : (t : Term) (l : List ℕ) (i : ℕ) → bookAt t l (i + 1) ≡ turn (bookAt t l i) (moveAt l i)
 unfolding bookAt
-book-next t l i = rw (add-one i, pieces-more 6 i l) (run-more (start t) (pieces 6 i l) (moveAt l i))
+book-next t l i = rw (add-one i, pieces-more 6 i l) (run-more (start t) (pieces 6 i l) (bytesAt l i))
 
 replies-next : (t : Term) (l : List ℕ) (i : ℕ) → repliesAt t l (i + 1) ≡ repliesAt t l i ++ (kept (bookAt t l i) (judgement (bookAt t l i) (moveAt l i)) ∷ [])
 unfolding bookAt repliesAt
-replies-next t l i = rw (add-one i, pieces-more 6 i l) (replies-more (start t) (pieces 6 i l) (moveAt l i))
+replies-next t l i = rw (add-one i, pieces-more 6 i l) (replies-more (start t) (pieces 6 i l) (bytesAt l i))
 
 -- their bytes: six a move
 bytes-long : (t : Term) (l : List ℕ) (i : ℕ) → length (replyBytes (repliesAt t l i)) ≡ 6 * i
@@ -64,26 +66,23 @@ put-next front slots six i f s h =
 
 -- the numbers that a reply has fit into two bytes
 module _ (l : List ℕ) (small : (k : ℕ) → getD l k 0 < 256) (i : ℕ) where
-  byte-small : (k : ℕ) → k < 6 → getD (moveAt l i) k 0 < 256
+  byte-small : (k : ℕ) → k < 6 → getD (bytesAt l i) k 0 < 256
   byte-small k h = rw (getD-take 6 (drop (6 * i) l) k 0 h, getD-drop (6 * i) l k 0) (small (6 * i + k))
 
   place-small : (q : Run) → size (q .table) ≤ 2048 → kept q (judgement q (moveAt l i)) .place < 65536
   unfolding kept judgement word byte
   place-small q h =
       go (stepTerm (q .table) (moveAt l i) 32768)
-      (below-step (q .table) 65536 (omega arith) (moveAt l i) 32768 (omega (arith, byte-small 2 (omega arith), byte-small 3 (omega arith)))
-      (omega (arith, byte-small 4 (omega arith), byte-small 5 (omega arith))))
+      (below-step 65536 (q .table) (omega arith) (omega arith) (moveAt l i) 32768
+      (read-small 65536 (bytesAt l i) (omega (arith, byte-small 2 (omega arith), byte-small 3 (omega arith))) (omega (arith, byte-small 4 (omega arith), byte-small 5 (omega arith)))))
     where
       go : (x : Result Term) → Below 65536 x → kept q x .place < 65536
       go (refuse n p) b = b .1
       go (accept s) b = omega arith
 
 -- a move of the list (`move_at`): what its parts ask, and what it gives
-module _ (moves : List ℕ) (i : ℕ) (k : Kept) (x y ends slots : List ℕ) (o : Ready moves i k x y ends slots) where
-  pub move-six : length (moveAt moves i) ≡ 6
-  move-six = length-take-le 6 (drop (6 * i) moves) (omega (arith, length-drop (6 * i) moves, o .inside))
-
-  module _ (x′ y′ ends′ : List ℕ) (r : Next) (g : Goes (moveAt moves i) k x y ends x′ y′ ends′ r) where
+module _ (moves : List ℕ) (i : ℕ) (k : Kept) (x y ends slots : List ℕ) (o : CanMove moves i k x y ends slots) where
+  module _ (x′ y′ ends′ : List ℕ) (r : Next) (g : GoesOn (moveAt moves i) k x y ends x′ y′ ends′ r) where
     pub reply-fits : ((j : ℕ) → getD moves j 0 < 256) → (r .reply .place < 65536) × (r .reply .records < 65536)
     reply-fits small =
         let q = o .going .run in
@@ -103,7 +102,7 @@ module _ (moves : List ℕ) (i : ℕ) (k : Kept) (x y ends slots : List ℕ) (o 
     }
 
 -- before the first move
-module _ (moves : List ℕ) (n : ℕ) (first : Kept) (x₀ y₀ ends₀ slots : List ℕ) (o : Opens moves n first x₀ y₀ ends₀ slots) where
+module _ (moves : List ℕ) (n : ℕ) (first : Kept) (x₀ y₀ ends₀ slots : List ℕ) (o : CanPlay moves n first x₀ y₀ ends₀ slots) where
   pub opening : (c : Tally) → c ≡ tallyOf noTally → Playing moves first x₀ y₀ ends₀ slots 0 first x₀ y₀ ends₀ slots c
   unfolding bookAt repliesAt pieces run replies start flatMap
   opening c e = record {
@@ -121,7 +120,7 @@ module _ (moves : List ℕ) (n : ℕ) (first : Kept) (x₀ y₀ ends₀ slots : 
   module _ (i : ℕ) (k : Kept) (x y ends replied : List ℕ) (c : Tally) (p : Playing moves first x₀ y₀ ends₀ slots i k x y ends replied c) where
     -- one move more
     module _ (more : i < n) where
-      pub playing-ready : Ready moves i k x y ends replied
+      pub playing-ready : CanMove moves i k x y ends replied
       playing-ready = record {
         going = record { run = bookAt (o .term) moves i; keeps = p .keeps (o .term) (o .keeps) };
         inside = omega (arith, o .all);
@@ -150,12 +149,12 @@ module _ (moves : List ℕ) (n : ℕ) (first : Kept) (x₀ y₀ ends₀ slots : 
       }
 
     -- after the last
-    pub playing-ends : n ≤ i → (t : Term) → Keeps (start t) x₀ y₀ ends₀ first → Ends t moves x y ends slots replied (record { kept = k; tally = c })
+    pub playing-ends : n ≤ i → (t : Term) → KeepsRun (start t) x₀ y₀ ends₀ first → NightOver t moves x y ends slots replied (record { kept = k; tally = c })
     unfolding cut bookAt repliesAt
     playing-ends over t h =
         let e : i ≡ length moves / 6 = omega (arith, o .all, p .inside) in
         record {
-          keeps = subst (λ j. Keeps (bookAt t moves j) x y ends k) e (p .keeps t h);
+          keeps = subst (λ j. KeepsRun (bookAt t moves j) x y ends k) e (p .keeps t h);
           replied = subst (λ j. replied ≡ replyBytes (repliesAt t moves j) ++ drop (6 * j) slots) e (p .replies-are t h);
           tallied = subst (λ j. c ≡ tallyOf (bookAt t moves j .tally)) e (p .tallied t h);
         }

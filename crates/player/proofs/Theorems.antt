@@ -21,7 +21,7 @@ use Rattle.cows.proofs.Cut.{length-cut}
 use Rattle.tables.specs.declared.Reply.{Reply}
 use Rattle.tally.specs.declared.Tally.{Tally}
 use Rattle.player.specs.declared.Played.{Played}
-use Rattle.player.specs.Nights.{Gives, Plays}
+use Rattle.player.specs.Nights.{PlayGives, Plays}
 use Rattle.player.proofs.Whole.{play-judged}
 use Rattle.player.specs.Demand.{book, Refused, Followed, Demand3}
 
@@ -29,11 +29,11 @@ whole-is : (p : Played) {r : Reply} {c : Tally} → p .reply ≡ r → p .tally 
 whole-is p {r} e f = ap (λ (x : Reply). record { reply = x; tally = p .tally }) e ∙ ap (λ (x : Tally). record { reply = r; tally = x }) f
 
 module _ (table moves out after slots after′ : List ℕ) (p : Played) (t : Term) (formed : judge table ≡ accept t) (plays : Plays table moves out after slots after′ p) where
-  refused : (n : ℕ) → Gives (refuse n 0) out after slots after′ p → Refused n out after slots after′ p
+  refused : (n : ℕ) → PlayGives (refuse n 0) out after slots after′ p → Refused n out after slots after′ p
   unfolding playedReply playedTally playedOutput playedReplies
   refused n g = record { reply = whole-is p (g .replied) (g .tallied); output = g .output; slots-are = g .slots-are }
 
-  followed : Gives (accept (played t (movesOf moves))) out after slots after′ p → Within t → Followed t moves out after slots after′ p
+  followed : PlayGives (accept (played t (movesOf moves))) out after slots after′ p → Within t → Followed t moves out after slots after′ p
   unfolding played playedReply playedTally playedOutput playedReplies book
   followed g w =
       let n = length-replies (start t) (movesOf moves) ∙ length-cut 6 moves in

@@ -2,58 +2,65 @@
 use mathlib.Core.Path.{_≡_, refl, sym, ap, subst, _∙_}
 use mathlib.Core.Logic.{_≢_}
 use mathlib.Core.Bool.{Bool, true, false, not, cond}
-use mathlib.Core.List.{List, _++_}
-use mathlib.Core.Option.{some}
+use mathlib.Core.List.{List, [], _∷_, _++_}
+use mathlib.Core.Option.{Option, some}
 use Prim.Native.Nat.{ℕ, zero, suc, _+_, _*_, _/_, _≤_, _<_}
 use native.Mathlib.Omega.{arith}
 use lib.Dec.{eqb}
 use lib.ListN.{length, getD, take, drop, length-append, length-drop}
 use lib.Seq.{take-at, length-take-le}
+use types.Run.{OneOf, miss}
+use denote.Enum.Declared.{tagOf}
 use borrow.Author.Tests.{ne-eqb}
 use Rattle.cows.specs.Basics.{Result, refuse, accept}
 use Rattle.cows.specs.Terms.{Term, under, replication, size, prefixed, replicates, below}
 use Rattle.cows.specs.Places.{sub}
-use Rattle.cows.specs.Format.{byte, word, encode}
+use Rattle.cows.specs.Format.{encode}
 use Rattle.cows.specs.Active.{wanted}
 use Rattle.cows.specs.Within.{Within}
 use Rattle.cows.specs.Allows.{Live}
-use Rattle.cows.specs.Moves.{Move, Unfold, unfoldAt, successor}
-use Rattle.cows.specs.Step.{readMove, stepTerm, reply, written}
+use Rattle.cows.specs.Moves.{Move, unfoldAt, successor}
+use Rattle.cows.specs.Step.{stepTerm, reply, written}
 use Rattle.cows.specs.Load.{load, copies}
-use Rattle.cows.specs.Run.{noTally, sum, counts, Run, judgement, enter, turn, kept}
-use Rattle.cows.proofs.Basics.{bind-accept}
+use Rattle.cows.specs.Run.{noTally, sum, adds, Run, judgement, enter, turn, kept}
+use Rattle.cows.proofs.Basics.{bind-accept, same-some}
 use Rattle.cows.proofs.Format.{length-encode}
 use Rattle.cows.proofs.Stands.{replicates-is, prefixed-is, wanted-live}
 use Rattle.cows.proofs.Step as steps
-use Rattle.cows.proofs.Step.{Below, below-step, read-case}
+use Rattle.cows.proofs.Bounds.{step-from-one}
 use Rattle.cows.proofs.Preserving.{step-within}
 use Rattle.records.specs.Ends.{EndsFrom}
 use Rattle.ways.specs.Known.{Table, Known}
 use Rattle.ways.proofs.Tables.{one-table, table-size}
 use Rattle.tables.specs.declared.Reply.{Reply}
+use Rattle.proposals.specs.declared.Move as code
+use Rattle.proposals.specs.declared.Move.the-variants.{Kill, Communicate, Timeout, Elapse, Unfold, Extrude, None}
+use Rattle.proposals.specs.Proposals.{moveOf}
+use Rattle.proposals.proofs.Move as kinds
 use Rattle.stepper.specs.Replies.{replyOf, Answers}
 use Rattle.stepper.proofs.Stepping.{table-known}
 use Rattle.tally.specs.declared.Tally.{Tally}
-use Rattle.tally.specs.Counted.{tallyOf, countsOf, sumOf, Small}
-use Rattle.tally.proofs.Counting.{sum-zeros, counted-reads, zeros-small, counts-small}
+use Rattle.tally.specs.Counted.{tallyOf, sumOf, Small}
+use Rattle.tally.proofs.Counting.{sum-zeros, sum-adds, zeros-small, adds-small}
 use Rattle.player.specs.declared.turns.Kept.{Kept}
 use Rattle.player.specs.declared.turns.Tried.{Tried}
 use Rattle.player.specs.Loads.{loadBetween}
-use Rattle.player.specs.Turns.{held, Accepted, Copied, Asks, Judged, Begins, Turned, Keeps, Going, keptAfter, Goes}
+use Rattle.player.specs.Turns.{held, Accepted, Copied, CanTry, Judged, CanTurn, Turned, KeepsRun, Going, keptAfter, GoesOn}
 use Rattle.player.proofs.Loading.{body-load}
 
--- only a move of kind 4, an unfolding, copies anything
-pub copied-none : (s ends m : List ℕ) → getD m 0 0 ≢ 4 → Copied s ends m 0
-unfolding copies byte
-copied-none s ends m h = record {
-  is = λ t _ v e. read-case (λ kind v. kind ≢ 4 → 0 ≡ copies t v) m (λ _. refl) (λ _. refl) (λ _. refl) (λ _. refl) (λ k. absurd (k refl)) (λ _. refl) v e h;
-  few = omega arith;
-}
-
-read-unfold : (m : List ℕ) (v : Move) → readMove m ≡ some v → getD m 0 0 ≡ 4 → Unfold (word m 2) ≡ v
-unfolding byte
-read-unfold m v e h =
-    read-case (λ kind v. kind ≡ 4 → Unfold (word m 2) ≡ v) m (λ z. absurd (omega arith)) (λ z. absurd (omega arith)) (λ z. absurd (omega arith)) (λ z. absurd (omega arith)) (λ _. refl) (λ z. absurd (omega arith)) v e h
+-- only an unfolding copies anything
+pub copied-none : (s ends : List ℕ) (m : code.Move) → OneOf (0 ∷ 1 ∷ 2 ∷ 3 ∷ 5 ∷ 6 ∷ []) (tagOf kinds.the-type m) → Copied s ends m 0
+unfolding copies
+copied-none s ends m h = record { is = λ t _ v e. none m h t v e; few = omega arith }
+  where
+    none : (m : code.Move) → OneOf (0 ∷ 1 ∷ 2 ∷ 3 ∷ 5 ∷ 6 ∷ []) (tagOf kinds.the-type m) → (t : Term) (v : Move) → moveOf m ≡ some v → 0 ≡ copies t v
+    none (Kill a) h t v e = ap (copies t) (same-some e)
+    none (Communicate a b) h t v e = ap (copies t) (same-some e)
+    none (Timeout a) h t v e = ap (copies t) (same-some e)
+    none (Elapse d) h t v e = ap (copies t) (same-some e)
+    none (Unfold a) h t v e = absurd (miss (0 ∷ 1 ∷ 2 ∷ 3 ∷ 5 ∷ 6 ∷ []) 4 tt h)
+    none (Extrude a) h t v e = ap (copies t) (same-some e)
+    none None h t v e = absurd (let z : _≡_ {A = ℕ} 0 1 = cc in omega arith)
 
 unfold-live : (t s : Term) (a : ℕ) → unfoldAt t a ≡ accept s → Live t a (under replication (below (sub t a)))
 unfolding unfoldAt
@@ -61,26 +68,26 @@ unfold-live t s a e =
     let (x, ex, es) = bind-accept (wanted (prefixed replicates) t a) _ s e in
     wanted-live (prefixed replicates) t a x (under replication (below (sub t a))) (prefixed-is replicates (λ _. replication) replicates-is (sub t a) x) ex
 
-pub accepted-unfolds : (s ends m : List ℕ) (h : Accepted s ends m) → getD m 0 0 ≡ 4 → Live (h .known .term) (word m 2) (under replication (below (sub (h .known .term) (word m 2))))
-accepted-unfolds s ends m h k =
-    let a = steps.step-accepted (h .known .term) (h .successor) m 32768 (h .accepted) in
-    unfold-live (h .known .term) (h .successor) (word m 2)
-    (unfold successor in subst (λ v. successor (h .known .term) v ≡ accept (h .successor)) (sym (read-unfold m (a .move) (a .reads) k)) (a .moves))
+module _ (s ends : List ℕ) {m : code.Move} (h : Accepted s ends m) {a : ℕ} (unfolds : m ≡ Unfold a) where
+  accepted-unfolds : Live (h .known .term) a (under replication (below (sub (h .known .term) a)))
+  unfolding successor
+  accepted-unfolds =
+      let x = steps.step-accepted (h .known .term) (h .successor) (moveOf m) 32768 (h .accepted) in
+      unfold-live (h .known .term) (h .successor) a (subst (λ v. successor (h .known .term) v ≡ accept (h .successor)) (same-some (sym (x .reads) ∙ ap moveOf unfolds)) (x .moves))
 
-pub unfold-inside : (s ends m : List ℕ) (h : Accepted s ends m) → getD m 0 0 ≡ 4 → (a : ℕ) → a ≡ word m 2 → a < length s / 16
-unfold-inside s ends m h k a e = omega (arith, accepted-unfolds s ends m h k .at .placed, table-size s ends (h .known .term) (h .known .table), e)
+  pub unfold-inside : a < length s / 16
+  unfold-inside = omega (arith, accepted-unfolds .at .placed, table-size s ends (h .known .term) (h .known .table))
 
-pub copied-body : (s ends m : List ℕ) (h : Accepted s ends m) → getD m 0 0 ≡ 4 → (a r : ℕ) → a ≡ word m 2 → r ≡ loadBetween s (a + 1) (getD ends a 0) → r ≤ 2048 → Copied s ends m r
-unfolding copies
-copied-body s ends m h k a r ea er few = record {
-  is = λ t ht v e.
-      let l = accepted-unfolds s ends m h k in
-      let same = one-table s ends t (h .known .term) ht (h .known .table) in
-      let is : loadBetween s (word m 2 + 1) (getD ends (word m 2) 0) ≡ load (below (sub t (word m 2))) =
-      rw same (body-load s ends (h .known .term) (h .known .table) (word m 2) (l .at .placed) replication _ (l .at .stands)) in
-      subst (λ w. r ≡ copies t w) (read-unfold m v e k) (er ∙ (ap (λ (b : ℕ). loadBetween s (b + 1) (getD ends b 0)) ea ∙ is));
-  few = few;
-}
+  pub copied-body : (r : ℕ) → r ≡ loadBetween s (a + 1) (getD ends a 0) → r ≤ 2048 → Copied s ends m r
+  unfolding copies
+  copied-body r er few = record {
+    is = λ t ht v e.
+        let same = one-table s ends t (h .known .term) ht (h .known .table) in
+        let is : loadBetween s (a + 1) (getD ends a 0) ≡ load (below (sub t a)) =
+        rw same (body-load s ends (h .known .term) (h .known .table) a (accepted-unfolds .at .placed) replication _ (accepted-unfolds .at .stands)) in
+        subst (λ w. r ≡ copies t w) (same-some (sym (ap moveOf unfolds) ∙ e)) (er ∙ is);
+    few = few;
+  }
 
 -- what a reply says of the result that it answers
 answer-refused : (x : Result Term) (r : Reply) → r ≡ replyOf (reply x) → r .answer ≢ 0 → (n : ℕ) × (p : ℕ) × (x ≡ refuse n p)
@@ -88,63 +95,61 @@ unfolding reply
 answer-refused (refuse n p) r e h = (n, p, refl)
 answer-refused (accept s) r e h = absurd (h (ap (λ q. q .answer) e))
 
-answer-accepted : (b : ℕ) (x : Result Term) (r : Reply) → Below b x → r ≡ replyOf (reply x) → r .answer ≡ 0 → (s : Term) × (x ≡ accept s)
+answer-accepted : (x : Result Term) (r : Reply) → ((n p : ℕ) → x ≡ refuse n p → 1 ≤ n) → r ≡ replyOf (reply x) → r .answer ≡ 0 → (s : Term) × (x ≡ accept s)
 unfolding reply
-answer-accepted b (refuse n p) r k e h = absurd (omega (arith, k .0, ap (λ q. q .answer) e, h))
-answer-accepted b (accept s) r k e h = (s, refl)
+answer-accepted (refuse n p) r k e h = absurd (omega (arith, k n p refl, ap (λ q. q .answer) e, h))
+answer-accepted (accept s) r k e h = (s, refl)
 
-pub judgement-accepted : (q : Run) (m : List ℕ) (r : Reply) → r ≡ replyOf (reply (judgement q m)) → r .answer ≡ 0 → (s : Term) × (judgement q m ≡ accept s)
+pub judgement-accepted : (q : Run) (m : Option Move) (r : Reply) → r ≡ replyOf (reply (judgement q m)) → r .answer ≡ 0 → (s : Term) × (judgement q m ≡ accept s)
 unfolding judgement
-judgement-accepted q m r e h =
-    let b = suc (size (q .table) + word m 2 + word m 4) in
-    answer-accepted b (stepTerm (q .table) m 32768) r (below-step (q .table) b (omega arith) m 32768 (omega arith) (omega arith)) e h
+judgement-accepted q m r e h = answer-accepted (stepTerm (q .table) m 32768) r (step-from-one (q .table) m 32768) e h
 
 -- the step's answer with a buffer for any successor is the run's; an accepted move
-pub answers-run : (q : Run) (m to after : List ℕ) (r : Reply) → length to ≡ 32768 → Answers (stepTerm (q .table) m (length to)) to after r → Answers (judgement q m) to after r
+pub answers-run : (q : Run) (m : Option Move) (to after : List ℕ) (r : Reply) → length to ≡ 32768 → Answers (stepTerm (q .table) m (length to)) to after r → Answers (judgement q m) to after r
 unfolding judgement
 answers-run q m to after r e a = subst (λ n. Answers (stepTerm (q .table) m n) to after r) e a
 
-pub accepted-by : (s ends m to after : List ℕ) (r : Reply) → Asks s ends m to → ((t : Term) → Table s ends t → Answers (stepTerm t m (length to)) to after r) → r .answer ≡ 0 → Accepted s ends m
+pub accepted-by : (s ends to after : List ℕ) (m : code.Move) (r : Reply) → CanTry s ends to → ((t : Term) → Table s ends t → Answers (stepTerm t (moveOf m) (length to)) to after r) → r .answer ≡ 0 → Accepted s ends m
 unfolding judgement
-accepted-by s ends m to after r h a z =
+accepted-by s ends to after m r h a z =
     let q : Run = record { table = h .known .term; tally = noTally } in
-    let (u, e) = judgement-accepted q m r (answers-run q m to after r (h .room) (a (h .known .term) (h .known .table)) .replies) z in
-    record { known = h .known; successor = u; accepted = e; six = h .six }
+    let (u, e) = judgement-accepted q (moveOf m) r (answers-run q (moveOf m) to after r (h .room) (a (h .known .term) (h .known .table)) .replies) z in
+    record { known = h .known; successor = u; accepted = e }
 
 -- some run that keeps a known table
 abbrev pub runOf : {s ends : List ℕ} → Known s ends → Run
 runOf k = record { table = k .term; tally = noTally }
 
 -- the run goes on by an accepted move only
-turn-refused : (q : Run) (m : List ℕ) (n p : ℕ) → judgement q m ≡ refuse n p → turn q m ≡ q
+turn-refused : (q : Run) (m : Option Move) (n p : ℕ) → judgement q m ≡ refuse n p → turn q m ≡ q
 unfolding turn enter
 turn-refused q m n p e = rw e
 
-turn-accepted : (q : Run) (m : List ℕ) (s : Term) (v : Move) → judgement q m ≡ accept s → readMove m ≡ some v → turn q m ≡ record { table = s; tally = sum (q .tally) (counts (q .table) v) }
+turn-accepted : (q : Run) (m : Option Move) (s : Term) (v : Move) → judgement q m ≡ accept s → m ≡ some v → turn q m ≡ record { table = s; tally = sum (q .tally) (adds (copies (q .table) v) v) }
 unfolding turn enter
 turn-accepted q m s v e h = rw (e, h)
 
-accepted-move : (q : Run) (m : List ℕ) (s : Term) → judgement q m ≡ accept s → (v : Move) × (readMove m ≡ some v)
+accepted-move : (q : Run) (m : Option Move) (s : Term) → judgement q m ≡ accept s → (v : Move) × (m ≡ some v)
 unfolding judgement
 accepted-move q m s e = let a = steps.step-accepted (q .table) s m 32768 e in (a .move, a .reads)
 
 -- what a refused and what an accepted move counts
-module _ (q : Run) (m to after : List ℕ) (r : Reply) (d : Tally) (a : Answers (judgement q m) to after r) where
+module _ (q : Run) (m : Option Move) (to after : List ℕ) (r : Reply) (d : Tally) (a : Answers (judgement q m) to after r) where
   pub judged-refused : r .answer ≢ 0 → d ≡ tallyOf noTally → Judged q m to after (record { reply = r; counts = d })
   judged-refused h e =
       let (n, p, x) = answer-refused (judgement q m) r (a .replies) h in
       record { answers = a; counted = ap (sumOf (tallyOf (q .tally))) e ∙ (rw (turn-refused q m n p x) (sum-zeros (tallyOf (q .tally)))); few = subst (λ c. Small c 1) (sym e) (zeros-small 1) }
 
-  pub judged-accepted : (s ends : List ℕ) (l : ℕ) → Table s ends (q .table) → r .answer ≡ 0 → Copied s ends m l → d ≡ countsOf (getD m 0 0) l → Judged q m to after (record { reply = r; counts = d })
-  judged-accepted s ends l h z k e =
+  pub judged-accepted : (l : ℕ) → r .answer ≡ 0 → ((v : Move) → m ≡ some v → l ≡ copies (q .table) v) → l ≤ 2048 → ((v : Move) → m ≡ some v → d ≡ tallyOf (adds l v))
+      → Judged q m to after (record { reply = r; counts = d })
+  judged-accepted l z is few e =
       let (u, eu) = judgement-accepted q m r (a .replies) z in
       let (v, ev) = accepted-move q m u eu in
       record {
         answers = a;
-        counted =
-            let is = e ∙ ap (countsOf (getD m 0 0)) (k .is (q .table) h v ev) in
-            rw (turn-accepted q m u v eu ev) (ap (sumOf (tallyOf (q .tally))) is ∙ (unfold byte in counted-reads (q .tally) (q .table) m v ev));
-        few = subst (λ c. Small c 1) (sym e) (counts-small (getD m 0 0) l (k .few));
+        counted = ap (sumOf (tallyOf (q .tally))) (e v ev ∙ ap (λ n. tallyOf (adds n v)) (is v ev))
+            ∙ (sum-adds (q .tally) (copies (q .table) v) v ∙ sym (ap (λ (x : Run). tallyOf (x .tally)) (turn-accepted q m u v eu ev)));
+        few = subst (λ c. Small c 1) (sym (e v ev)) (adds-small l v few);
       }
 
 -- the records of a table that lies in a buffer
@@ -158,7 +163,7 @@ pub held-small : (n : ℕ) (x ends : List ℕ) → 16 * n ≤ length x → Known
 held-small n x ends h k = omega (arith, k .few, length-take-le (16 * n) x h)
 
 -- a refused move: the table stays where it is
-module _ (q : Run) (n : ℕ) (from ends m to after : List ℕ) (r : Tried) (inside : 16 * n ≤ length from) (room : length to ≡ 32768) (t : Table (held n from) ends (q .table))
+module _ (q : Run) (n : ℕ) (from ends : List ℕ) (m : Option Move) (to after : List ℕ) (r : Tried) (inside : 16 * n ≤ length from) (room : length to ≡ 32768) (t : Table (held n from) ends (q .table))
     (j : Judged q m to after r) (z : r .reply .answer ≢ 0) where
   refused-is : (a p : ℕ) → judgement q m ≡ refuse a p → Turned q n from m after ends (record { reply = record { answer = r .reply .answer; place = r .reply .place; records = n }; counts = r .counts })
   unfolding reply written kept
@@ -177,7 +182,7 @@ module _ (q : Run) (n : ℕ) (from ends m to after : List ℕ) (r : Tried) (insi
   turned-refused = let (a, p, x) = answer-refused (judgement q m) (r .reply) (j .answers .replies) z in refused-is a p x
 
 -- an accepted move: the successor u lies in the other buffer
-module _ (q : Run) (m to after : List ℕ) (r : Tried) (room : length to ≡ 32768) (w : Within (q .table)) (j : Judged q m to after r) where
+module _ (q : Run) (m : Option Move) (to after : List ℕ) (r : Tried) (room : length to ≡ 32768) (w : Within (q .table)) (j : Judged q m to after r) where
   module _ (u : Term) (accepted : judgement q m ≡ accept u) where
     next-within : Within u
     unfolding judgement
@@ -221,11 +226,10 @@ module _ (q : Run) (m to after : List ℕ) (r : Tried) (room : length to ≡ 327
   turned-accepted n from ends z h = let (u, e) = judgement-accepted q m (r .reply) (j .answers .replies) z in turned u e n from ends z h
 
 -- the table that is kept, and the next move on it
-pub going-begins : (x y ends m : List ℕ) (k : Kept) → Going x y ends k → length m ≡ 6 → Begins (k .records) (cond (k .second) y x) ends m (cond (k .second) x y)
-going-begins x y ends m k g six = record {
+pub going-begins : (x y ends : List ℕ) (k : Kept) → Going x y ends k → CanTurn (k .records) (cond (k .second) y x) ends (cond (k .second) x y)
+going-begins x y ends k g = record {
   asks = record {
     known = table-known _ _ _ (g .keeps .table);
-    six = six;
     room = cond-length (k .second) y x (g .keeps .second-room) (g .keeps .first-room);
   };
   inside = omega (arith, cond-length (k .second) x y (g .keeps .first-room) (g .keeps .second-room), g .keeps .count, g .keeps .table .within .small);
@@ -236,7 +240,7 @@ going-begins x y ends m k g six = record {
     cond-length true u v h l = l
     cond-length false u v h l = h
 
-pub kept-records : (q : Run) (m : List ℕ) → kept q (judgement q m) .records ≡ size (turn q m .table)
+pub kept-records : (q : Run) (m : Option Move) → kept q (judgement q m) .records ≡ size (turn q m .table)
 unfolding kept
 kept-records q m = go (judgement q m) refl
   where
@@ -245,7 +249,7 @@ kept-records q m = go (judgement q m) refl
     go (accept s) e = let (v, ev) = accepted-move q m s e in rw (turn-accepted q m s v e ev)
 
 -- what is kept then: r is the turn of the table in the buffer `from`, and `to` is the other
-module _ (q : Run) (m from to ends : List ℕ) (n : ℕ) (r : Tried) (t : Turned q n from m to ends r) (from-room : length from ≡ 32768) (room : 2049 < length ends) where
+module _ (q : Run) (m : Option Move) (from to ends : List ℕ) (n : ℕ) (r : Tried) (t : Turned q n from m to ends r) (from-room : length from ≡ 32768) (room : 2049 < length ends) where
   kept-table : Table (held (r .reply .records) (cond (eqb (r .reply .answer) 0) to from)) ends (turn q m .table)
   kept-table = go (r .reply .answer) (t .stays) (t .goes)
     where
@@ -255,7 +259,7 @@ module _ (q : Run) (m from to ends : List ℕ) (n : ℕ) (r : Tried) (t : Turned
       go (suc a) s g = rw (ne-eqb (suc a) 0 (λ e. absurd (omega arith))) (s (λ e. absurd (omega arith)))
 
   -- in the second buffer before, and in the first
-  pub second-keeps : Keeps (turn q m) to from ends (keptAfter true r .kept)
+  pub second-keeps : KeepsRun (turn q m) to from ends (keptAfter true r .kept)
   unfolding keptAfter
   second-keeps = record {
     table = subst (λ x. Table (held (r .reply .records) x) ends (turn q m .table)) (sym (other (eqb (r .reply .answer) 0))) kept-table;
@@ -269,7 +273,7 @@ module _ (q : Run) (m from to ends : List ℕ) (n : ℕ) (r : Tried) (t : Turned
       other true = refl
       other false = refl
 
-  pub first-keeps : Keeps (turn q m) from to ends (keptAfter false r .kept)
+  pub first-keeps : KeepsRun (turn q m) from to ends (keptAfter false r .kept)
   unfolding keptAfter
   first-keeps = record {
     table = subst (λ x. Table (held (r .reply .records) x) ends (turn q m .table)) (sym (other (eqb (r .reply .answer) 0))) kept-table;
@@ -284,18 +288,18 @@ module _ (q : Run) (m from to ends : List ℕ) (n : ℕ) (r : Tried) (t : Turned
       other false = refl
 
 -- a move on the table in the second buffer, and in the first
-module _ (x y ends m : List ℕ) (k : Kept) (g : Going x y ends k) where
-  pub begins-second : length m ≡ 6 → k .second ≡ true → Begins (k .records) y ends m x
-  begins-second six e = subst (λ b. Begins (k .records) (cond b y x) ends m (cond b x y)) e (going-begins x y ends m k g six)
+module _ (x y ends : List ℕ) (k : Kept) (g : Going x y ends k) where
+  pub begins-second : k .second ≡ true → CanTurn (k .records) y ends x
+  begins-second e = subst (λ b. CanTurn (k .records) (cond b y x) ends (cond b x y)) e (going-begins x y ends k g)
 
-  pub begins-first : length m ≡ 6 → k .second ≡ false → Begins (k .records) x ends m y
-  begins-first six e = subst (λ b. Begins (k .records) (cond b y x) ends m (cond b x y)) e (going-begins x y ends m k g six)
+  pub begins-first : k .second ≡ false → CanTurn (k .records) x ends y
+  begins-first e = subst (λ b. CanTurn (k .records) (cond b y x) ends (cond b x y)) e (going-begins x y ends k g)
 
-  module _ (to ends′ : List ℕ) (r : Tried) (room : 2049 < length ends′) where
-    pub goes-second : k .second ≡ true → ((q : Run) → Table (held (k .records) y) ends (q .table) → Turned q (k .records) y m to ends′ r) → Goes m k x y ends to y ends′ (keptAfter true r)
+  module _ (m : Option Move) (to ends′ : List ℕ) (r : Tried) (room : 2049 < length ends′) where
+    pub goes-second : k .second ≡ true → ((q : Run) → Table (held (k .records) y) ends (q .table) → Turned q (k .records) y m to ends′ r) → GoesOn m k x y ends to y ends′ (keptAfter true r)
     unfolding keptAfter
     goes-second e t =
-        let at : (q : Run) → Keeps q x y ends k → Turned q (k .records) y m to ends′ r =
+        let at : (q : Run) → KeepsRun q x y ends k → Turned q (k .records) y m to ends′ r =
         λ q h. t q (subst (λ b. Table (held (k .records) (cond b y x)) ends (q .table)) e (h .table)) in
         record {
           keeps = λ q h. second-keeps q m y to ends′ (k .records) r (at q h) (h .second-room) room;
@@ -304,10 +308,10 @@ module _ (x y ends m : List ℕ) (k : Kept) (g : Going x y ends k) where
           few = at (g .run) (g .keeps) .few;
         }
 
-    pub goes-first : k .second ≡ false → ((q : Run) → Table (held (k .records) x) ends (q .table) → Turned q (k .records) x m to ends′ r) → Goes m k x y ends x to ends′ (keptAfter false r)
+    pub goes-first : k .second ≡ false → ((q : Run) → Table (held (k .records) x) ends (q .table) → Turned q (k .records) x m to ends′ r) → GoesOn m k x y ends x to ends′ (keptAfter false r)
     unfolding keptAfter
     goes-first e t =
-        let at : (q : Run) → Keeps q x y ends k → Turned q (k .records) x m to ends′ r =
+        let at : (q : Run) → KeepsRun q x y ends k → Turned q (k .records) x m to ends′ r =
         λ q h. t q (subst (λ b. Table (held (k .records) (cond b y x)) ends (q .table)) e (h .table)) in
         record {
           keeps = λ q h. first-keeps q m x to ends′ (k .records) r (at q h) (h .first-room) room;

@@ -27,8 +27,8 @@ use Rattle.stepper.proofs.Stepping.{Read, read-known}
 use Rattle.player.specs.declared.turns.Kept.{Kept}
 use Rattle.player.specs.declared.nights.Moved.{Moved}
 use Rattle.player.specs.declared.Played.{Played}
-use Rattle.player.specs.Turns.{held, Keeps}
-use Rattle.player.specs.Nights.{Opens, Ends, Clear, refusedWith, Gives, Plays, PlaysTerm}
+use Rattle.player.specs.Turns.{held, KeepsRun}
+use Rattle.player.specs.Nights.{CanPlay, NightOver, Clear, refusedWith, PlayGives, Plays, PlaysTerm}
 use Rattle.player.proofs.Writing.{put-eq}
 
 -- before the first move: the table copied into the first of two buffers of zeros is kept there
@@ -48,7 +48,7 @@ module _ (table ends moves out slots x : List ℕ) (o : Clear table ends moves o
   abbrev first : Kept
   first = record { second = false; records = length table / 16 }
 
-  pub keeps-first : (t : Term) → Table table ends t → Keeps (start t) x zeros ends first
+  pub keeps-first : (t : Term) → Table table ends t → KeepsRun (start t) x zeros ends first
   unfolding start
   keeps-first t h = record {
     table = subst (λ s. Table s ends t) held-is h;
@@ -58,16 +58,16 @@ module _ (table ends moves out slots x : List ℕ) (o : Clear table ends moves o
     ends-room = o .ends-room;
   }
 
-  pub opens : Opens moves (length moves / 6) first x zeros ends slots
+  pub opens : CanPlay moves (length moves / 6) first x zeros ends slots
   opens = record { term = o .known .term; keeps = keeps-first (o .known .term) (o .known .table); all = refl; short = o .short; slots-room = o .slots-room }
 
 -- the table that is kept can be written, from either buffer
-module _ (q : Run) (x y ends : List ℕ) (k : Kept) (h : Keeps q x y ends k) where
+module _ (q : Run) (x y ends : List ℕ) (k : Kept) (h : KeepsRun q x y ends k) where
   pub last-fits : (16 * k .records ≤ length x) × (16 * k .records ≤ length y) × (k .records ≤ 2048)
   last-fits = let n : k .records ≤ 2048 = omega (arith, h .count, h .table .within .small) in (omega (arith, n, h .first-room), omega (arith, n, h .second-room), n)
 
 -- what is written is what play gives
-module _ (t : Term) (moves x y ends out after slots after′ : List ℕ) (r : Moved) (h : Ends t moves x y ends slots after′ r) where
+module _ (t : Term) (moves x y ends out after slots after′ : List ℕ) (r : Moved) (h : NightOver t moves x y ends slots after′ r) where
   plays-term : after ≡ held (r .kept .records) (cond (r .kept .second) y x) ++ replicate (32768 - 16 * r .kept .records) 0 ++ drop 32768 out
       → PlaysTerm t moves out after slots after′ (record { reply = record { answer = 0; place = 0; records = r .kept .records }; tally = r .tally })
   unfolding played playedReply playedTally playedOutput playedReplies
@@ -90,7 +90,7 @@ module _ (t : Term) (moves x y ends out after slots after′ : List ℕ) (r : Mo
   plays-first b e = plays-term (rw b e)
 
 -- refused whole: the table, the list, the buffers
-gives-refused : (n p : ℕ) (out slots : List ℕ) (r : Played) → r ≡ refusedWith n p → Gives (refuse n p) out out slots slots r
+gives-refused : (n p : ℕ) (out slots : List ℕ) (r : Played) → r ≡ refusedWith n p → PlayGives (refuse n p) out out slots slots r
 unfolding playedReply playedTally playedOutput playedReplies
 gives-refused n p out slots r e = record { replied = ap (λ (x : Played). x .reply) e; tallied = ap (λ (x : Played). x .tally) e; output = refl; slots-are = refl }
 

@@ -7,6 +7,7 @@ use Rattle.cows.specs.Terms.{Term}
 use Rattle.cows.specs.Kinds.{weightOf}
 use Rattle.cows.specs.Load.{load}
 use Rattle.tables.specs.declared.Reply.{Reply}
+use Rattle.tables.specs.Verdict.{refusal}
 
 -- the load of n records from place i on; of the records at the places i to j - 1
 unfoldable pub loadFrom : List ℕ → ℕ → ℕ → ℕ
@@ -18,5 +19,5 @@ loadBetween s i j = loadFrom s i (j - i)
 
 -- the reply to a judgement of a table: 0, 0 and its load, or the refusal, its place and 0
 abbrev pub loadReply : Result Term → Reply
-loadReply (refuse n p) = record { answer = n; place = p; records = 0 }
+loadReply (refuse n p) = refusal n p
 loadReply (accept t) = record { answer = 0; place = 0; records = load t }

@@ -3,43 +3,43 @@ use mathlib.Core.Path.{_≡_}
 use mathlib.Core.Logic.{_≢_}
 use mathlib.Core.Bool.{Bool, not, cond}
 use mathlib.Core.List.{List}
-use mathlib.Core.Option.{some}
+use mathlib.Core.Option.{Option, some}
 use Prim.Native.Nat.{ℕ, _*_, _≤_, _<_}
 use lib.Dec.{eqb}
 use lib.ListN.{length, take}
 use Rattle.cows.specs.Basics.{accept}
 use Rattle.cows.specs.Terms.{Term, size}
 use Rattle.cows.specs.Moves.{Move}
-use Rattle.cows.specs.Step.{readMove, stepTerm}
+use Rattle.cows.specs.Step.{stepTerm}
 use Rattle.cows.specs.Load.{copies}
 use Rattle.cows.specs.Run.{Run, judgement, turn, kept}
 use Rattle.ways.specs.Known.{Table, Known}
+use Rattle.proposals.specs.declared.Move as code
+use Rattle.proposals.specs.Proposals.{moveOf}
 use Rattle.stepper.specs.Replies.{replyOf, Answers}
 use Rattle.tally.specs.Counted.{tallyOf, sumOf, Small}
 use Rattle.player.specs.declared.turns.Kept.{Kept}
 use Rattle.player.specs.declared.turns.Tried.{Tried}
 use Rattle.player.specs.declared.turns.Next.{Next}
 
--- The bytes m are a move that is accepted on the table s.
-pub record Accepted (s ends m : List ℕ) : Type 0 where
+-- The move m is accepted on the table s.
+pub record Accepted (s ends : List ℕ) (m : code.Move) : Type 0 where
   pub known : Known s ends
   pub successor : Term
-  pub accepted : stepTerm (known .term) m 32768 ≡ accept successor
-  pub six : length m ≡ 6
+  pub accepted : stepTerm (known .term) (moveOf m) 32768 ≡ accept successor
 
 -- r is the load that the move copies.
-pub record Copied (s ends m : List ℕ) (r : ℕ) : Type 0 where
-  pub is : (t : Term) → Table s ends t → (v : Move) → readMove m ≡ some v → r ≡ copies t v
+pub record Copied (s ends : List ℕ) (m : code.Move) (r : ℕ) : Type 0 where
+  pub is : (t : Term) → Table s ends t → (v : Move) → moveOf m ≡ some v → r ≡ copies t v
   pub few : r ≤ 2048
 
--- What the judgement of a move asks: a known table, six bytes, and a buffer for any successor.
-pub record Asks (s ends m to : List ℕ) : Type 0 where
+-- What the judgement of a move asks: a known table, and a buffer for any successor.
+pub record CanTry (s ends to : List ℕ) : Type 0 where
   pub known : Known s ends
-  pub six : length m ≡ 6
   pub room : length to ≡ 32768
 
 -- What it gives in the run q: the step's reply and output; and what the move counts, added to the tally, is the tally of the run's next turn.
-pub record Judged (q : Run) (m to after : List ℕ) (r : Tried) : Type 0 where
+pub record Judged (q : Run) (m : Option Move) (to after : List ℕ) (r : Tried) : Type 0 where
   pub answers : Answers (judgement q m) to after (r .reply)
   pub counted : sumOf (tallyOf (q .tally)) (r .counts) ≡ tallyOf (turn q m .tally)
   pub few : Small (r .counts) 1
@@ -49,13 +49,13 @@ abbrev pub held : ℕ → List ℕ → List ℕ
 held n x = take (16 * n) x
 
 -- What a turn asks: as the judgement, of the table in the first of two buffers.
-pub record Begins (n : ℕ) (from ends m to : List ℕ) : Type 0 where
-  pub asks : Asks (held n from) ends m to
+pub record CanTurn (n : ℕ) (from ends to : List ℕ) : Type 0 where
+  pub asks : CanTry (held n from) ends to
   pub inside : 16 * n ≤ length from
   pub ends-room : 2049 < length ends
 
 -- What it gives in the run q: the book's reply, what the move counts, and the next table with its ends, in the second buffer if it was accepted.
-pub record Turned (q : Run) (n : ℕ) (from m after next : List ℕ) (r : Tried) : Type 0 where
+pub record Turned (q : Run) (n : ℕ) (from : List ℕ) (m : Option Move) (after next : List ℕ) (r : Tried) : Type 0 where
   pub replies : r .reply ≡ replyOf (kept q (judgement q m))
   pub counted : sumOf (tallyOf (q .tally)) (r .counts) ≡ tallyOf (turn q m .tally)
   pub few : Small (r .counts) 1
@@ -64,7 +64,7 @@ pub record Turned (q : Run) (n : ℕ) (from m after next : List ℕ) (r : Tried)
   pub goes : r .reply .answer ≡ 0 → Table (held (r .reply .records) after) next (turn q m .table)
 
 -- The table of the run q is kept: in one of the buffers, with its ends and its number of records.
-pub record Keeps (q : Run) (x y ends : List ℕ) (k : Kept) : Type 0 where
+pub record KeepsRun (q : Run) (x y ends : List ℕ) (k : Kept) : Type 0 where
   pub table : Table (held (k .records) (cond (k .second) y x)) ends (q .table)
   pub count : k .records ≡ size (q .table)
   pub first-room : length x ≡ 32768
@@ -74,15 +74,15 @@ pub record Keeps (q : Run) (x y ends : List ℕ) (k : Kept) : Type 0 where
 -- That of some run is.
 pub record Going (x y ends : List ℕ) (k : Kept) : Type 0 where
   pub run : Run
-  pub keeps : Keeps run x y ends k
+  pub keeps : KeepsRun run x y ends k
 
 -- What is kept after a move on the table in the second buffer, or in the first: the other one if it was accepted.
 unfoldable pub keptAfter : Bool → Tried → Next
 keptAfter second r = record { reply = r .reply; kept = record { second = cond (eqb (r .reply .answer) 0) (not second) second; records = r .reply .records }; counts = r .counts }
 
 -- What a move on the kept table gives: the run goes on by it, and reply and counts are the book's.
-pub record Goes (m : List ℕ) (k : Kept) (x y ends x′ y′ ends′ : List ℕ) (r : Next) : Type 0 where
-  pub keeps : (q : Run) → Keeps q x y ends k → Keeps (turn q m) x′ y′ ends′ (r .kept)
-  pub replies : (q : Run) → Keeps q x y ends k → r .reply ≡ replyOf (kept q (judgement q m))
-  pub counted : (q : Run) → Keeps q x y ends k → sumOf (tallyOf (q .tally)) (r .counts) ≡ tallyOf (turn q m .tally)
+pub record GoesOn (m : Option Move) (k : Kept) (x y ends x′ y′ ends′ : List ℕ) (r : Next) : Type 0 where
+  pub keeps : (q : Run) → KeepsRun q x y ends k → KeepsRun (turn q m) x′ y′ ends′ (r .kept)
+  pub replies : (q : Run) → KeepsRun q x y ends k → r .reply ≡ replyOf (kept q (judgement q m))
+  pub counted : (q : Run) → KeepsRun q x y ends k → sumOf (tallyOf (q .tally)) (r .counts) ≡ tallyOf (turn q m .tally)
   pub few : Small (r .counts) 1

@@ -1,6 +1,7 @@
 // What play writes: the reply to a move, and the last table with zeros behind it.
 use records::copying::copy;
 use records::copying::put_word;
+use records::limits;
 use tables::Reply;
 ghost use mathlib.Core.Path.{_≡_};
 ghost use mathlib.Core.List.{_++_};
@@ -37,5 +38,5 @@ pub fn put_table(from: &[u8], n: usize, out: &mut [u8])
     ensures { λ _. ⌜ now (out .exit) ≡ take (16 * n) (now (from .entry)) ++ replicate (32768 - 16 * n) 0 ++ drop 32768 (now (out .entry)) ⌝ }
 {
     copy(from, 0, 16 * n, out, 0);
-    put_zeros(out, 16 * n, 32768 - 16 * n);
+    put_zeros(out, 16 * n, limits::MAX_BYTES - 16 * n);
 }

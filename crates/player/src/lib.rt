@@ -5,6 +5,7 @@ mod nights;
 mod turns;
 
 use crate::turns::Kept;
+use records::limits;
 use tables::Reply;
 use tally::Tally;
 ghost use mathlib.Core.Path.{_≡_};
@@ -27,11 +28,7 @@ fn refused(answer: u8, place: usize) -> Played
     ensures { λ r. ⌜ r ≡ refusedWith answer place ⌝ }
 {
     Played {
-        reply: Reply {
-            answer,
-            place,
-            records: 0,
-        },
+        reply: tables::refusal(answer, place),
         tally: tally::zeros(),
     }
 }
@@ -47,8 +44,8 @@ fn play_known(
     requires { ⌜ Clear (now table) (now ends) (now moves) (now out) (now replies) ⌝ }
     ensures { λ r. ⌜ ((t : Term) → Table (now (table .entry)) (now (ends .entry)) t → PlaysTerm t (now (moves .entry)) (now (out .entry)) (now (out .exit)) (now (replies .entry)) (now (replies .exit)) r) ⌝ }
 {
-    let mut first = [0u8; 32768];
-    let mut second = [0u8; 32768];
+    let mut first = [0u8; limits::MAX_BYTES];
+    let mut second = [0u8; limits::MAX_BYTES];
     records::copying::copy(table, 0, table.len(), &mut first, 0);
     let night = nights::night(
         Kept {
@@ -86,15 +83,15 @@ fn play_known(
 pub fn play(table: &[u8], moves: &[u8], out: &mut [u8], replies: &mut [u8]) -> Played
     ensures { λ r. ⌜ Plays (now (table .entry)) (now (moves .entry)) (now (out .entry)) (now (out .exit)) (now (replies .entry)) (now (replies .exit)) r × ((t : Term) → judge (now (table .entry)) ≡ accept t → Demand3 t (now (moves .entry)) (now (out .entry)) (now (out .exit)) (now (replies .entry)) (now (replies .exit)) r) ⌝ }
 {
-    let mut ends = [0u16; 2050];
+    let mut ends = [0u16; limits::ENDS];
     let checked = tables::check_ends(table, &mut ends);
     if checked.answer != 0 {
         return refused(checked.answer, checked.place);
     }
-    if 60000 < moves.len() {
+    if limits::MAX_LIST_BYTES < moves.len() {
         return refused(19, 0);
     }
-    if (out.len() < 32768) | (replies.len() < 6 * (moves.len() / 6)) {
+    if (out.len() < limits::MAX_BYTES) | (replies.len() < 6 * (moves.len() / 6)) {
         return refused(21, 0);
     }
     play_known(table, &mut ends, moves, out, replies)
@@ -104,7 +101,7 @@ pub fn play(table: &[u8], moves: &[u8], out: &mut [u8], replies: &mut [u8]) -> P
 pub fn load(table: &[u8]) -> Reply
     ensures { λ r. ⌜ r ≡ loadReply (judge (now (table .entry))) ⌝ }
 {
-    let mut ends = [0u16; 2050];
+    let mut ends = [0u16; limits::ENDS];
     let checked = tables::check_ends(table, &mut ends);
     if checked.answer != 0 {
         return checked;

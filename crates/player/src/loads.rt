@@ -1,4 +1,5 @@
 // The load of a part of a table: its kills, invokes, receives and waits, counted.
+use records::kinds;
 ghost use mathlib.Core.Path.{_≡_};
 ghost use Prim.Native.Nat.{_*_, _≤_};
 ghost use lib.ListN.{length};
@@ -9,7 +10,7 @@ ghost use Rattle.player.specs.Loads.{loadBetween};
 fn weight(kind: u8) -> u32
     ensures { λ r. ⌜ (r ≡ weightOf kind) × (r ≤ 1) ⌝ }
 {
-    ((1 <= kind) & (kind <= 4)) as u32
+    ((kinds::KILL <= kind) & (kind <= kinds::WAIT)) as u32
 }
 
 // The load of the records at the places i to j - 1.

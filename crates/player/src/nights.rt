@@ -7,8 +7,8 @@ use tally::Tally;
 ghost use Rattle.cows.specs.Terms.{Term};
 ghost use Rattle.cows.specs.Run.{start};
 ghost use Rattle.tally.specs.Counted.{Small};
-ghost use Rattle.player.specs.Turns.{Keeps};
-ghost use Rattle.player.specs.Nights.{Ready, Made, Recorded, Opens, Ends};
+ghost use Rattle.player.specs.Turns.{KeepsRun};
+ghost use Rattle.player.specs.Nights.{CanMove, Made, Recorded, CanPlay, NightOver};
 
 // A move made, or a night of them: what is kept then, and the tally.
 pub struct Moved {
@@ -26,12 +26,12 @@ fn move_at(
     replies: &mut [u8],
     i: usize,
 ) -> Moved
-    requires { ⌜ Ready (now moves) i kept (now x) (now y) (now ends) (now replies) ⌝ }
+    requires { ⌜ CanMove (now moves) i kept (now x) (now y) (now ends) (now replies) ⌝ }
     ensures { λ r. ⌜ Made (now (moves .entry)) i kept (now (x .entry)) (now (y .entry)) (now (ends .entry)) (now (replies .entry)) (now (x .exit)) (now (y .exit)) (now (ends .exit)) (now (replies .exit)) r ⌝ }
 {
     let at = 6 * i;
     let to = at + 6;
-    let next = turns::move_on(kept, x, y, ends, &moves[at..to]);
+    let next = turns::move_on(kept, x, y, ends, proposals::read_move(&moves[at..to]));
     let reply = next.reply;
     let after = next.kept;
     let tally = next.counts;
@@ -50,7 +50,7 @@ fn record_move(
     replies: &mut [u8],
     i: usize,
 ) -> Kept
-    requires { ⌜ Ready (now moves) i kept (now x) (now y) (now ends) (now replies) × Small (now t) i ⌝ }
+    requires { ⌜ CanMove (now moves) i kept (now x) (now y) (now ends) (now replies) × Small (now t) i ⌝ }
     ensures { λ r. ⌜ Recorded (now (moves .entry)) i kept (now (x .entry)) (now (y .entry)) (now (ends .entry)) (now (replies .entry)) (now (t .entry)) (now (x .exit)) (now (y .exit)) (now (ends .exit)) (now (replies .exit)) (now (t .exit)) r ⌝ }
 {
     let next = move_at(kept, moves, x, y, ends, replies, i);
@@ -68,8 +68,8 @@ pub fn night(
     replies: &mut [u8],
     n: usize,
 ) -> Moved
-    requires { ⌜ Opens (now moves) n first (now x) (now y) (now ends) (now replies) ⌝ }
-    ensures { λ r. ⌜ ((t : Term) → Keeps (start t) (now (x .entry)) (now (y .entry)) (now (ends .entry)) first → Ends t (now (moves .entry)) (now (x .exit)) (now (y .exit)) (now (ends .exit)) (now (replies .entry)) (now (replies .exit)) r) ⌝ }
+    requires { ⌜ CanPlay (now moves) n first (now x) (now y) (now ends) (now replies) ⌝ }
+    ensures { λ r. ⌜ ((t : Term) → KeepsRun (start t) (now (x .entry)) (now (y .entry)) (now (ends .entry)) first → NightOver t (now (moves .entry)) (now (x .exit)) (now (y .exit)) (now (ends .exit)) (now (replies .entry)) (now (replies .exit)) r) ⌝ }
 {
     let mut t = tally::zeros();
     let mut kept = first;

@@ -1,14 +1,14 @@
 // One move of a list: judged on the table that is kept, and its successor kept if it is accepted. Two buffers take the tables by turns.
 use crate::loads;
+use proposals::Move;
 use records::wide16;
-use records::word_at;
 use tables::Reply;
 use tally::Tally;
 ghost use mathlib.Core.Path.{_≡_};
-ghost use lib.ListN.{length};
 ghost use Rattle.cows.specs.Run.{Run};
 ghost use Rattle.ways.specs.Known.{Table};
-ghost use Rattle.player.specs.Turns.{held, Accepted, Copied, Asks, Judged, Begins, Turned, Going, Goes, keptAfter};
+ghost use Rattle.proposals.specs.Proposals.{moveOf};
+ghost use Rattle.player.specs.Turns.{held, Accepted, Copied, CanTry, Judged, CanTurn, Turned, Going, GoesOn, keptAfter};
 
 // What is kept from move to move: which buffer the table is in, and its records.
 pub struct Kept {
@@ -30,21 +30,20 @@ pub struct Next {
 }
 
 // The load that an accepted move copies: of a body, by an unfolding.
-fn copied(s: &[u8], ends: &[u16], m: &[u8]) -> u32
-    requires { ⌜ Accepted (now s) (now ends) (now m) ⌝ }
-    ensures { λ r. ⌜ Copied (now (s .entry)) (now (ends .entry)) (now (m .entry)) r ⌝ }
+fn copied(s: &[u8], ends: &[u16], m: Move) -> u32
+    requires { ⌜ Accepted (now s) (now ends) m ⌝ }
+    ensures { λ r. ⌜ Copied (now (s .entry)) (now (ends .entry)) m r ⌝ }
 {
-    if m[0] != 4 {
+    let Move::Unfold(a) = m else {
         return 0;
-    }
-    let a = wide16(word_at(m, 2));
+    };
     loads::load_between(s, a + 1, wide16(ends[a]))
 }
 
 // A move on a known table, and what it counts: nothing, if it is refused.
-fn judged(s: &[u8], ends: &[u16], m: &[u8], to: &mut [u8]) -> Tried
-    requires { ⌜ Asks (now s) (now ends) (now m) (now to) ⌝ }
-    ensures { λ r. ⌜ ((q : Run) → Table (now (s .entry)) (now (ends .entry)) (q .table) → Judged q (now (m .entry)) (now (to .entry)) (now (to .exit)) r) ⌝ }
+fn judged(s: &[u8], ends: &[u16], m: Move, to: &mut [u8]) -> Tried
+    requires { ⌜ CanTry (now s) (now ends) (now to) ⌝ }
+    ensures { λ r. ⌜ ((q : Run) → Table (now (s .entry)) (now (ends .entry)) (q .table) → Judged q (moveOf m) (now (to .entry)) (now (to .exit)) r) ⌝ }
 {
     let step = stepper::step_known(s, ends, m, to);
     if step.answer != 0 {
@@ -55,15 +54,15 @@ fn judged(s: &[u8], ends: &[u16], m: &[u8], to: &mut [u8]) -> Tried
     }
     Tried {
         reply: step,
-        counts: tally::counts(m[0], copied(s, ends, m)),
+        counts: tally::counts(m, copied(s, ends, m)),
     }
 }
 
 // A move on the table of n records in `from`; its successor goes to `to`, and `ends` takes the ends of the table then kept. The reply's records are
 // those of that table.
-fn turn(from: &[u8], n: usize, ends: &mut [u16], m: &[u8], to: &mut [u8]) -> Tried
-    requires { ⌜ Begins n (now from) (now ends) (now m) (now to) ⌝ }
-    ensures { λ r. ⌜ ((q : Run) → Table (held n (now (from .entry))) (now (ends .entry)) (q .table) → Turned q n (now (from .entry)) (now (m .entry)) (now (to .exit)) (now (ends .exit)) r) ⌝ }
+fn turn(from: &[u8], n: usize, ends: &mut [u16], m: Move, to: &mut [u8]) -> Tried
+    requires { ⌜ CanTurn n (now from) (now ends) (now to) ⌝ }
+    ensures { λ r. ⌜ ((q : Run) → Table (held n (now (from .entry))) (now (ends .entry)) (q .table) → Turned q n (now (from .entry)) (moveOf m) (now (to .exit)) (now (ends .exit)) r) ⌝ }
 {
     let size = 16 * n;
     let tried = judged(&from[..size], ends, m, to);
@@ -111,9 +110,9 @@ fn kept_after(second: bool, tried: Tried) -> Next
 }
 
 // A move on the table that is kept in one of the buffers.
-pub fn move_on(kept: Kept, x: &mut [u8], y: &mut [u8], ends: &mut [u16], m: &[u8]) -> Next
-    requires { ⌜ Going (now x) (now y) (now ends) kept × (length (now m) ≡ 6) ⌝ }
-    ensures { λ r. ⌜ Goes (now (m .entry)) kept (now (x .entry)) (now (y .entry)) (now (ends .entry)) (now (x .exit)) (now (y .exit)) (now (ends .exit)) r ⌝ }
+pub fn move_on(kept: Kept, x: &mut [u8], y: &mut [u8], ends: &mut [u16], m: Move) -> Next
+    requires { ⌜ Going (now x) (now y) (now ends) kept ⌝ }
+    ensures { λ r. ⌜ GoesOn (moveOf m) kept (now (x .entry)) (now (y .entry)) (now (ends .entry)) (now (x .exit)) (now (y .exit)) (now (ends .exit)) r ⌝ }
 {
     let n = kept.records;
     if kept.second {

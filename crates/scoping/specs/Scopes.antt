@@ -30,8 +30,5 @@ pub record Meets (s : List ℕ) (a b : ℕ) (receiver : List ℕ) (k : ℕ) (sen
   pub fits : fit receive invoke ≡ binds σ
 
 -- The same for one slot: if w is a variable, then v is a value that is sent.
-pub record Slot (s receiver : List ℕ) (k : ℕ) (sender : List ℕ) (n w v : ℕ) (t : Term) (a b : ℕ) : Type 0 where
-  pub within : Within t
-  pub to-receiver : Walks s receiver k t a
-  pub to-sender : Walks s sender n t b
-  pub sent : variable w ≡ true → (value v ≡ true) × (member v (uses (sub t b)) ≡ true)
+abbrev pub SlotSends : (s receiver : List ℕ) (k : ℕ) (sender : List ℕ) (n w v : ℕ) (t : Term) (a b : ℕ) → Type 0
+SlotSends s receiver k sender n w v t a b = variable w ≡ true → Sends s receiver k sender n v t a b

@@ -15,7 +15,7 @@ ghost use Rattle.matching.specs.Matching.{slotTest};
 ghost use Rattle.cows.specs.Terms.{Term};
 ghost use Rattle.cows.specs.Moves.{Substitution, inScope};
 ghost use Rattle.ways.specs.Ways.{Walk};
-ghost use Rattle.scoping.specs.Scopes.{Sends, Meets, Slot};
+ghost use Rattle.scoping.specs.Scopes.{Sends, Meets, SlotSends};
 
 // The variable x of the receive and the value v of the invoke, by the ways to both.
 fn in_scope(
@@ -53,7 +53,7 @@ fn slot_in_scope(
     q: usize,
 ) -> bool
     requires { ⌜ Walk (now s) (now receiver) k × Walk (now s) (now sender) n × (p + 1 < length (now s)) × (q + 1 < length (now s)) ⌝ }
-    ensures { λ r. ⌜ ((t : Term) (a b : ℕ) → Slot (now (s .entry)) (now (receiver .entry)) k (now (sender .entry)) n (word (now (s .entry)) p) (word (now (s .entry)) q) t a b → r ≡ slotTest (inScope t a b) (word (now (s .entry)) p) (word (now (s .entry)) q)) ⌝ }
+    ensures { λ r. ⌜ ((t : Term) (a b : ℕ) → SlotSends (now (s .entry)) (now (receiver .entry)) k (now (sender .entry)) n (word (now (s .entry)) p) (word (now (s .entry)) q) t a b → r ≡ slotTest (inScope t a b) (word (now (s .entry)) p) (word (now (s .entry)) q)) ⌝ }
 {
     let Takes::Pair(x, v) = takes_at(s, p, q) else {
         return true;

@@ -1,4 +1,3 @@
 pub mod Moved
-pub mod SixBytes
 pub mod Stepping
 pub mod Theorems

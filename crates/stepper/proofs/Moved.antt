@@ -12,7 +12,7 @@ use borrow.Author.Tests.{ltb-false, le-ltb, lt-ltb}
 use Rattle.cows.specs.Basics.{placeIf, Result, refuse, accept, _>>=_, _>>_, forbid}
 use Rattle.cows.specs.Terms.{Term, size}
 use Rattle.cows.specs.Format.{encode}
-use Rattle.cows.specs.Step.{overLimits, reply, written}
+use Rattle.cows.specs.Step.{overLimits, fitted, reply, written}
 use Rattle.cows.proofs.Basics.{bool-case, bind-accept, forbid-accept, placeIf-none, same-accept}
 use Rattle.cows.proofs.Format.{length-encode}
 use Rattle.records.specs.Rewrites.{put}
@@ -22,7 +22,8 @@ use Rattle.plans.specs.declared.Judgement.the-variants.{Allowed, Unread, Absent
 use Rattle.plans.specs.declared.Plan.{Plan}
 use Rattle.plans.specs.Plans.{resultOf, limited, Planned, Asks}
 use Rattle.tables.specs.declared.Reply.{Reply}
-use Rattle.stepper.specs.Replies.{replyOf, refusal, replyIn, finished, Moved}
+use Rattle.tables.specs.Verdict.{refusal}
+use Rattle.stepper.specs.Replies.{replyOf, replyIn, Answers}
 
 -- 21, or 0 and the number of records
 pub fitting-not : (room n : ℕ) → room < 16 * n → refusal 21 0 ≡ replyIn room (accept n)
@@ -32,10 +33,10 @@ pub fitting-so : (room n : ℕ) → 16 * n ≤ room → record { answer = 0; pla
 fitting-so room n h = rw (le-ltb room (16 * n) h)
 
 -- the reply to a move's judgement is the reply to its result
-pub reply-finished : (room : ℕ) (m : Result Term) → replyIn room (limited m) ≡ replyOf (reply (finished room m))
-unfolding limited finished reply _>>=_ _>>_ forbid placeIf
-reply-finished room (refuse n p) = refl
-reply-finished room (accept s) =
+pub reply-fitted : (room : ℕ) (m : Result Term) → replyIn room (limited m) ≡ replyOf (reply (m >>= fitted room))
+unfolding limited fitted reply _>>=_ _>>_ forbid placeIf
+reply-fitted room (refuse n p) = refl
+reply-fitted room (accept s) =
     bool-case _ (overLimits s) (λ e. rw e)
     (λ e. rw e (bool-case _ (ltb room (16 * size s)) (λ f. rw f) (λ f. rw f)))
 
@@ -72,9 +73,9 @@ limited-fits m room n e h =
     let z : size s ≡ n = same-accept e₂ in
     record { successor = s; accepted = es; small = placeIf-none (overLimits s) 0 o; fits = omega arith }
 
-finished-fits : (m : Result Term) (room : ℕ) (f : Fits m room) → finished room m ≡ accept (f .successor)
-unfolding finished _>>=_ _>>_ forbid placeIf
-finished-fits m room f = rw (f .accepted, f .small, le-ltb room (16 * size (f .successor)) (f .fits))
+fits-fitted : (m : Result Term) (room : ℕ) (f : Fits m room) → (m >>= fitted room) ≡ accept (f .successor)
+unfolding fitted _>>=_ _>>_ forbid placeIf
+fits-fitted m room f = rw (f .accepted, f .small, le-ltb room (16 * size (f .successor)) (f .fits))
 
 -- a successor written where there is room for it
 put-encode : (out : List ℕ) (s : Term) → 16 * size s ≤ length out → put out 0 (encode s) ≡ encode s ++ drop (16 * size s) out
@@ -84,8 +85,8 @@ put-encode out s h =
     sets-eq (encode s) out 0 (omega arith) ∙ ap (λ n. encode s ++ drop n out) (let z : 0 + length (encode s) ≡ 16 * size s = omega arith in z)
 
 module _ {m : Result Term} {place : ℕ} {plan : Plan} (planned : Planned m place plan) (out : List ℕ) (r : Reply) (replied : r ≡ replyIn (length out) (resultOf (plan .judgement))) where
-  replies : r ≡ replyOf (reply (finished (length out) m))
-  replies = replied ∙ (ap (replyIn (length out)) (planned .judged) ∙ reply-finished (length out) m)
+  replies : r ≡ replyOf (reply (m >>= fitted (length out)))
+  replies = replied ∙ (ap (replyIn (length out)) (planned .judged) ∙ reply-fitted (length out) m)
 
   pub plan-fits : r .answer ≡ 0 → Fits m (length out)
   plan-fits z =
@@ -93,16 +94,16 @@ module _ {m : Result Term} {place : ℕ} {plan : Plan} (planned : Planned m plac
       limited-fits m (length out) n (sym (planned .judged) ∙ e) h
 
   -- an allowed move, whose successor is written
-  pub moved-written : r .answer ≡ 0 → (after : List ℕ) → ((s : Term) → m ≡ accept s → after ≡ put out 0 (encode s)) → Moved m out after r
+  pub moved-written : r .answer ≡ 0 → (after : List ℕ) → ((s : Term) → m ≡ accept s → after ≡ put out 0 (encode s)) → Answers (m >>= fitted (length out)) out after r
   unfolding written
   moved-written z after gives =
       let f = plan-fits z in
-      record { replies = replies; output = gives (f .successor) (f .accepted) ∙ (put-encode out (f .successor) (f .fits) ∙ (rw (finished-fits m (length out) f))) }
+      record { replies = replies; output = gives (f .successor) (f .accepted) ∙ (put-encode out (f .successor) (f .fits) ∙ (rw (fits-fitted m (length out) f))) }
 
   -- a refused move, which writes nothing
-  pub moved-refused : r .answer ≢ 0 → Moved m out out r
+  pub moved-refused : r .answer ≢ 0 → Answers (m >>= fitted (length out)) out out r
   unfolding reply written
-  moved-refused z = record { replies = replies; output = go (finished (length out) m) (λ e. z (ap (λ q. q .answer) replies ∙ e)) }
+  moved-refused z = record { replies = replies; output = go (m >>= fitted (length out)) (λ e. z (ap (λ q. q .answer) replies ∙ e)) }
     where
       go : (x : Result Term) → reply x .answer ≢ 0 → out ≡ written x out
       go (refuse n p) h = refl

@@ -1,26 +1,27 @@
 // Stepper: one move on a table, any bytes for both: the reply, and the successor in the output.
 mod answering;
-pub mod reading;
 
+use proposals::Move;
+use records::limits;
 use tables::Reply;
 ghost use lib.ListN.{length};
 ghost use Rattle.cows.specs.Terms.{Term};
 ghost use Rattle.cows.specs.Step.{stepTerm};
 ghost use Rattle.ways.specs.Known.{Table, Known};
+ghost use Rattle.proposals.specs.Proposals.{moveOf};
 ghost use Rattle.stepper.specs.Replies.{Answers, Stepped};
 ghost use Rattle.stepper.specs.Demand.{Demand2};
 
-// A move on a known table: it is judged, and its successor is written if it is allowed and fits. Refusals 10 to 21.
-pub fn step_known(s: &[u8], ends: &[u16], m: &[u8], out: &mut [u8]) -> Reply
+// A move, as it was read, on a known table: it is judged, and its successor is written if it is allowed and fits. Refusals 10 to 21.
+pub fn step_known(s: &[u8], ends: &[u16], m: Move, out: &mut [u8]) -> Reply
     requires { ⌜ Known (now s) (now ends) ⌝ }
-    ensures { λ r. ⌜ ((t : Term) → Table (now (s .entry)) (now (ends .entry)) t → Answers (stepTerm t (now (m .entry)) (length (now (out .entry)))) (now (out .entry)) (now (out .exit)) r) ⌝ }
+    ensures { λ r. ⌜ ((t : Term) → Table (now (s .entry)) (now (ends .entry)) t → Answers (stepTerm t (moveOf m) (length (now (out .entry)))) (now (out .entry)) (now (out .exit)) r) ⌝ }
 {
-    let read = reading::read_move(m);
-    let plan = moves::judge(s, ends, read);
+    let plan = moves::judge(s, ends, m);
     let judgement = plan.judgement;
     let reply = answering::answer(judgement, out.len());
     if reply.answer == 0 {
-        moves::write(s, ends, read, plan.from, out);
+        moves::write(s, ends, m, plan.from, out);
     }
     reply
 }
@@ -30,10 +31,10 @@ pub fn step_known(s: &[u8], ends: &[u16], m: &[u8], out: &mut [u8]) -> Reply
 pub fn step(table: &[u8], m: &[u8], out: &mut [u8]) -> Reply
     ensures { λ r. ⌜ Stepped (now (table .entry)) (now (m .entry)) (now (out .entry)) (now (out .exit)) r × Demand2 (now (table .entry)) (now (m .entry)) (now (out .entry)) (now (out .exit)) r ⌝ }
 {
-    let mut ends = [0u16; 2050];
+    let mut ends = [0u16; limits::ENDS];
     let checked = tables::check_ends(table, &mut ends);
     if checked.answer != 0 {
         return checked;
     }
-    step_known(table, &ends, m, out)
+    step_known(table, &ends, proposals::read_move(m), out)
 }

@@ -22,7 +22,7 @@ use Rattle.tables.specs.declared.Verdict.{Verdict}
 use Rattle.tables.specs.declared.Verdict.the-variants.{Accepted, Length, Record, Shape, Deep, Choice, Open as OpenUse, Clash as Clashes}
 use Rattle.scopes.specs.Scopes.{scopingOf}
 use Rattle.index.specs.Index.{bound}
-use Rattle.tables.specs.Verdict.{replyOf, checkReply, judgeScopes, judgeShape}
+use Rattle.tables.specs.Verdict.{verdictReply, checkReply, judgeScopes, judgeShape}
 use Rattle.readers.proofs.Readings.{Tells}
 
 -- 6 and 7
@@ -41,33 +41,33 @@ scoping-clash none none i e = (refl, cc)
 scoping-clash none (some q) i e = (refl, cc)
 scoping-clash (some p) q i e = (cc, cc)
 
-pub judge-bound : (t : Term) (n : ℕ) → bound t → n ≡ size t → replyOf (Accepted n) ≡ checkReply (judgeScopes t)
+pub judge-bound : (t : Term) (n : ℕ) → bound t → n ≡ size t → verdictReply (Accepted n) ≡ checkReply (judgeScopes t)
 unfolding judgeScopes _>>_ forbid
 judge-bound t n b h = rw (b .0, b .1, h)
 
-pub judge-fine : (t : Term) (n : ℕ) → Fine ≡ scopingOf (first unbound t) (first (clash t) t) → n ≡ size t → replyOf (Accepted n) ≡ checkReply (judgeScopes t)
+pub judge-fine : (t : Term) (n : ℕ) → Fine ≡ scopingOf (first unbound t) (first (clash t) t) → n ≡ size t → verdictReply (Accepted n) ≡ checkReply (judgeScopes t)
 judge-fine t n e h = judge-bound t n (scoping-fine (first unbound t) (first (clash t) t) e) h
 
-pub judge-open : (t : Term) (i : ℕ) → Open i ≡ scopingOf (first unbound t) (first (clash t) t) → replyOf (OpenUse i) ≡ checkReply (judgeScopes t)
+pub judge-open : (t : Term) (i : ℕ) → Open i ≡ scopingOf (first unbound t) (first (clash t) t) → verdictReply (OpenUse i) ≡ checkReply (judgeScopes t)
 unfolding judgeScopes _>>_ forbid
 judge-open t i e = rw (scoping-open (first unbound t) (first (clash t) t) i e)
 
-pub judge-clash : (t : Term) (i : ℕ) → Clash i ≡ scopingOf (first unbound t) (first (clash t) t) → replyOf (Clashes i) ≡ checkReply (judgeScopes t)
+pub judge-clash : (t : Term) (i : ℕ) → Clash i ≡ scopingOf (first unbound t) (first (clash t) t) → verdictReply (Clashes i) ≡ checkReply (judgeScopes t)
 unfolding judgeScopes _>>_ forbid
 judge-clash t i e = let (p, q) = scoping-clash (first unbound t) (first (clash t) t) i e in rw (p, q)
 
 -- 4 and 5, in a table of n records
-pub judge-deep : (t : Term) (r : Reading) (n : ℕ) → Tells t r → n ≡ size t → n + 2 ≤ r .next → replyOf (Deep (r .next - n - 2)) ≡ checkReply (judgeTerm t)
+pub judge-deep : (t : Term) (r : Reading) (n : ℕ) → Tells t r → n ≡ size t → n + 2 ≤ r .next → verdictReply (Deep (r .next - n - 2)) ≡ checkReply (judgeTerm t)
 unfolding judgeTerm _>>_ forbid
 judge-deep t r n h e l = rw (h .deep (r .next - n - 2) .1 (omega arith))
 
-pub judge-choice : (t : Term) (r : Reading) (n : ℕ) → Tells t r → n ≡ size t → r .next ≤ n → r .fault ≢ n → replyOf (Choice (r .fault)) ≡ checkReply (judgeTerm t)
+pub judge-choice : (t : Term) (r : Reading) (n : ℕ) → Tells t r → n ≡ size t → r .next ≤ n → r .fault ≢ n → verdictReply (Choice (r .fault)) ≡ checkReply (judgeTerm t)
 unfolding judgeTerm _>>_ forbid
 judge-choice t r n h e l f =
     let d = h .shallow .1 (omega (arith, h .whole)) in
     rw (d, h .unguarded d (λ q. f (q ∙ sym e)) .0)
 
-pub judge-rest : (t : Term) (r : Reading) (n : ℕ) (v : Verdict) → Tells t r → n ≡ size t → r .next ≤ n → r .fault ≡ n → replyOf v ≡ checkReply (judgeScopes t) → replyOf v ≡ checkReply (judgeTerm t)
+pub judge-rest : (t : Term) (r : Reading) (n : ℕ) (v : Verdict) → Tells t r → n ≡ size t → r .next ≤ n → r .fault ≡ n → verdictReply v ≡ checkReply (judgeScopes t) → verdictReply v ≡ checkReply (judgeTerm t)
 unfolding judgeTerm judgeScopes _>>_ forbid
 judge-rest t r n v h e l f q =
     let d = h .shallow .1 (omega (arith, h .whole)) in
@@ -80,16 +80,16 @@ slice-bytes (x ∷ s) h = (h 0, slice-bytes s (λ k. h (suc k)))
 
 -- 3, by the end e of the term at place 0
 module _ (b : List ℕ) (e : ℕ) (right : firstWrong 0 (records b) ≡ none) (end : e ≡ endAt b 0) where
-  pub judge-early : e < length b / 16 → replyOf (Shape e) ≡ checkReply (judgeShape b)
+  pub judge-early : e < length b / 16 → verdictReply (Shape e) ≡ checkReply (judgeShape b)
   unfolding judgeShape _>>_ forbid
   judge-early l = rw (end-shape b right .1 (omega arith), end)
 
-  pub judge-late : length b / 16 < e → replyOf (Shape (length b / 16)) ≡ checkReply (judgeShape b)
+  pub judge-late : length b / 16 < e → verdictReply (Shape (length b / 16)) ≡ checkReply (judgeShape b)
   unfolding judgeShape _>>_ forbid
   judge-late l = rw (end-shape b right .2 (omega arith))
 
-  pub judge-whole : Bytes b → length b % 16 ≡ 0 → length b / 16 ≤ e → e ≤ length b / 16 → (v : Verdict) → ((t : Term) → Holds b t → replyOf v ≡ checkReply (judgeTerm t))
-      → replyOf v ≡ checkReply (judgeShape b)
+  pub judge-whole : Bytes b → length b % 16 ≡ 0 → length b / 16 ≤ e → e ≤ length b / 16 → (v : Verdict) → ((t : Term) → Holds b t → verdictReply v ≡ checkReply (judgeTerm t))
+      → verdictReply v ≡ checkReply (judgeShape b)
   unfolding judgeShape _>>_ forbid
   judge-whole k z l m v f =
       let q = end-shape b right .0 (omega arith) in
@@ -97,14 +97,14 @@ module _ (b : List ℕ) (e : ℕ) (right : firstWrong 0 (records b) ≡ none) (e
       rw q (f (decode (map node (records b))) (record { is = sym y; right = g }))
 
 -- 1 and 2
-pub judge-length : (b : List ℕ) → wrongLength b ≡ true → replyOf Length ≡ checkReply (judge b)
+pub judge-length : (b : List ℕ) → wrongLength b ≡ true → verdictReply Length ≡ checkReply (judge b)
 unfolding judge _>>_ forbid placeIf
 judge-length b e = rw e
 
-pub judge-record : (b : List ℕ) (p : ℕ) → wrongLength b ≡ false → firstWrong 0 (records b) ≡ some p → replyOf (Record p) ≡ checkReply (judge b)
+pub judge-record : (b : List ℕ) (p : ℕ) → wrongLength b ≡ false → firstWrong 0 (records b) ≡ some p → verdictReply (Record p) ≡ checkReply (judge b)
 unfolding judge _>>_ forbid placeIf
 judge-record b p e f = rw (e, f)
 
-pub judge-all : (b : List ℕ) (v : Verdict) → wrongLength b ≡ false → firstWrong 0 (records b) ≡ none → replyOf v ≡ checkReply (judgeShape b) → replyOf v ≡ checkReply (judge b)
+pub judge-all : (b : List ℕ) (v : Verdict) → wrongLength b ≡ false → firstWrong 0 (records b) ≡ none → verdictReply v ≡ checkReply (judgeShape b) → verdictReply v ≡ checkReply (judge b)
 unfolding judge judgeShape _>>_ forbid placeIf
 judge-all b v e f q = rw (e, f) q

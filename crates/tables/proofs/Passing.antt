@@ -21,7 +21,7 @@ use Rattle.readers.proofs.Seeking.{deep-below}
 use Rattle.readers.proofs.Readings.{Tells, reads-tells}
 use Rattle.tables.specs.declared.Verdict.{Verdict}
 use Rattle.tables.specs.declared.Verdict.the-variants.{Deep, Choice}
-use Rattle.tables.specs.Verdict.{replyOf, checkReply, judgeScopes}
+use Rattle.tables.specs.Verdict.{verdictReply, checkReply, judgeScopes}
 use Rattle.tables.proofs.Judging.{judge-deep, judge-choice, judge-rest}
 
 -- where it stands, by what the service reader found: at the end of the term, past the records by that, or past that too by the fault
@@ -67,7 +67,7 @@ module _ (s d d′ : List ℕ) (at : ℕ) (x : Passed s 0 d d′ at) where
             (λ h. y .end m h l);
       }
 
-  pub whole-rest : at ≡ n → (v : Verdict) (t : Term) → Holds s t → replyOf v ≡ checkReply (judgeScopes t) → replyOf v ≡ checkReply (judgeTerm t)
+  pub whole-rest : at ≡ n → (v : Verdict) (t : Term) → Holds s t → verdictReply v ≡ checkReply (judgeScopes t) → verdictReply v ≡ checkReply (judgeTerm t)
   whole-rest e v t h z = let (p, q) = whole e in judge-rest t reading n v (tells t h) (holds-size s t h) (omega arith) (sym own-is ∙ q) z
 
   -- not there, though the shape is right: a record is too deep, or a choice's child is no guard
@@ -82,14 +82,14 @@ module _ (s d d′ : List ℕ) (at : ℕ) (x : Passed s 0 d d′ at) where
     pub stood-far : n + 2 ≤ at
     stood-far = stood (n + 2 ≤ at) (λ l p. l) (λ p q r. omega arith)
 
-    pub stood-deep : at < 2 * n + 2 → (t : Term) → Holds s t → replyOf (Deep (at - n - 2)) ≡ checkReply (judgeTerm t)
+    pub stood-deep : at < 2 * n + 2 → (t : Term) → Holds s t → verdictReply (Deep (at - n - 2)) ≡ checkReply (judgeTerm t)
     stood-deep l t h =
-        stood (replyOf (Deep (at - n - 2)) ≡ checkReply (judgeTerm t))
+        stood (verdictReply (Deep (at - n - 2)) ≡ checkReply (judgeTerm t))
         (λ m p. rw p at (judge-deep t reading n (tells t h) (holds-size s t h) (omega arith))) (λ p q r. absurd (omega arith))
 
-    pub stood-choice : 2 * n + 2 ≤ at → (t : Term) → Holds s t → replyOf (Choice (at - 2 * n - 2)) ≡ checkReply (judgeTerm t)
+    pub stood-choice : 2 * n + 2 ≤ at → (t : Term) → Holds s t → verdictReply (Choice (at - 2 * n - 2)) ≡ checkReply (judgeTerm t)
     stood-choice l t h =
-        stood (replyOf (Choice (at - 2 * n - 2)) ≡ checkReply (judgeTerm t))
+        stood (verdictReply (Choice (at - 2 * n - 2)) ≡ checkReply (judgeTerm t))
         (λ m p. absurd (omega (arith, deep-below t (x .end - n - 2) (tells t h .deep (x .end - n - 2) .1 (omega (arith, holds-size s t h))), holds-size s t h)))
         (λ p q r. let z : at - 2 * n - 2 ≡ x .read .own = omega (arith, own-is) in
         rw z (judge-choice t reading n (tells t h) (holds-size s t h) (omega arith) (λ e. q (own-is ∙ e))))

@@ -15,19 +15,23 @@ use Rattle.tables.specs.declared.Verdict.{Verdict}
 use Rattle.tables.specs.declared.Verdict.the-variants.{Accepted, Length, Record, Shape, Deep, Choice, Open, Clash}
 use Rattle.tables.specs.declared.Reply.{Reply}
 
-abbrev pub replyOf : Verdict → Reply
-replyOf (Accepted n) = record { answer = 0; place = 0; records = n }
-replyOf Length = record { answer = 1; place = 0; records = 0 }
-replyOf (Record p) = record { answer = 2; place = p; records = 0 }
-replyOf (Shape p) = record { answer = 3; place = p; records = 0 }
-replyOf (Deep p) = record { answer = 4; place = p; records = 0 }
-replyOf (Choice p) = record { answer = 5; place = p; records = 0 }
-replyOf (Open p) = record { answer = 6; place = p; records = 0 }
-replyOf (Clash p) = record { answer = 7; place = p; records = 0 }
+-- a refusal: its number, its place and no records
+abbrev pub refusal : ℕ → ℕ → Reply
+refusal n p = record { answer = n; place = p; records = 0 }
+
+abbrev pub verdictReply : Verdict → Reply
+verdictReply (Accepted n) = record { answer = 0; place = 0; records = n }
+verdictReply Length = refusal 1 0
+verdictReply (Record p) = refusal 2 p
+verdictReply (Shape p) = refusal 3 p
+verdictReply (Deep p) = refusal 4 p
+verdictReply (Choice p) = refusal 5 p
+verdictReply (Open p) = refusal 6 p
+verdictReply (Clash p) = refusal 7 p
 
 -- the reply to a judgement of a table: 0, 0 and its records, or the refusal, its place and 0
 abbrev pub checkReply : Result Term → Reply
-checkReply (refuse n p) = record { answer = n; place = p; records = 0 }
+checkReply (refuse n p) = refusal n p
 checkReply (accept t) = record { answer = 0; place = 0; records = size t }
 
 -- What the check of a table gives: the reply, and the ends of the terms of an accepted table.

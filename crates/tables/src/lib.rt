@@ -8,7 +8,7 @@ ghost use Rattle.cows.specs.Terms.{Term};
 ghost use Rattle.cows.specs.Tables.{judge};
 ghost use Rattle.records.specs.Holds.{Holds};
 ghost use Rattle.records.specs.Ends.{EndsFrom};
-ghost use Rattle.tables.specs.Verdict.{replyOf, checkReply, Checked, judgeScopes, judgeShape, RightRecords, Stood};
+ghost use Rattle.tables.specs.Verdict.{refusal, verdictReply, checkReply, Checked, judgeScopes, judgeShape, RightRecords, Stood};
 
 // What the author of a table is told.
 pub enum Verdict {
@@ -29,8 +29,19 @@ pub struct Reply {
     pub records: usize,
 }
 
+// A refusal: its number, its place and no records.
+pub fn refusal(answer: u8, place: usize) -> Reply
+    ensures { λ r. ⌜ r ≡ refusal answer place ⌝ }
+{
+    Reply {
+        answer,
+        place,
+        records: 0,
+    }
+}
+
 fn answer_of(v: Verdict) -> Reply
-    ensures { λ r. ⌜ r ≡ replyOf v ⌝ }
+    ensures { λ r. ⌜ r ≡ verdictReply v ⌝ }
 {
     match v {
         Verdict::Accepted(n) => Reply {
@@ -48,20 +59,10 @@ fn answer_of(v: Verdict) -> Reply
     }
 }
 
-fn refusal(answer: u8, place: usize) -> Reply
-    ensures { λ r. ⌜ r ≡ record { answer = answer; place = place; records = 0 } ⌝ }
-{
-    Reply {
-        answer,
-        place,
-        records: 0,
-    }
-}
-
 // Refusals 6 and 7 of a table that holds a term.
 fn find_scopes(s: &[u8], ends: &[u16]) -> Verdict
     requires { ⌜ EndsFrom (now s) (now ends) 0 ⌝ }
-    ensures { λ v. ⌜ ((t : Term) → Holds (now (s .entry)) t → replyOf v ≡ checkReply (judgeScopes t)) ⌝ }
+    ensures { λ v. ⌜ ((t : Term) → Holds (now (s .entry)) t → verdictReply v ≡ checkReply (judgeScopes t)) ⌝ }
 {
     let found = scopes::scope_faults(s, ends);
     match found {
@@ -75,7 +76,7 @@ fn find_scopes(s: &[u8], ends: &[u16]) -> Verdict
 // found again, on any shape.
 fn find_refusal(s: &[u8], ends: &mut [u16], at: usize) -> Verdict
     requires { ⌜ RightRecords (now s) × (length (now s) / 16 + 1 < length (now ends)) × Stood (now s) (now ends) at ⌝ }
-    ensures { λ v. ⌜ (replyOf v ≡ checkReply (judgeShape (now (s .entry)))) × EndsFrom (now (s .entry)) (now (ends .exit)) 0 ⌝ }
+    ensures { λ v. ⌜ (verdictReply v ≡ checkReply (judgeShape (now (s .entry)))) × EndsFrom (now (s .entry)) (now (ends .exit)) 0 ⌝ }
 {
     let n = s.len() / 16;
     if at == n {
@@ -98,7 +99,7 @@ fn find_refusal(s: &[u8], ends: &mut [u16], at: usize) -> Verdict
 // Refusals 3 to 7 of right records: the table reader reads the term at the first, and the quick test of scopes follows; `ends` takes the ends of the terms.
 fn judge_records(s: &[u8], ends: &mut [u16]) -> Verdict
     requires { ⌜ RightRecords (now s) × (length (now s) / 16 + 1 < length (now ends)) ⌝ }
-    ensures { λ v. ⌜ (replyOf v ≡ checkReply (judgeShape (now (s .entry)))) × EndsFrom (now (s .entry)) (now (ends .exit)) 0 ⌝ }
+    ensures { λ v. ⌜ (verdictReply v ≡ checkReply (judgeShape (now (s .entry)))) × EndsFrom (now (s .entry)) (now (ends .exit)) 0 ⌝ }
 {
     let n = s.len() / 16;
     let at = readers::read_on(s, ends, 0);
@@ -117,7 +118,7 @@ fn judge_records(s: &[u8], ends: &mut [u16]) -> Verdict
 // All refusals of a table; `ends` takes the ends of the terms of an accepted one.
 fn judge_table(s: &[u8], ends: &mut [u16]) -> Verdict
     requires { ⌜ min (length (now s) / 16) 2048 + 1 < length (now ends) ⌝ }
-    ensures { λ v. ⌜ Checked (now (s .entry)) (now (ends .exit)) (replyOf v) ⌝ }
+    ensures { λ v. ⌜ Checked (now (s .entry)) (now (ends .exit)) (verdictReply v) ⌝ }
 {
     let n = s.len();
     if (n == 0) | (limits::MAX_BYTES < n) | (n % 16 != 0) {

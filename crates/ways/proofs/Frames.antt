@@ -50,7 +50,7 @@ frame-delimits d (leftOf j t) s = refl
 frame-delimits d (rightOf j t) s = refl
 
 -- a record is a delimitation of an atom by its kind and its first atom
-eqb-flip : (a b : ℕ) → eqb a b ≡ eqb b a
+pub eqb-flip : (a b : ℕ) → eqb a b ≡ eqb b a
 eqb-flip a b = same-test (λ e. eq-eqb b a (sym (eqb-true a b e))) (λ e. eq-eqb a b (sym (eqb-true b a e)))
 
 delimits-record : (s : Term) (d : ℕ) → (eqb (kindOf s) 8 && eqb (word (record16 (root s)) 2) d) ≡ delimitsAt d s

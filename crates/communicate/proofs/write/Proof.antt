@@ -1,7 +1,7 @@
 use borrow.Author.Needs.{needs}
 use native.Mathlib.Omega.{arith}
 use Rattle.plans.proofs.Planning.{gives}
-use Rattle.communicate.proofs.Exchanges.{asks-spans, asks-parts, joined}
+use Rattle.communicate.proofs.Exchanges.{asks-span, asks-parts, joined}
 use Rattle.communicate.proofs.write.Statement.{statement}
 use Rattle.communicate.proofs.write.Tie as tie
 
@@ -9,49 +9,54 @@ pub write-spec : {M : Type 1} → statement M
 write-spec =
     tie.close
     (tie.spec
-    (λ c. let o = asks-spans _ _ _ _ _ _ (c .before .before .before .pre) in omega (arith, o .span))
-    (λ c. let o = asks-spans _ _ _ _ _ _ (c .before .before .before .pre) in omega (arith, o .span))
-    (λ c. let o = asks-spans _ _ _ _ _ _ (c .before .before .before .pre) in omega (arith, o .span))
-    (λ c. let o = asks-spans _ _ _ _ _ _ (c .before .before .before .pre) in omega (arith, o .span))
-    (λ c κs. let o = asks-spans _ _ _ _ _ _ (c .before .before .before .pre) in omega (arith, o .span))
-    (λ c. let o = asks-spans _ _ _ _ _ _ (c .before .before .before .before .pre) in omega (arith, o .span))
-    (λ c. let o = asks-spans _ _ _ _ _ _ (c .before .before .before .before .pre) in omega (arith, o .span))
-    (λ c κs. let o = asks-spans _ _ _ _ _ _ (c .before .before .before .before .pre) in omega (arith, o .span))
-    (λ c. let o = asks-spans _ _ _ _ _ _ (c .before .before .before .before .before .pre) in omega (arith, o .span))
-    (λ c. let o = asks-spans _ _ _ _ _ _ (c .before .before .before .before .before .pre) in omega (arith, o .span))
-    (λ c κs. let o = asks-spans _ _ _ _ _ _ (c .before .before .before .before .before .pre) in omega (arith, o .span))
-    (λ c. let o = asks-spans _ _ _ _ _ _ (c .before .before .before .before .before .before .pre) in omega (arith, o .span))
-    (λ c. let o = asks-spans _ _ _ _ _ _ (c .before .before .before .before .before .before .pre) in omega (arith, o .span))
-    (λ c κs. let o = asks-spans _ _ _ _ _ _ (c .before .before .before .before .before .before .pre) in omega (arith, o .span))
-    (λ c. let o = asks-spans _ _ _ _ _ _ (c .before .before .before .before .before .before .before .pre) in omega (arith, o .span))
-    (λ c. let o = asks-spans _ _ _ _ _ _ (c .before .before .before .before .before .before .before .before .pre) in omega (arith, o .span))
+    (λ c. omega (arith, asks-span _ _ (c .before .before .before .pre)))
+    (λ c. omega (arith, asks-span _ _ (c .before .before .before .pre)))
+    (λ c. omega (arith, asks-span _ _ (c .before .before .before .pre)))
+    (λ c. omega (arith, asks-span _ _ (c .before .before .before .pre)))
+    (λ c κs. omega (arith, asks-span _ _ (c .before .before .before .pre)))
+    (λ c. omega (arith, asks-span _ _ (c .before .before .before .before .pre)))
+    (λ c. omega (arith, asks-span _ _ (c .before .before .before .before .pre)))
+    (λ c κs. omega (arith, asks-span _ _ (c .before .before .before .before .pre)))
+    (λ c. omega (arith, asks-span _ _ (c .before .before .before .before .before .pre)))
+    (λ c. omega (arith, asks-span _ _ (c .before .before .before .before .before .pre)))
+    (λ c κs. omega (arith, asks-span _ _ (c .before .before .before .before .before .pre)))
+    (λ c. omega (arith, asks-span _ _ (c .before .before .before .before .before .before .pre)))
+    (λ c. omega (arith, asks-span _ _ (c .before .before .before .before .before .before .pre)))
+    (λ c κs. omega (arith, asks-span _ _ (c .before .before .before .before .before .before .pre)))
+    (λ c. omega (arith, asks-span _ _ (c .before .before .before .before .before .before .before .pre)))
+    (λ c. omega (arith, asks-span _ _ (c .before .before .before .before .before .before .before .before .pre)))
     (λ c κs. search needs)
-    (λ c. let o = asks-spans _ _ _ _ _ _ (c .before .before .before .before .before .before .before .before .before .pre) in omega (arith, o .span))
-    (λ c. let o = asks-spans _ _ _ _ _ _ (c .before .before .before .before .before .before .before .before .before .before .pre) in omega (arith, o .span))
+    (λ c. omega (arith, asks-span _ _ (c .before .before .before .before .before .before .before .before .before .pre)))
+    (λ c. omega (arith, asks-span _ _ (c .before .before .before .before .before .before .before .before .before .before .pre)))
     (λ c κs. search needs)
     (λ c κs.
-    let q = c .before .before .before .before .before .before .before .before .before .before .before .before .pre in
-    let o = asks-spans _ _ _ _ _ _ q in
-    let p = asks-parts _ _ _ _ _ _ q _ _ _ _ (c .before .before .before .before .before .before .before .before .takes-at .ensures) (c .before .before .before .before .before .before .before .takes-at2 .ensures) (c .before .before .before .before .before .before .takes-at3 .ensures) (c .before .before .before .before .before .takes-at4 .ensures) _ _ (c .before .before .before .wide16 .ensures .0) (c .before .wide162 .ensures .0) in
-    (omega (arith, o .span), omega (arith, p .front-fits)))
-    (λ c. let o = asks-spans _ _ _ _ _ _ (c .before .before .before .before .before .before .before .before .before .before .before .before .before .before .before .pre) in omega (arith, o .span))
+    let v = c .before in
+    let w = v .before .before .before .before in
+    let q = w .before .before .before .before .before .before .before .pre in
+    let p = asks-parts _ _ q (v .before .before .wide16 .ensures .0) (v .wide162 .ensures .0) (w .before .before .before .takes-at .ensures) (w .before .before .takes-at2 .ensures) (w .before .takes-at3 .ensures) (w .takes-at4 .ensures) in
+    omega (arith, p .front-fits, asks-span _ _ q))
+    (λ c. omega (arith, asks-span _ _ (c .before .before .before .before .before .before .before .before .before .before .before .before .before .before .before .pre)))
     (λ c κs.
-    let q = c .before .before .before .before .before .before .before .before .before .before .before .before .before .before .before .before .pre in
-    let o = asks-spans _ _ _ _ _ _ q in
-    let p = asks-parts _ _ _ _ _ _ q _ _ _ _ (c .before .before .before .before .before .before .before .before .before .before .before .before .takes-at .ensures) (c .before .before .before .before .before .before .before .before .before .before .before .takes-at2 .ensures) (c .before .before .before .before .before .before .before .before .before .before .takes-at3 .ensures) (c .before .before .before .before .before .before .before .before .before .takes-at4 .ensures) _ _ (c .before .before .before .before .before .before .before .wide16 .ensures .0) (c .before .before .before .before .before .wide162 .ensures .0) in
-    let r = c .before .before .before .write-bound in
-    (omega (arith, o .span, c .before .before .before .before .before .before .before .wide16 .ensures .0), omega (arith, p .body-fits, r .ensures .1, r .kept .1 .1 .1 .1 .1 .1 .1 .1 .0)))
+    let r = c .before .before .before in
+    let v = r .before .before in
+    let w = v .before .before .before .before in
+    let q = w .before .before .before .before .before .before .before .pre in
+    let p = asks-parts _ _ q (v .before .before .wide16 .ensures .0) (v .wide162 .ensures .0) (w .before .before .before .takes-at .ensures) (w .before .before .takes-at2 .ensures) (w .before .takes-at3 .ensures) (w .takes-at4 .ensures) in
+    omega (arith, p .body-fits, asks-span _ _ q, v .before .before .wide16 .ensures .0, r .write-bound .ensures .1, r .write-bound .kept .1 .1 .1 .1 .1 .1 .1 .1 .0))
     (λ c κs.
-    let q = c .before .before .before .before .before .before .before .before .before .before .before .before .before .before .before .before .before .before .before .before .pre in
-    let o = asks-spans _ _ _ _ _ _ q in
-    let p = asks-parts _ _ _ _ _ _ q _ _ _ _ (c .before .before .before .before .before .before .before .before .before .before .before .before .before .before .before .before .takes-at .ensures) (c .before .before .before .before .before .before .before .before .before .before .before .before .before .before .before .takes-at2 .ensures) (c .before .before .before .before .before .before .before .before .before .before .before .before .before .before .takes-at3 .ensures) (c .before .before .before .before .before .before .before .before .before .before .before .before .before .takes-at4 .ensures) _ _ (c .before .before .before .before .before .before .before .before .before .before .before .wide16 .ensures .0) (c .before .before .before .before .before .before .before .before .before .wide162 .ensures .0) in
-    let r = c .before .before .before .before .before .before .before .write-bound in
-    let v = c .before .before .before .write-bound2 in
-    (omega (arith, o .whole), omega (arith, p .back-fits, r .ensures .1, r .kept .1 .1 .1 .1 .1 .1 .1 .1 .0, v .ensures .1, v .kept .1 .1 .1 .1 .1 .1 .1 .1 .0)))
+    let u = c .before .before .before in
+    let r = u .before .before .before .before in
+    let v = r .before .before in
+    let w = v .before .before .before .before in
+    let q = w .before .before .before .before .before .before .before .pre in
+    let p = asks-parts _ _ q (v .before .before .wide16 .ensures .0) (v .wide162 .ensures .0) (w .before .before .before .takes-at .ensures) (w .before .before .takes-at2 .ensures) (w .before .takes-at3 .ensures) (w .takes-at4 .ensures) in
+    omega (arith, p .back-fits, asks-span _ _ q, r .write-bound .ensures .1, r .write-bound .kept .1 .1 .1 .1 .1 .1 .1 .1 .0, u .write-bound2 .ensures .1, u .write-bound2 .kept .1 .1 .1 .1 .1 .1 .1 .1 .0))
     (λ c. search needs)
     (λ c.
-    let q = c .before .before .before .before .before .before .before .before .before .before .before .before .before .before .before .before .before .before .before .before .before .before .before .pre in
-    let p = asks-parts _ _ _ _ _ _ q _ _ _ _ (c .before .before .before .before .before .before .before .before .before .before .before .before .before .before .before .before .before .before .before .takes-at .ensures) (c .before .before .before .before .before .before .before .before .before .before .before .before .before .before .before .before .before .before .takes-at2 .ensures) (c .before .before .before .before .before .before .before .before .before .before .before .before .before .before .before .before .before .takes-at3 .ensures) (c .before .before .before .before .before .before .before .before .before .before .before .before .before .before .before .before .takes-at4 .ensures) _ _ (c .before .before .before .before .before .before .before .before .before .before .before .before .before .before .wide16 .ensures .0) (c .before .before .before .before .before .before .before .before .before .before .before .before .wide162 .ensures .0) in
-    let r = c .before .before .before .before .before .before .before .before .before .before .write-bound in
-    let v = c .before .before .before .before .before .before .write-bound2 in
-    gives q (joined p (r .ensures .0) (r .ensures .1) (v .ensures .0) (v .ensures .1) (c .before .before .write-bound3 .ensures .0))))
+    let u = c .before .before .before .before .before .before in
+    let r = u .before .before .before .before in
+    let v = r .before .before in
+    let w = v .before .before .before .before in
+    let q = w .before .before .before .before .before .before .before .pre in
+    let p = asks-parts _ _ q (v .before .before .wide16 .ensures .0) (v .wide162 .ensures .0) (w .before .before .before .takes-at .ensures) (w .before .before .takes-at2 .ensures) (w .before .takes-at3 .ensures) (w .takes-at4 .ensures) in
+    gives q (joined p (r .write-bound .ensures .0) (r .write-bound .ensures .1) (u .write-bound2 .ensures .0) (u .write-bound2 .ensures .1) (c .before .before .write-bound3 .ensures .0))))

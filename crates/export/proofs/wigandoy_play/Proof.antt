@@ -2,7 +2,7 @@ use borrow.Author.Needs.{needs}
 use mathlib.Core.Path.{sym, ap, subst, _∙_}
 use native.Mathlib.Omega.{arith}
 use Rattle.tables.proofs.Judging.{slice-bytes}
-use Rattle.export.specs.Packing.{Fits, packed, counts}
+use Rattle.export.specs.Packing.{Fits, packed, fourCounts}
 use Rattle.export.proofs.Fits.{play-fits}
 use Rattle.export.proofs.wigandoy_play.Statement.{statement}
 use Rattle.export.proofs.wigandoy_play.Tie as tie
@@ -18,4 +18,4 @@ wigandoy-play-spec =
     (λ c. search needs)
     (λ c. search needs)
     (λ c. let p = c .before .before .before .before .before .before .before .play .ensures .0 in
-    record { replied = c .pack .ensures ∙ ap packed (p .replied); tallied = ap counts (p .tallied); output = p .output; slots-are = p .slots-are }))
+    record { replied = c .pack .ensures ∙ ap packed (p .replied); tallied = ap fourCounts (p .tallied); output = p .output; slots-are = p .slots-are }))

@@ -1,4 +1,5 @@
 use borrow.Author.Needs.{needs}
+use borrow.Author.Tests.{not-true, not-false}
 use mathlib.Core.Path.{_∙_}
 use Rattle.matching.proofs.Matches.{other-endpoint, other-count, slots-so}
 use Rattle.matching.proofs.fits_closed.Statement.{statement}
@@ -20,16 +21,22 @@ fits-closed-spec =
     (λ c κs. search needs)
     (λ c q m h k z.
     let o = c .before in
-    other-endpoint _ _ _ q m h k z (rw (← o .before .before .before .word-at .ensures, ← o .before .before .word-at2 .ensures, ← o .before .word-at3 .ensures, ← o .word-at4 .ensures) (c .if1 .taken)))
+    let p = o .before .before in
+    other-endpoint _ _ _ q m h k z (rw (← p .before .word-at .ensures, ← p .word-at2 .ensures, ← o .before .word-at3 .ensures, ← o .word-at4 .ensures) (not-true _ (c .if1 .taken))))
     (λ c. search needs)
     (λ c. search needs)
     (λ c. search needs)
     (λ c. search needs)
-    (λ c q m h k z. other-count _ _ _ q m h k z (c .if2 .taken))
+    (λ c q m h k z.
+    let i = c .before .before .before in
+    let o = i .before in
+    let p = o .before .before in
+    other-count _ _ _ q m h k z (rw (← p .before .word-at .ensures, ← p .word-at2 .ensures, ← o .before .word-at3 .ensures, ← o .word-at4 .ensures) (not-false _ (i .if1 .left))) (c .if2 .taken))
     (λ c κs. search needs)
     (λ c q m h k z.
     let i = c .before .before .before .before in
     let o = i .before in
+    let p = o .before .before in
     c .slots-fit .ensures
     ∙ slots-so _ _ _ q m h k z
-    (rw (← o .before .before .before .word-at .ensures, ← o .before .before .word-at2 .ensures, ← o .before .word-at3 .ensures, ← o .word-at4 .ensures) (i .if1 .left)) (c .before .if2 .left)))
+    (rw (← p .before .word-at .ensures, ← p .word-at2 .ensures, ← o .before .word-at3 .ensures, ← o .word-at4 .ensures) (not-false _ (i .if1 .left))) (c .before .if2 .left)))

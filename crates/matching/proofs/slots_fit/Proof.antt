@@ -1,10 +1,12 @@
 use borrow.Author.Needs.{needs}
 use borrow.Author.Tests.{not-true, not-false}
-use Rattle.matching.proofs.Matches.{slots-differ, slots-bind}
+use mathlib.Core.Bool.{_&&_}
+use Rattle.matching.specs.Matching.{slotsAt}
 use Rattle.matching.proofs.slots_fit.Statement.{statement}
 use Rattle.matching.proofs.slots_fit.Tie as tie
 
 pub slots-fit-spec : {M : Type 1} → statement M
+unfolding slotsAt
 slots-fit-spec =
     tie.close
     (tie.spec
@@ -21,23 +23,36 @@ slots-fit-spec =
     (λ c. search needs)
     (λ c κs. search needs)
     (λ c κs. search needs)
-    (λ c κs. search needs)
-    (λ c κs. search needs)
-    (λ c κs. search needs)
     (λ c.
-    let o = c .before .before .before .before .before in
-    slots-differ _ _ _ _ _ _ _ (o .before .before .before .slot-at .ensures) (o .before .before .slot-at2 .ensures) (o .before .slot-at3 .ensures) (o .slot-at4 .ensures)
-    (rw (← c .before .before .before .before .agrees .ensures, ← c .before .before .before .agrees2 .ensures, ← c .before .before .agrees3 .ensures, ← c .before .agrees4 .ensures) (not-true _ (c .if1 .taken))))
-    (λ c κs. search needs)
+    let z = c .before .before in
+    let x = z .before .before in
+    let e = not-true (x .before .agrees-at .result && (x .agrees-at2 .result && (z .before .agrees-at3 .result && z .agrees-at4 .result))) (c .before .if1 .taken) in
+    rw (← x .before .agrees-at .ensures, ← x .agrees-at2 .ensures, ← z .before .agrees-at3 .ensures, ← z .agrees-at4 .ensures, e, c .first-apart .ensures))
+    (λ c. search needs)
     (λ c κs. search needs)
     (λ c. search needs)
     (λ c κs. search needs)
+    (λ c. search needs)
+    (λ c. search needs)
+    (λ c κs. search needs)
+    (λ c. search needs)
     (λ c. search needs)
     (λ c κs. search needs)
     (λ c. search needs)
     (λ c.
-    let i = c .before .before .before .before in
-    let o = i .before .before .before .before .before in
-    slots-bind _ _ _ _ _ _ _ (o .before .before .before .slot-at .ensures) (o .before .before .slot-at2 .ensures) (o .before .slot-at3 .ensures) (o .slot-at4 .ensures)
-    (rw (← i .before .before .before .before .agrees .ensures, ← i .before .before .before .agrees2 .ensures, ← i .before .before .agrees3 .ensures, ← i .before .agrees4 .ensures) (not-false _ (i .if1 .left)))
-    _ _ _ _ (c .before .before .before .bound-in .ensures .0) (c .before .before .bound-in2 .ensures .0) (c .before .bound-in3 .ensures .0) (c .bound-in4 .ensures .0)))
+    let j = c .before .before in
+    let i = j .before .before in
+    let z = i .before in
+    let x = z .before .before in
+    let e = not-false (x .before .agrees-at .result && (x .agrees-at2 .result && (z .before .agrees-at3 .result && z .agrees-at4 .result))) (i .if1 .left) in
+    rw (
+      ← x .before .agrees-at .ensures,
+      ← x .agrees-at2 .ensures,
+      ← z .before .agrees-at3 .ensures,
+      ← z .agrees-at4 .ensures,
+      e,
+      j .before .variables-at .ensures .0,
+      j .variables-at2 .ensures .0,
+      c .before .variables-at3 .ensures .0,
+      c .variables-at4 .ensures .0,
+    )))

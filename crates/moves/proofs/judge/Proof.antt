@@ -1,12 +1,13 @@
 use borrow.Author.Needs.{needs}
 use Rattle.cows.specs.Basics.{_>>=_, need}
 use Rattle.cows.specs.Moves.{successor}
+use Rattle.cows.specs.Step.{proposed}
 use Rattle.moves.proofs.Proposing.{plans, plans-none}
 use Rattle.moves.proofs.judge.Statement.{statement}
 use Rattle.moves.proofs.judge.Tie as tie
 
 pub judge-spec : {M : Type 1} → statement M
-unfolding need _>>=_ successor
+unfolding proposed need _>>=_ successor
 judge-spec =
     tie.close
     (tie.spec

@@ -2,12 +2,13 @@ use borrow.Author.Needs.{needs}
 use mathlib.Core.Path.{refl}
 use Rattle.cows.specs.Basics.{_>>=_, need}
 use Rattle.cows.specs.Moves.{successor}
+use Rattle.cows.specs.Step.{proposed}
 use Rattle.moves.proofs.Proposing.{asked, asked-at, given, given-none}
 use Rattle.moves.proofs.write.Statement.{statement}
 use Rattle.moves.proofs.write.Tie as tie
 
 pub write-spec : {M : Type 1} → statement M
-unfolding need _>>=_ successor
+unfolding proposed need _>>=_ successor
 write-spec =
     tie.close
     (tie.spec

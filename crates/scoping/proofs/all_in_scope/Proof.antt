@@ -1,5 +1,5 @@
 use borrow.Author.Needs.{needs}
-use Rattle.scoping.proofs.Scoping.{every-in-scope, slot0, slot1, slot2, slot3}
+use Rattle.scoping.proofs.Scoping.{every-in-scope, slots}
 use Rattle.scoping.proofs.all_in_scope.Statement.{statement}
 use Rattle.scoping.proofs.all_in_scope.Tie as tie
 
@@ -22,10 +22,6 @@ all-in-scope-spec =
     (λ c. search needs)
     (λ c κs. search needs)
     (λ c t σ h.
-    rw (
-      every-in-scope _ _ _ _ _ _ _ t σ h,
-      c .slot-in-scope4 .ensures t _ _ (slot0 _ _ _ _ _ _ _ t σ h),
-      c .before .slot-in-scope3 .ensures t _ _ (slot1 _ _ _ _ _ _ _ t σ h),
-      c .before .before .before .slot-in-scope .ensures t _ _ (slot2 _ _ _ _ _ _ _ t σ h),
-      c .before .before .slot-in-scope2 .ensures t _ _ (slot3 _ _ _ _ _ _ _ t σ h),
-    )))
+    let (p, q, r, s) = slots _ _ _ _ _ _ _ t σ h in
+    let b = c .before .before in
+    rw (every-in-scope _ _ _ _ _ _ _ t σ h, c .slot-in-scope4 .ensures t _ _ p, c .before .slot-in-scope3 .ensures t _ _ q, b .before .slot-in-scope .ensures t _ _ r, b .slot-in-scope2 .ensures t _ _ s)))

@@ -21,8 +21,15 @@ in-scope-spec =
     (λ c. search needs)
     (λ c. search needs)
     (λ c t a b h.
-    not-delimited _ _ _ _ _ _ _ t a b h _ _ (found-at _ _ (sym (c .before .before .before .before .before .before .before .before .p .given .1) ∙ c .before .before .before .before .before .before .before .before .before .before .scope .ensures t a (h .left))) (found-at _ _ (sym (c .before .before .before .before .q .given .1) ∙ c .before .before .before .before .before .before .scope2 .ensures t b (h .right)))
-    (found-nothing _ (sym (c .enum-told3 .given .1) ∙ c .before .before .scope3 .ensures t b (h .right))))
+    let j = c .before .before .before .before in
+    let i = j .before .before .before .before in
+    let p = found-at _ _ (sym (i .p .given .1) ∙ i .before .before .scope .ensures t a (h .left)) in
+    let q = found-at _ _ (sym (j .q .given .1) ∙ j .before .before .scope2 .ensures t b (h .right)) in
+    not-delimited _ _ _ _ _ _ _ t a b h _ _ p q (found-nothing _ (sym (c .enum-told3 .given .1) ∙ c .before .before .scope3 .ensures t b (h .right))))
     (λ c t a b h.
-    around-both _ _ _ _ _ _ _ t a b h _ _ (found-at _ _ (sym (c .before .before .before .before .before .before .before .before .before .p .given .1) ∙ c .before .before .before .before .before .before .before .before .before .before .before .scope .ensures t a (h .left))) (found-at _ _ (sym (c .before .before .before .before .before .q .given .1) ∙ c .before .before .before .before .before .before .before .scope2 .ensures t b (h .right)))
-    _ (found-at _ _ (sym (c .before .e .given .1) ∙ c .before .before .before .scope3 .ensures t b (h .right)))))
+    let l = c .before in
+    let j = l .before .before .before .before in
+    let i = j .before .before .before .before in
+    let p = found-at _ _ (sym (i .p .given .1) ∙ i .before .before .scope .ensures t a (h .left)) in
+    let q = found-at _ _ (sym (j .q .given .1) ∙ j .before .before .scope2 .ensures t b (h .right)) in
+    around-both _ _ _ _ _ _ _ t a b h _ _ p q _ (found-at _ _ (sym (l .e .given .1) ∙ l .before .before .scope3 .ensures t b (h .right)))))

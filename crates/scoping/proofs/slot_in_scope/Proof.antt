@@ -1,7 +1,6 @@
 use borrow.Author.Needs.{needs}
 use mathlib.Core.Path.{sym, _∙_}
 use Rattle.matching.proofs.Slots.{takes-pair, takes-nothing}
-use Rattle.scoping.proofs.Scoping.{slot-sends}
 use Rattle.scoping.proofs.slot_in_scope.Statement.{statement}
 use Rattle.scoping.proofs.slot_in_scope.Tie as tie
 
@@ -12,8 +11,8 @@ slot-in-scope-spec =
     (λ c κs. search needs)
     (λ c. search needs)
     (λ c. search needs)
-    (λ c t a b h. rw (takes-nothing _ _ (sym (c .enum-told .given .1) ∙ c .before .before .takes-at .ensures) (λ z. h .sent z .0)))
+    (λ c t a b h. rw (takes-nothing _ _ (sym (c .enum-told .given .1) ∙ c .before .before .takes-at .ensures) (λ z. h z .sent)))
     (λ c κs. search needs)
     (λ c t a b h.
     let p = takes-pair _ _ _ _ (sym (c .before .before .x .given .1) ∙ c .before .before .before .before .takes-at .ensures) in
-    rw (p .2, ← p .0, ← p .1) (c .in-scope .ensures t a b (rw (← p .1) at (slot-sends _ _ _ _ _ _ _ t a b h (p .2))))))
+    rw (p .2, ← p .0, ← p .1) (c .in-scope .ensures t a b (rw (← p .1) at (h (p .2))))))

@@ -35,7 +35,7 @@ use denote.Triple.Clauses.{ensured, lasts}
 use denote.Triple.Table.{entered, cited}
 use denote.Triple.Walked.{says, needs, Stays, stay-ref, stay-none, walkOf, AllGo, goes-none, goes-ref, Walks, ends-at, walked, walk-meets}
 use denote.Exit.{yes}
-use Rattle.tally.specs.Counted.{sumOf, Room}
+use Rattle.tally.specs.Counted.{sumOf, SumsFit}
 use Rattle.tally.specs.declared.Tally.{Tally}
 use Rattle.tally.proofs.Tally as T
 use Rattle.tally.proofs.Tally.Laws as T′
@@ -87,7 +87,7 @@ module _ {M : Type 1} (𝓤 : URA M) (H : Heap 𝓤) (A : Atoms 𝓤) (W : Given
   abbrev to : Work 𝓤 H A at-mem run .Ghost
   to = ((tt, tt, tt, (h, (d, tt)), (mach ∷ [], (T′.lowered d ∷ [], tt))), tt)
 
-  goes : Room h d → ent 𝓤 (sem 𝓤 H A (T.the-row .own h (mach ∷ []))) (Work 𝓤 H A at-mem run .pre to)
+  goes : SumsFit h d → ent 𝓤 (sem 𝓤 H A (T.the-row .own h (mach ∷ []))) (Work 𝓤 H A at-mem run .pre to)
   goes room =
       qed W (‵ (T.the-row .own h (mach ∷ [])) ∷ []) ∵ says ! room $ nothing ! $ frame ! $
       nothing ! $ owned ! T.the-row (Is T.the-row) ((LL.makes T.the-type T′.the-plain) 𝓤 H A) d _ is-d $ fjoin ! $ move ! (1 ∷ 0 ∷ []) $ fjoin ! $ done !
@@ -96,7 +96,7 @@ module _ {M : Type 1} (𝓤 : URA M) (H : Heap 𝓤) (A : Atoms 𝓤) (W : Given
   said r = exE 𝓤 _ (λ ws. snd∗ 𝓤 (sem 𝓤 H A (lasts work.ended tt (h, (d, tt)) ws)) (fact 𝓤 (r ≡ sumOf h d)))
 
   module _ (C : Calls 𝓤 H) (Λ : Loops 𝓤 H) (fm : FmC 𝓤 H (W .laws) C) (known : Triple 𝓤 (C #tally·sum) (Work 𝓤 H A at-mem run)) where
-    walk : Room h d → ent 𝓤 (onEntry 𝓤 H A f.signature (κ, tt) (q, tt) x at) (WpFn 𝓤 H C Λ code.function (vptr b o ∷ T′.lowered d ∷ []) Post)
+    walk : SumsFit h d → ent 𝓤 (onEntry 𝓤 H A f.signature (κ, tt) (q, tt) x at) (WpFn 𝓤 H C Λ code.function (vptr b o ∷ T′.lowered d ∷ []) Post)
     walk room =
         qed W ((‵ (flft κ q) ⊛ ‵ ftrue) ∷ ‵ (owns (MutRef (named 0) κ T.the-row ∷ T.the-row ∷ []) x at) ∷ []) ∵ enter ! C Λ code.function (vptr b o ∷ T′.lowered d ∷ []) _ $
         alloc1 ! (λ l₀. alloc1 ! (λ l₁. alloc1 ! (λ l₂. alloc1 ! (λ l₃. alloc1 ! (λ l₄. alloc0 ! $ params1 ! $ pass1 ! (init ! 6 refl (tt, tt)) $
@@ -128,7 +128,7 @@ module _ {M : Type 1} (𝓤 : URA M) (H : Heap 𝓤) (A : Atoms 𝓤) (W : Given
       (f.clauses 𝓤 H A at-mem run)
   count-walks C Λ fm known = walked 𝓤 H A f.ended stayed (f.clauses 𝓤 H A at-mem run) (WpFn 𝓤 H C Λ code.function) (λ κs. (ptr-vals, (LL.vals T.the-type T′.the-laws, tt)))
       (λ κs. (mut-tells (named 0) (κs .0) T.the-row, (LL.tells T.the-type T′.the-laws, tt)))
-      (λ κs qs bounds a _ are. needs 𝓤 (Room (a .0 .now) (a .1 .0)) _
+      (λ κs qs bounds a _ are. needs 𝓤 (SumsFit (a .0 .now) (a .1 .0)) _
       (walk 𝓤 H A W at-mem run (κs .0) (qs .0) (a .0 .ptr .0) (a .0 .ptr .1) (a .0 .name) (a .0 .now) (a .1 .0) (are .1 .0) C Λ fm known))
 
   all-go : AllGo 𝓤 H A W 1 (f.signature .params) (f.ended .kept) stayed

@@ -1,18 +1,33 @@
 use borrow.Author.Needs.{needs}
-use borrow.Author.Tests.{ne-eqb}
-use Rattle.cows.specs.Run.{counted}
-use Rattle.tally.specs.Counted.{countsOf}
+use mathlib.Core.Path.{refl}
+use Rattle.cows.specs.Run.{adds}
+use Rattle.tally.proofs.Counting.{counts-by, counts-none}
 use Rattle.tally.proofs.counts.Statement.{statement}
 use Rattle.tally.proofs.counts.Tie as tie
 
 pub counts-spec : {M : Type 1} → statement M
-unfolding countsOf counted
+unfolding adds
 counts-spec =
     tie.close
     (tie.spec
+    (λ c. search needs)
     (λ c κs. search needs)
-    (λ c. simp (c .match .keys1))
-    (λ c. simp (c .match .keys2))
-    (λ c. simp (c .match .keys3))
-    (λ c. simp (c .match .keys4))
-    (λ c. let r = c .before .match .rest in simp (ne-eqb _ _ (r .0 .0 .0 .1), ne-eqb _ _ (r .0 .0 .1), ne-eqb _ _ (r .0 .1), ne-eqb _ _ (r .1)) (c .zeros .ensures)))
+    (λ c. search needs)
+    (λ c κs. search needs)
+    (λ c. search needs)
+    (λ c κs. search needs)
+    (λ c. search needs)
+    (λ c κs. search needs)
+    (λ c. search needs)
+    (λ c κs. search needs)
+    (λ c. search needs)
+    (λ c κs. search needs)
+    (λ c. search needs)
+    (λ c κs. search needs)
+    (λ c. counts-by _ (c .before .enum-told .given .1) refl (c .counted .ensures))
+    (λ c. counts-by _ (c .before .enum-told2 .given .1) refl (c .counted2 .ensures))
+    (λ c. counts-by _ (c .before .enum-told3 .given .1) refl (c .counted3 .ensures))
+    (λ c. counts-by _ (c .before .enum-told4 .given .1) refl (c .counted4 .ensures))
+    (λ c. counts-by _ (c .before .enum-told5 .given .1) refl (c .counted5 .ensures))
+    (λ c. counts-by _ (c .before .enum-told6 .given .1) refl (c .counted6 .ensures))
+    (λ c. counts-none _ (c .before .enum-told7 .given .1)))

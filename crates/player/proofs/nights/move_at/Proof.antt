@@ -1,10 +1,9 @@
 use borrow.Author.Needs.{needs}
 use Rattle.player.proofs.nights.move_at.Statement.{statement}
 use Rattle.player.proofs.nights.move_at.Tie as tie
-use mathlib.Core.Path.{ap, _∙_}
+use mathlib.Core.Path.{_∙_}
 use native.Mathlib.Omega.{arith}
-use lib.ListN.{length}
-use Rattle.player.proofs.Playing.{part-move, moved, move-six, reply-fits, made}
+use Rattle.player.proofs.Playing.{part-move, moved, reply-fits, made}
 
 pub move-at-spec : {M : Type 1} → statement M
 move-at-spec =
@@ -15,12 +14,13 @@ move-at-spec =
     (λ c. search needs)
     (λ c. search needs)
     (λ c. let z = c .before .before .before .before .before .before .before .before in omega (arith, z .pre .inside))
-    (λ c κs. let z = c .before .before .before .before .before .before .before .before .before in
-    (z .pre .going, ap length (part-move (z .args .moves .now) (z .args .i)) ∙ move-six _ _ _ _ _ _ _ (z .pre)))
+    (λ c κs. search needs)
+    (λ c κs. let r = c .before .before in
+    r .before .before .before .before .before .before .before .before .pre .going)
     (λ c κs. let m = c .before .before .before .before .before .before .before .before .before .before in
-    let x = m .before .before .before .before .before .before .before .before .before in
+    let x = m .before .before .before .before .before .before .before .before .before .before in
     let z = x .before in
-    let (place, records) = reply-fits _ _ _ _ _ _ _ (z .pre) _ _ _ _ (moved (part-move (z .args .moves .now) (z .args .i)) (m .move-on .ensures))
+    let (place, records) = reply-fits _ _ _ _ _ _ _ (z .pre) _ _ _ _ (moved (m .before .read-move .ensures ∙ part-move (z .args .moves .now) (z .args .i)) (m .move-on .ensures))
     (λ j. omega (arith, x .shared-slice-known .given j)) in
     (omega (arith, z .pre .inside, z .pre .slots-room), place, records))
     (λ c. search needs)
@@ -29,5 +29,5 @@ move-at-spec =
     (λ c. search needs)
     (λ c. let w = c .before .before in
     let m = w .before .before .before .before .before .before .before .before .before .before .before in
-    let z = m .before .before .before .before .before .before .before .before .before .before in
-    made _ _ _ _ _ _ _ (z .pre) _ _ _ _ (moved (part-move (z .args .moves .now) (z .args .i)) (m .move-on .ensures)) _ (w .put-reply .ensures)))
+    let z = m .before .before .before .before .before .before .before .before .before .before .before in
+    made _ _ _ _ _ _ _ (z .pre) _ _ _ _ (moved (m .before .read-move .ensures ∙ part-move (z .args .moves .now) (z .args .i)) (m .move-on .ensures)) _ (w .put-reply .ensures)))

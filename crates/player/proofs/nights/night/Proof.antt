@@ -57,8 +57,8 @@ use Rattle.tally.specs.declared.Tally.{Tally}
 use Rattle.tally.proofs.Tally as T
 use Rattle.tally.proofs.Tally.Laws as T′
 use Rattle.tally.proofs.Local.{typed, lies-in, lies-out}
-use Rattle.player.specs.Turns.{Keeps}
-use Rattle.player.specs.Nights.{Ready, Recorded, Opens, Playing, Ends}
+use Rattle.player.specs.Turns.{KeepsRun}
+use Rattle.player.specs.Nights.{CanMove, Recorded, CanPlay, Playing, NightOver}
 use Rattle.player.specs.declared.turns.Kept.{Kept}
 use Rattle.player.specs.declared.nights.Moved.{Moved}
 use Rattle.player.proofs.turns.Kept as K
@@ -126,7 +126,7 @@ more = rest (rest mir′.turn-1)
 -- s is the moves' reference, x, y, e and r those of the two buffers, the ends and the replies
 module _ {M : Type 1} (𝓤 : URA M) (H : Heap 𝓤) (A : Atoms 𝓤) (W : Given 𝓤 H A) (at-mem : Memory → SProp 𝓤) (run : Routine → Fun 𝓤) (κs κx κy κe κr : Lft)
     (bounds : AllOutlive 5 (f.signature .outlives) (κs, (κx, (κy, (κe, (κr, tt)))))) (qs qx qy qe qr : Share)
-    (first : Kept) (is-first : Is K.the-row first (K′.lowered first ∷ [])) (s x y e r : RefT (List ℕ)) (n : ℕ) (n-fits : n < 2 ^ 64) (ok : Opens (now s) n first (now x) (now y) (now e) (now r)) where
+    (first : Kept) (is-first : Is K.the-row first (K′.lowered first ∷ [])) (s x y e r : RefT (List ℕ)) (n : ℕ) (n-fits : n < 2 ^ 64) (ok : CanPlay (now s) n first (now x) (now y) (now e) (now r)) where
   -- the machine value of a slice
   abbrev at : RefT (List ℕ) → Val
   at z = sliceVal (z .ptr) (length (now z))
@@ -164,7 +164,7 @@ module _ {M : Type 1} (𝓤 : URA M) (H : Heap 𝓤) (A : Atoms 𝓤) (W : Given
   made k c = record { kept = k; tally = c }
 
   abbrev Said : Kept → Tally → (x′ y′ e′ r′ : List ℕ) → Type 0
-  Said k c x′ y′ e′ r′ = (t : Term) → Keeps (start t) (now x) (now y) (now e) first → Ends t (now s) x′ y′ e′ (now r) r′ (made k c)
+  Said k c x′ y′ e′ r′ = (t : Term) → KeepsRun (start t) (now x) (now y) (now e) first → NightOver t (now s) x′ y′ e′ (now r) r′ (made k c)
 
   -- a state of the loop: the moves made, the tally, what is kept, the lists, and what is known of them
   pub record State : Type 0 where
@@ -246,7 +246,7 @@ module _ {M : Type 1} (𝓤 : URA M) (H : Heap 𝓤) (A : Atoms 𝓤) (W : Given
     abbrev Says : Kept → Lasts → Type 0
     Says k′ zs = Recorded (now s) (z .i) (z .k) (z .xs) (z .ys) (z .es) (z .rs) (z .c) (last-x zs) (last-y zs) (last-e zs) (last-r zs) (zs .0) k′
 
-    asks : Ready (now s) (z .i) (z .k) (z .xs) (z .ys) (z .es) (z .rs) × Small (z .c) (z .i)
+    asks : CanMove (now s) (z .i) (z .k) (z .xs) (z .ys) (z .es) (z .rs) × Small (z .c) (z .i)
     asks = (playing-ready _ _ _ _ _ _ _ ok _ _ _ _ _ _ _ (z .playing) less, z .playing .small)
 
     asked : ent 𝓤 (onEntry 𝓤 H A work.signature κs′ (fullShare, (qs, (fullShare, (fullShare, (fullShare, (fullShare, tt)))))) a passed) (Work 𝓤 H A at-mem run .pre to)

@@ -40,12 +40,12 @@ use denote.Triple.Clauses.{ensured, lasts}
 use denote.Triple.Table.{entered, cited}
 use denote.Triple.Walked.{says, needs, Stays, gave-ref, stay-none, stay-none-slice, gave-slice, walkOf, AllGo, goes-none, goes-none-slice, goes-gave-slice, goes-gave-ref, Walks, ends-at, walked, walk-meets}
 use denote.Exit.{yes}
-use Rattle.tally.specs.Counted.{sumOf, Room, Small}
+use Rattle.tally.specs.Counted.{sumOf, SumsFit, Small}
 use Rattle.tally.specs.declared.Tally.{Tally}
 use Rattle.tally.proofs.Tally as T
 use Rattle.tally.proofs.Tally.Laws as T′
 use Rattle.tally.proofs.Counting.{small-room}
-use Rattle.player.specs.Nights.{Ready, Made}
+use Rattle.player.specs.Nights.{CanMove, Made}
 use Rattle.player.specs.declared.turns.Kept.{Kept}
 use Rattle.player.specs.declared.nights.Moved.{Moved}
 use Rattle.player.proofs.turns.Kept as K
@@ -126,7 +126,7 @@ module _ {M : Type 1} (𝓤 : URA M) (H : Heap 𝓤) (A : Atoms 𝓤) (W : Given
   Tokens = ‵ (flft κs qs) ⊛ ‵ (flft κx qx) ⊛ ‵ (flft κy qy) ⊛ ‵ (flft κe qe) ⊛ ‵ (flft κr qr) ⊛ ‵ ftrue
 
   abbrev Asks : Type 0
-  Asks = Ready (now s) i k (now x) (now y) (now e) (now r) × Small (now t) i
+  Asks = CanMove (now s) i k (now x) (now y) (now e) (now r) × Small (now t) i
 
   abbrev Says : Moved → (x′ y′ e′ r′ : List ℕ) → Type 0
   Says m x′ y′ e′ r′ = Made (now s) i k (now x) (now y) (now e) (now r) x′ y′ e′ r′ m
@@ -174,12 +174,12 @@ module _ {M : Type 1} (𝓤 : URA M) (H : Heap 𝓤) (A : Atoms 𝓤) (W : Given
     abbrev on : Adds 𝓤 H A at-mem run .Ghost
     on = (((κ, tt), (q, tt), tt, (t, (d, tt)), (tv ∷ [], (T′.lowered d ∷ [], tt))), tt)
 
-    goes : Room (now t) d → ent 𝓤 (⋆ 𝓤 H A (‵ OwnT ∷ ‵ (flft κ q) ∷ [])) (Adds 𝓤 H A at-mem run .pre on)
+    goes : SumsFit (now t) d → ent 𝓤 (⋆ 𝓤 H A (‵ OwnT ∷ ‵ (flft κ q) ∷ [])) (Adds 𝓤 H A at-mem run .pre on)
     goes room =
         qed W (‵ OwnT ∷ ‵ (flft κ q) ∷ []) ∵ says ! room $ nothing ! $ move ! (2 ∷ 0 ∷ []) $ join ! $ frame ! $
         nothing ! $ owned ! T.the-row (Is T.the-row) ((LL.makes T.the-type T′.the-plain) 𝓤 H A) d _ is-d $ fjoin ! $ move ! (1 ∷ 0 ∷ []) $ fjoin ! $ done !
 
-  room-for : Asks → (d : Tally) → Small d 1 → Room (now t) d
+  room-for : Asks → (d : Tally) → Small d 1 → SumsFit (now t) d
   room-for ok d few = small-room (now t) d i (ok .1) few (omega (arith, ok .0 .inside, ok .0 .short))
 
   module _ (C : Calls 𝓤 H) (Λ : Loops 𝓤 H) (fm : FmC 𝓤 H (W .laws) C) (known : Triple 𝓤 (C #move-at) (Work 𝓤 H A at-mem run)) (known′ : Triple 𝓤 (C #count) (Adds 𝓤 H A at-mem run)) where

@@ -11,15 +11,14 @@ judged-spec =
     (λ c κs. search needs)
     (λ c. search needs)
     (λ c q h. let s = c .before .before .before .before .before in
-    let z = s .before .before .before .before .before .before in
+    let z = s .before .before .before .before .before in
     judged-refused q _ _ _ _ _ (answers-run q _ _ _ _ (z .pre .room) (s .step-known .ensures (q .table) h)) (c .before .if1 .taken) (c .zeros .ensures))
-    (λ c. search needs)
-    (λ c κs. let s = c .before .before .before .before .before in
-    let z = s .before .before .before .before .before .before in
-    accepted-by _ _ _ _ _ _ (z .pre) (s .step-known .ensures) (c .before .if1 .left))
+    (λ c κs. let s = c .before .before .before .before in
+    let z = s .before .before .before .before .before in
+    accepted-by _ _ _ _ _ _ (z .pre) (s .step-known .ensures) (c .if1 .left))
     (λ c κs. search needs)
     (λ c. search needs)
-    (λ c q h. let s = c .before .before .before .before .before .before .before in
-    let z = s .before .before .before .before .before .before in
-    judged-accepted q _ _ _ _ _ (answers-run q _ _ _ _ (z .pre .room) (s .step-known .ensures (q .table) h)) _ _ _ h (c .before .before .before .if1 .left) (c .before .copied .ensures)
-    (c .counts .ensures)))
+    (λ c q h. let s = c .before .before .before .before .before .before in
+    let z = s .before .before .before .before .before in
+    let k = c .before .copied .ensures in
+    judged-accepted q _ _ _ _ _ (answers-run q _ _ _ _ (z .pre .room) (s .step-known .ensures (q .table) h)) _ (c .before .before .if1 .left) (k .is (q .table) h) (k .few) (c .counts .ensures)))

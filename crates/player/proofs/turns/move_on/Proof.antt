@@ -3,7 +3,7 @@ use Rattle.player.proofs.turns.move_on.Statement.{statement}
 use Rattle.player.proofs.turns.move_on.Tie as tie
 use mathlib.Core.Path.{sym, subst}
 use native.Mathlib.Omega.{arith}
-use Rattle.player.specs.Turns.{Goes}
+use Rattle.player.specs.Turns.{GoesOn}
 use Rattle.player.proofs.Turning.{begins-second, begins-first, goes-second, goes-first}
 
 pub move-on-spec : {M : Type 1} → statement M
@@ -11,26 +11,26 @@ move-on-spec =
     tie.close
     (tie.spec
     (λ c κs. let i = c .before .before .before in
-    let z = i .before .before .before .before .before in
-    begins-second _ _ _ _ (z .args .kept) (z .pre .0) (z .pre .1) (i .if1 .taken))
+    let z = i .before .before .before .before in
+    begins-second _ _ _ (z .args .kept) (z .pre) (i .if1 .taken))
     (λ c κs. search needs)
     (λ c. search needs)
     (λ c. search needs)
     (λ c. search needs)
     (λ c. let t = c .before .before .before .before .before in
     let i = t .before .before .before .before in
-    let z = i .before .before .before .before .before in
-    subst (Goes _ _ _ _ _ _ _ _) (sym (c .kept-after .ensures))
-    (goes-second _ _ _ _ (z .args .kept) (z .pre .0) _ _ _ (omega (arith, z .pre .0 .keeps .ends-room, c .before .before .before .before .ends)) (i .if1 .taken) (t .turn .ensures)))
+    let z = i .before .before .before .before in
+    subst (GoesOn _ _ _ _ _ _ _ _) (sym (c .kept-after .ensures))
+    (goes-second _ _ _ (z .args .kept) (z .pre) _ _ _ _ (omega (arith, z .pre .keeps .ends-room, c .before .before .before .before .ends)) (i .if1 .taken) (t .turn .ensures)))
     (λ c κs. let i = c .before .before .before in
-    let z = i .before .before .before .before .before in
-    begins-first _ _ _ _ (z .args .kept) (z .pre .0) (z .pre .1) (i .if1 .left))
+    let z = i .before .before .before .before in
+    begins-first _ _ _ (z .args .kept) (z .pre) (i .if1 .left))
     (λ c κs. search needs)
     (λ c. search needs)
     (λ c. search needs)
     (λ c. search needs)
     (λ c. let t = c .before .before .before .before .before in
     let i = t .before .before .before .before in
-    let z = i .before .before .before .before .before in
-    subst (Goes _ _ _ _ _ _ _ _) (sym (c .kept-after2 .ensures))
-    (goes-first _ _ _ _ (z .args .kept) (z .pre .0) _ _ _ (omega (arith, z .pre .0 .keeps .ends-room, c .before .before .before .before .ends2)) (i .if1 .left) (t .turn2 .ensures))))
+    let z = i .before .before .before .before in
+    subst (GoesOn _ _ _ _ _ _ _ _) (sym (c .kept-after2 .ensures))
+    (goes-first _ _ _ (z .args .kept) (z .pre) _ _ _ _ (omega (arith, z .pre .keeps .ends-room, c .before .before .before .before .ends2)) (i .if1 .left) (t .turn2 .ensures))))

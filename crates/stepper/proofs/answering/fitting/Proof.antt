@@ -10,5 +10,5 @@ fitting-spec =
     tie.close
     (tie.spec
     (λ c κs. search needs)
-    (λ c. c .refused .ensures ∙ fitting-not (c .before .before .args .room) (c .before .before .args .n) (omega arith))
+    (λ c. c .refusal .ensures ∙ fitting-not (c .before .before .args .room) (c .before .before .args .n) (omega arith))
     (λ c. fitting-so (c .before .args .room) (c .before .args .n) (omega arith)))

@@ -1,14 +1,14 @@
--- The move that six bytes are (specs/Replies), by its kind.
-use mathlib.Core.Path.{_≡_, refl}
+-- The move that six bytes are (cows, specs/Step, `readMove`), by its kind.
+use mathlib.Core.Path.{_≡_, refl, sym, _∙_}
 use mathlib.Core.Logic.{_≢_}
-use mathlib.Core.Bool.{true, false, _&&_, _||_}
+use mathlib.Core.Bool.{Bool, true, false, not, _&&_, _||_}
 use mathlib.Core.List.{List, [], _∷_}
 use mathlib.Core.Option.{none, some}
 use Prim.Native.Nat.{ℕ, zero, suc, _≤_}
 use native.Mathlib.Omega.{arith}
 use lib.Dec.{eqb}
 use lib.ListN.{length, getD, getElem?}
-use borrow.Author.Tests.{eqb-true, eq-eqb, ne-eqb}
+use borrow.Author.Tests.{eqb-true, eq-eqb, ne-eqb, not-false}
 use Rattle.cows.specs.Basics.{only}
 use Rattle.cows.specs.Format.{byte, word}
 use Rattle.cows.proofs.Basics.{and-true}
@@ -33,6 +33,10 @@ beyond : {A : Type 0} (l : List A) (k : ℕ) → length l ≤ k → none ≡ get
 beyond [] k h = refl
 beyond (a ∷ l) zero h = absurd (omega arith)
 beyond (a ∷ l) (suc k) h = beyond l k (omega arith)
+
+-- the code's answer on the form of a move
+pub right-so : (m : List ℕ) {b : Bool} → b ≡ rightMove m → not b ≡ false → rightMove m ≡ true
+right-so m {b} e h = sym e ∙ not-false b h
 
 pub right-length : (m : List ℕ) → rightMove m ≡ true → length m ≡ 6
 unfolding rightMove

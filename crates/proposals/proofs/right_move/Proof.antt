@@ -1,7 +1,7 @@
 use borrow.Author.Needs.{needs}
-use Rattle.stepper.proofs.SixBytes.{wrong-length, right-tests}
-use Rattle.stepper.proofs.reading.right_move.Statement.{statement}
-use Rattle.stepper.proofs.reading.right_move.Tie as tie
+use Rattle.proposals.proofs.SixBytes.{wrong-length, right-tests}
+use Rattle.proposals.proofs.right_move.Statement.{statement}
+use Rattle.proposals.proofs.right_move.Tie as tie
 
 pub right-move-spec : {M : Type 1} → statement M
 right-move-spec =

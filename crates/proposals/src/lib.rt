@@ -1,10 +1,20 @@
-// The six bytes of a move: kind, a zero byte, number a, number b, which only a communication uses.
-use moves::Move;
+// Proposals: a move as it is proposed, in six bytes: kind, a zero byte, number a, number b, which only a communication uses. It is read once, here.
 use records::wide16;
 use records::word_at;
 ghost use mathlib.Core.Path.{_≡_};
 ghost use Rattle.cows.specs.Step.{rightMove, readMove};
-ghost use Rattle.moves.specs.Proposals.{moveOf};
+ghost use Rattle.proposals.specs.Proposals.{moveOf};
+
+// A move as it is read off its six bytes, or none.
+pub enum Move {
+    Kill(usize),
+    Communicate(usize, usize),
+    Timeout(usize),
+    Elapse(u16),
+    Unfold(usize),
+    Extrude(usize),
+    None,
+}
 
 // Whether the bytes have the form of a move, whatever its kind.
 fn right_move(m: &[u8]) -> bool
@@ -26,23 +36,13 @@ pub fn read_move(m: &[u8]) -> Move
     let kind = m[0];
     let d = word_at(m, 2);
     let a = wide16(d);
-    if kind == 0 {
-        return Move::Kill(a);
+    match kind {
+        0 => Move::Kill(a),
+        1 => Move::Communicate(a, wide16(word_at(m, 4))),
+        2 => Move::Timeout(a),
+        3 => Move::Elapse(d),
+        4 => Move::Unfold(a),
+        5 => Move::Extrude(a),
+        _ => Move::None,
     }
-    if kind == 1 {
-        return Move::Communicate(a, wide16(word_at(m, 4)));
-    }
-    if kind == 2 {
-        return Move::Timeout(a);
-    }
-    if kind == 3 {
-        return Move::Elapse(d);
-    }
-    if kind == 4 {
-        return Move::Unfold(a);
-    }
-    if kind == 5 {
-        return Move::Extrude(a);
-    }
-    Move::None
 }

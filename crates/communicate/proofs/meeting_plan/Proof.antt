@@ -1,0 +1,19 @@
+use borrow.Author.Needs.{needs}
+use mathlib.Core.Path.{refl}
+use native.Mathlib.Omega.{arith}
+use Rattle.communicate.proofs.Communicates.{receive-span, records-left, meeting-planned}
+use Rattle.communicate.proofs.meeting_plan.Statement.{statement}
+use Rattle.communicate.proofs.meeting_plan.Tie as tie
+
+pub meeting-plan-spec : {M : Type 1} → statement M
+meeting-plan-spec =
+    tie.close
+    (tie.spec
+    (λ c κs. c .before .before .before .pre .way)
+    (λ c κs.
+    let p = c .before .before .before .before .pre in
+    receive-span (p .known .table) (p .live) (c .choice-start .ensures (p .known .term) (p .live .walks)))
+    (λ c.
+    let p = c .before .before .before .before .before .pre in
+    omega (arith, c .left .ensures, records-left (p .known .table) (p .live) (c .before .choice-start .ensures (p .known .term) (p .live .walks)) (p .meets)))
+    (λ c t b z h m. meeting-planned z h (c .before .choice-start .ensures t (h .walks)) m _ _ _ refl refl (c .left .ensures) refl))
