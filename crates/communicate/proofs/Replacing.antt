@@ -2,7 +2,7 @@
 use mathlib.Core.Path.{_≡_, refl, sym, ap, ap₂, subst, _∙_}
 use mathlib.Core.Logic.{_≢_}
 use mathlib.Core.Bool.{Bool, true, false, cond}
-use mathlib.Core.List.{List, [], _∷_, _++_, append-nil}
+use mathlib.Core.List.{List, [], _∷_, _++_, append-nil, flatMap}
 use Prim.Native.Nat.{ℕ, zero, suc, _+_, _*_, _≤_, _<_}
 use native.Mathlib.Omega.{arith}
 use lib.Dec.{eqb}
@@ -26,6 +26,7 @@ use Rattle.cows.specs.Records.{nodeDelimits, bindNode, boundNodes}
 use Rattle.cows.proofs.Binds.{image-other}
 use Rattle.cows.proofs.Meeting.{fit-fits}
 use Rattle.cows.proofs.Stands.{right-at}
+use Rattle.cows.proofs.Cut.{all-take}
 use Rattle.records.specs.declared.Takes.{Takes}
 use Rattle.records.specs.Holds.{Holds}
 use Rattle.records.specs.Rewrites.{Has}
@@ -68,16 +69,6 @@ silenced-drop b i zero j ns e = ap (λ k. silenced b k ns) (let z : i ≡ j = om
 silenced-drop b i (suc n) j [] e = refl
 silenced-drop b i (suc n) j (x ∷ ns) e = silenced-drop b (suc i) n j ns (omega arith)
 
-right-take : (n : ℕ) (ns : List Node) → RightNodes ns → RightNodes (take n ns)
-right-take zero ns h = tt
-right-take (suc n) [] h = tt
-right-take (suc n) (x ∷ ns) h = (h .0, right-take n ns (h .1))
-
-right-drop : (n : ℕ) (ns : List Node) → RightNodes ns → RightNodes (drop n ns)
-right-drop zero ns h = h
-right-drop (suc n) [] h = tt
-right-drop (suc n) (x ∷ ns) h = right-drop n ns (h .1)
-
 -- Four slots that do what a substitution does, record by record.
 any-none : (σ : Substitution) → any (λ (p : ℕ × ℕ). false) σ ≡ false
 unfolding any
@@ -85,7 +76,7 @@ any-none [] = refl
 any-none (p ∷ σ) = any-none σ
 
 cond-bytes : (x : Bool) (n : Node) → cond x [] (record16 n) ≡ bytes (cond x [] (n ∷ []))
-unfolding bytes
+unfolding flatMap
 cond-bytes true n = refl
 cond-bytes false n = sym (append-nil (record16 n))
 
@@ -114,7 +105,7 @@ module _ (t₀ t₁ t₂ t₃ : Takes) (σ : Substitution) (same : (a : ℕ) →
   record-same b = rw (same (word b 2), same (word b 4), same (word b 6), same (word b 8), same (word b 10), same (word b 12))
 
   nil-bound : record16 (basic nil) ≡ bytes (bindNode σ (basic nil))
-  unfolding bindNode nodeDelimits mapNode mapBasic bytes
+  unfolding bindNode nodeDelimits mapNode mapBasic flatMap
   nil-bound = rw (any-none σ) (sym (append-nil (record16 (basic nil))))
 
   kept-bound : (n : Node) → RightNode n → cond (goes t₀ t₁ t₂ t₃ (record16 n)) [] (mapRecord (imageOfAll t₀ t₁ t₂ t₃) (record16 n)) ≡ bytes (bindNode σ n)
@@ -130,7 +121,7 @@ module _ (t₀ t₁ t₂ t₃ : Takes) (σ : Substitution) (same : (a : ℕ) →
       go false = kept-bound n r
 
   records-bound : (b : ℕ) (s : List ℕ) (i : ℕ) (ns : List Node) → RightNodes ns → Has s (16 * i) (bytes ns) → bound t₀ t₁ t₂ t₃ b s i (length ns) ≡ bytes (boundNodes σ (silenced b i ns))
-  unfolding along bytes boundNodes silenced
+  unfolding along flatMap silenced
   records-bound b s i [] r k = refl
   records-bound b s i (n ∷ ns) r k =
       let l = length-record16 n in
@@ -187,7 +178,7 @@ module _ (s : List ℕ) (t : Term) (a b : ℕ) (q m : Ends) (σ : Substitution) 
     unfolding variable
     part-bound =
         let z : length part ≡ n = length-take-le n (drop i (nodes t)) (omega (arith, length-drop i (nodes t), length-nodes t)) in
-        let r : RightNodes part = right-take n (drop i (nodes t)) (right-drop i (nodes t) (right-nodes t (k .right))) in
+        let r : RightNodes part = all-take RightNode n (drop i (nodes t)) (all-take RightNode i (nodes t) (right-nodes t (k .right)) .1) .0 in
         let l = receiver .few in
         rw (part-silenced, receiver .slot0, receiver .slot1, receiver .slot2, receiver .slot3, sender .slot0, sender .slot1, sender .slot2, sender .slot3)
         (subst (λ x. bound (slot 0) (slot 1) (slot 2) (slot 3) b s i x ≡ bytes (boundNodes σ (silenced b i part))) z

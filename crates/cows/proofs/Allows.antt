@@ -15,7 +15,7 @@ use Rattle.cows.specs.Kinds.{open-kinds}
 use Rattle.cows.specs.Places.{Frame, inside, leftOf, rightOf, plug, Way, fill, wayTo, sub, first, enclosed, frameChooses, passed}
 use Rattle.cows.specs.Within.{Right, one, counts, Within}
 use Rattle.cows.specs.Active.{live, wanted, onKind}
-use Rattle.cows.specs.Moves.{Substitution, binds, haltBeside, haltInside, afterKill, killAt, fit, matched, inScope, heldBack, tighter, silence, continue, bind, communicateAt, timeoutAt, shorter, elapseBy, renaming, copy, afterUnfold, unfoldAt, fitting, exchange, afterExtrude, extrudeAt, Move, Kill, Communicate, Timeout, Elapse, Unfold, Extrude, successor}
+use Rattle.cows.specs.Moves.{Substitution, binds, haltBeside, haltInside, afterKill, killAt, fit, matched, inScope, heldBack, tighter, silence, continue, bind, communicateAt, timeoutAt, shorter, elapseBy, renaming, afterUnfold, unfoldAt, fitting, exchange, afterExtrude, extrudeAt, Move, Kill, Communicate, Timeout, Elapse, Unfold, Extrude, successor, freshCopy}
 use Rattle.cows.specs.Allows.{Stands, Live, Meets, Renames, Ended, Choice, Exchanged, Replaced, Instantiated, Elapsed, Parent, onLeft, onRight, protected, delimited, Allows, by-kill, by-communicate, by-timeout, by-elapse, by-unfold, by-extrude}
 use Rattle.cows.proofs.Basics.{never, and-true, or-false, or-right, not-so, any-append, bind-accept, same-accept, forbid-accept, placeIf-none}
 use Rattle.cows.proofs.Renaming.{renaming-renames, renames-unique}
@@ -224,7 +224,7 @@ copy-renames t s a w e =
 
 unfolded-is : (t s c : Term) (a : ℕ) (σ : Substitution) → sub t a ≡ under replication s → renaming (atoms t) (binders s) ≡ σ → Replaced σ s c
     → afterUnfold t a ≡ fill (wayTo t a) (both parallel c (under replication s))
-unfolding afterUnfold copy below
+unfolding afterUnfold freshCopy below
 unfolded-is t s c a σ e q h = rw (e, q, replaced-map σ s c h)
 
 unfold-allows : (t s : Term) (a : ℕ) → Within t → unfoldAt t a ≡ accept s → Allows t (Unfold a) s

@@ -8,12 +8,12 @@ use native.Mathlib.Omega.{arith}
 use lib.Dec.{eqb}
 use lib.ListN.{length, length-append}
 use borrow.Author.Tests.{eq-eqb}
-use Rattle.cows.specs.Basics.{any, every, member}
+use Rattle.cows.specs.Basics.{any, every, member, All}
 use Rattle.cows.specs.Terms.{nil, kill, invoke, receive, wait, protection, delimitation, replication, Term, leaf, under, both, atom, size, delimits, usesBasic, usesPrefix, optional, binders, atoms}
 use Rattle.cows.specs.Places.{Frame, inside, leftOf, rightOf, plug, Way, fill}
 use Rattle.cows.specs.Within.{Right, counts}
 use Rattle.cows.proofs.Basics.{never, true-and, or-left, or-right, or-case, member-append, every-append}
-use Rattle.cows.proofs.Scopes.{All, inner, Used, counts-member}
+use Rattle.cows.proofs.Scopes.{inner, Used, counts-member}
 
 -- every atom of one list is in the other
 abbrev pub In : List ℕ → List ℕ → Type 0

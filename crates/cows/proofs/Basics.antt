@@ -1,5 +1,6 @@
 -- Laws of specs/Basics: case analysis on a test, what a judgement that accepted has passed, and lists.
 use mathlib.Core.Path.{_≡_, refl, sym, ap, _∙_}
+use mathlib.Core.Logic.{_≢_}
 use mathlib.Core.Bool.{Bool, true, false, cond, not, _&&_, _||_}
 use mathlib.Core.Option.{Option, none, some}
 use mathlib.Core.List.{List, [], _∷_, _++_}
@@ -8,7 +9,8 @@ use native.Mathlib.Omega.{arith}
 use native.Mathlib.Nat.{zero-add, add-zero, suc-add}
 use native.Mathlib.Numerals.{add-one}
 use lib.Dec.{ltb, eqb}
-use borrow.Author.Tests.{ltb-true, ltb-false, eqb-true, eq-eqb}
+use lib.ListN.{getD, replicate}
+use borrow.Author.Tests.{ltb-true, ltb-false, eqb-true, eq-eqb, eqb-false}
 use Rattle.cows.specs.Basics.{any, every, member, same, holds, found, only, placeIf, orElse, firstFrom, Result, refuse, accept, _>>=_, _>>_, forbid, need}
 
 -- a false test proves anything
@@ -30,6 +32,9 @@ cond-case₂ P false f g = g refl
 pub bool-case : (P : Type 0) (b : Bool) → (b ≡ true → P) → (b ≡ false → P) → P
 bool-case P true f g = f refl
 bool-case P false f g = g refl
+
+pub eq-case : (P : Type 0) (a b : ℕ) → (a ≡ b → P) → (a ≢ b → P) → P
+eq-case P a b f g = bool-case P (eqb a b) (λ e. f (eqb-true a b e)) (λ e. g (eqb-false a b e))
 
 pub lt-case : (P : Type 0) (a b : ℕ) → (a < b → P) → (b ≤ a → P) → P
 lt-case P a b f g = bool-case P (ltb a b) (λ e. f (ltb-true a b e)) (λ e. g (ltb-false a b e))
@@ -232,6 +237,11 @@ firstFrom-below f n (suc k) p e = go (f n) (firstFrom-below f (suc n) k p) e
     go false h e = omega (arith, h e)
 
 -- lists of numbers
+pub getD-zeros : (n i : ℕ) → _≡_ {A = ℕ} (getD (replicate n 0) i 0) 0
+getD-zeros zero i = refl
+getD-zeros (suc n) zero = refl
+getD-zeros (suc n) (suc i) = getD-zeros n i
+
 pub same-eq : (xs ys : List ℕ) → same xs ys ≡ true → xs ≡ ys
 unfolding same
 same-eq [] [] e = refl

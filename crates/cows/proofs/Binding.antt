@@ -7,7 +7,7 @@ use Prim.Native.Nat.{ℕ, suc, _+_, _≤_}
 use native.Mathlib.Omega.{arith}
 use lib.Dec.{eqb}
 use borrow.Author.Tests.{eqb-true, eqb-false, eq-eqb, not-true}
-use Rattle.cows.specs.Basics.{any, every, member, holds, found}
+use Rattle.cows.specs.Basics.{any, every, member, holds, found, All}
 use Rattle.cows.specs.Terms.{nil, kill, invoke, Prefix, receive, wait, protection, delimitation, replication, choice, parallel, Term, leaf, under, both, Ends, value, variable, label, datum, size, invokes, prefixed, delimits, delimitsAtom, usesBasic, usesPrefix, binders}
 use Rattle.cows.specs.Kinds.{guard, open-kinds}
 use Rattle.cows.specs.Places.{inside, leftOf, rightOf, Way, wayTo, first, frameDelimits, enclosed}
@@ -55,8 +55,7 @@ pub record Binds (t : Term) (p : ℕ × ℕ) : Type 0 where
   pub instead : Used (Instead (p .0) (p .1) (Need (restricted t))) nowhere t
 
 abbrev pub AllBind : Term → Substitution → Type 0
-AllBind t [] = Unit {0}
-AllBind t (p ∷ σ) = Binds t p × AllBind t σ
+AllBind t σ = All (Binds t) σ
 
 -- what a change of the term keeps of one pair, it keeps of all
 all-bind : (t r : Term) → ((y w : ℕ) → variable y ≡ true → value w ≡ true → Used (Instead y w (Need (restricted t))) nowhere t → Used (Instead y w (Need (restricted r))) nowhere r)
@@ -237,8 +236,7 @@ in-scope t a b x v f vx e = instead-everywhere x v (restricted t) vx [] 0 t none
 
 -- Matching: a pattern's variables take values, where the tuple sent has no variable.
 abbrev pub Values : Substitution → Type 0
-Values [] = Unit {0}
-Values (p ∷ σ) = ((variable (p .0) ≡ true) × (value (p .1) ≡ true)) × Values σ
+Values σ = All (λ (p : ℕ × ℕ). (variable (p .0) ≡ true) × (value (p .1) ≡ true)) σ
 
 values-matches : {ws vs : List ℕ} {σ : Substitution} → Matches ws vs σ → every datum vs ≡ true → any variable vs ≡ false → Values σ
 unfolding every any

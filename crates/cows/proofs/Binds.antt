@@ -1,13 +1,13 @@
 -- Variables that take their values, record by record (boundNodes): the records, size and depth of what instantiate and bind leave (specs/Moves).
 use mathlib.Core.Path.{_≡_, refl, sym, ap, ap₂, subst, _∙_}
 use mathlib.Core.Bool.{Bool, true, false, cond, _||_}
-use mathlib.Core.List.{List, [], _∷_, _++_, map, append-nil, append-assoc}
+use mathlib.Core.List.{List, [], _∷_, _++_, map, append-nil, flatMap}
 use Prim.Native.Nat.{ℕ, suc, _+_, _≤_}
 use native.Mathlib.Omega.{arith}
 use lib.Dec.{eqb}
 use lib.ListN.{length}
 use borrow.Author.Tests.{eqb-true, eq-eqb}
-use Rattle.cows.specs.Basics.{any, holds}
+use Rattle.cows.specs.Basics.{any, holds, All}
 use Rattle.cows.specs.Terms.{Basic, nil, kill, invoke, Prefix, receive, wait, protection, delimitation, replication, Term, leaf, under, both, value, variable, label, size, depth, delimits, delimitsAtom, usesBasic, usesPrefix}
 use Rattle.cows.specs.Kinds.{Node, basic, prefix, join}
 use Rattle.cows.specs.Format.{nodes}
@@ -15,15 +15,16 @@ use Rattle.cows.specs.Within.{nowhere, one, counts}
 use Rattle.cows.specs.Moves.{Substitution, mapBasic, mapPrefix, mapNode, mapAtoms, image, instantiate, bind}
 use Rattle.cows.specs.Records.{nodeDelimits, bindNode, boundNodes}
 use Rattle.cows.proofs.Basics.{clash, cond-case, or-false, or-left, not-so, eqb-swap}
-use Rattle.cows.proofs.Scopes.{All, inner, Used, local, Need, all-map, used-any, scoped-used, one-false}
+use Rattle.cows.proofs.Scopes.{inner, Used, local, Need, all-map, used-any, scoped-used, one-false}
 use Rattle.cows.proofs.Sets.{value-range, variable-range}
 use Rattle.cows.proofs.Mapping.{counts-at}
 use Rattle.cows.proofs.Parts.{Sound}
 use Rattle.cows.proofs.Binding.{delimits-one, AllBind, sound-instantiate, all-instantiate}
 use Rattle.cows.proofs.Recordwise.{size-map}
+use Rattle.cows.proofs.Cut.{flatMap-append}
 
 -- mapping changes no shape
-depth-mapped : (f : ℕ → ℕ) (t : Term) → depth (mapAtoms f t) ≡ depth t
+pub depth-mapped : (f : ℕ → ℕ) (t : Term) → depth (mapAtoms f t) ≡ depth t
 unfolding depth mapAtoms
 depth-mapped f (leaf x) = refl
 depth-mapped f (under u t) = ap suc (depth-mapped f t)
@@ -31,9 +32,7 @@ depth-mapped f (both j s t) = rw (depth-mapped f s, depth-mapped f t)
 
 -- two lists of records, one behind the other
 pub bound-append : (σ : Substitution) (ms ns : List Node) → boundNodes σ (ms ++ ns) ≡ boundNodes σ ms ++ boundNodes σ ns
-unfolding boundNodes
-bound-append σ [] ns = refl
-bound-append σ (m ∷ ms) ns = rw (bound-append σ ms ns) (sym (append-assoc (bindNode σ m) (boundNodes σ ms) (boundNodes σ ns)))
+bound-append σ = flatMap-append (bindNode σ)
 
 -- where f changes no atom, it changes no record
 module _ (f : ℕ → ℕ) where
@@ -74,7 +73,7 @@ module _ (x v : ℕ) where
 
   -- inside [x] every record is mapped
   bound-inside : (t : Term) → counts x t ≡ 0 → boundNodes ((x, v) ∷ []) (nodes t) ≡ nodes (mapAtoms at t)
-  unfolding boundNodes nodes mapAtoms nodeDelimits mapNode
+  unfolding flatMap nodes mapAtoms nodeDelimits mapNode
   bound-inside (leaf y) e = rw (node-kept (basic y) refl)
   bound-inside (under u t) e = rw (node-kept (prefix u) (one-false (delimitsAtom x u) (omega arith)), bound-inside t (omega arith))
   bound-inside (both j s t) e =
@@ -98,7 +97,7 @@ module _ (x v : ℕ) where
 
   -- E is what is delimited around the term
   instantiate-around : variable x ≡ true → (E : ℕ → Bool) → E x ≡ false → (t : Term) → Used (Need local) E t → counts x t ≤ 1 → nodes (instantiate x v t) ≡ boundNodes ((x, v) ∷ []) (nodes t)
-  unfolding instantiate nodes boundNodes nodeDelimits mapNode
+  unfolding instantiate nodes flatMap nodeDelimits mapNode
   instantiate-around vx E o (leaf y) h l = rw (node-kept (basic y) refl, basic-same at y (all-map _ _ (use-other vx E o) (usesBasic y) h))
   instantiate-around vx E o (under u t) h l = go (delimitsAtom x u) refl (λ e k. instantiate-around vx (inner u E) (rw e k) t (h .1) (omega arith))
     where
@@ -183,7 +182,7 @@ module _ (x v : ℕ) (σ : Substitution) (same : image σ v ≡ v) where
       go false = refl
 
   bound-node : (n : Node) → boundNodes σ (bindNode ((x, v) ∷ []) n) ≡ bindNode ((x, v) ∷ σ) n
-  unfolding boundNodes bindNode any
+  unfolding flatMap bindNode any
   bound-node n = go (nodeDelimits x n) refl
     where
       go : (b : Bool) → nodeDelimits x n ≡ b → boundNodes σ (cond (b || false) [] (mapNode (image ((x, v) ∷ [])) n ∷ [])) ≡ cond (b || any (λ (p : ℕ × ℕ). nodeDelimits (p .0) n) σ) [] (mapNode (image ((x, v) ∷ σ)) n ∷ [])
@@ -196,7 +195,7 @@ module _ (x v : ℕ) (σ : Substitution) (same : image σ v ≡ v) where
           )
 
   pub bound-bound : (ns : List Node) → boundNodes σ (boundNodes ((x, v) ∷ []) ns) ≡ boundNodes ((x, v) ∷ σ) ns
-  unfolding boundNodes
+  unfolding flatMap
   bound-bound [] = refl
   bound-bound (n ∷ ns) = bound-append σ (bindNode ((x, v) ∷ []) n) (boundNodes ((x, v) ∷ []) ns) ∙ ap₂ _++_ (bound-node n) (bound-bound ns)
 
@@ -208,7 +207,7 @@ node-none (prefix u) = ap prefix (prefix-same (image []) u (used-any (λ a E. im
 node-none (join j) = refl
 
 bound-none : (ns : List Node) → boundNodes [] ns ≡ ns
-unfolding boundNodes bindNode any
+unfolding flatMap bindNode any
 bound-none [] = refl
 bound-none (n ∷ ns) = ap₂ _∷_ (node-none n) (bound-none ns)
 

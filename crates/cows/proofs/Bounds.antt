@@ -1,18 +1,18 @@
 -- The number of a refusal is 1 or more, and its place is below any bound that the records and the numbers of the move are below: one walk over the
 -- refusals of a table, of a step on it and of a play on it.
 use mathlib.Core.Path.{_≡_, refl, ap, subst}
-use mathlib.Core.Bool.{Bool, true, false, not}
+use mathlib.Core.Bool.{Bool, true, false}
 use mathlib.Core.Option.{Option, none, some}
 use mathlib.Core.List.{List, [], _∷_, map}
-use Prim.Native.Nat.{ℕ, zero, suc, _+_, _/_, _≤_, _<_}
+use Prim.Native.Nat.{ℕ, zero, suc, _+_, _≤_, _<_}
 use native.Mathlib.Omega.{arith}
 use lib.ListN.{length, getElem?, length-map}
-use Rattle.cows.specs.Basics.{placeIf, orElse, Result, refuse, accept, _>>=_, _>>_, forbid, need}
+use Rattle.cows.specs.Basics.{placeIf, Result, refuse, accept, _>>=_, _>>_, forbid, need}
 use Rattle.cows.specs.Terms.{Term, size}
-use Rattle.cows.specs.Kinds.{Node, kind, childrenOf}
+use Rattle.cows.specs.Kinds.{kind}
 use Rattle.cows.specs.Places.{Spot, spot, first}
 use Rattle.cows.specs.Format.{byte, word, node, rightRecord, records, decode}
-use Rattle.cows.specs.Tables.{firstWrong, misshapen, judgeTerm, judge}
+use Rattle.cows.specs.Tables.{endOf, wrongEnd, children, misshapen, judgeTerm, judge}
 use Rattle.cows.specs.Active.{wanted}
 use Rattle.cows.specs.Moves.{Matching, binds, differs, matched, Move, Kill, Communicate, Timeout, Elapse, Unfold, Extrude, killAt, communicateAt, timeoutAt, elapseBy, unfoldAt, extrudeAt, successor}
 use Rattle.cows.specs.Step.{rightMove, readMove, proposed, fitted, stepTerm, judgeStep}
@@ -20,7 +20,9 @@ use Rattle.cows.specs.Run.{judgePlay}
 use Rattle.cows.proofs.Basics.{same-some, only-some, placeIf-none, firstFrom-below, need-accept}
 use Rattle.cows.proofs.Format.{length-nodes, nodes-decode}
 use Rattle.cows.proofs.Tables.{right-length}
-use Rattle.cows.proofs.Lists.{length-pieces}
+use Rattle.cows.proofs.Cut.{length-cut, failing-below}
+use Rattle.cows.proofs.Ends.{end-bounds}
+use lib.Dec.{ltb}
 
 -- a refusal has a number from 1 on, and its place is below b
 abbrev pub Below : {A : Type 0} → ℕ → Result A → Type 0
@@ -36,21 +38,10 @@ unfolding placeIf
 place-below true a b h p e = omega (arith, same-some e)
 place-below false a b h p e = absurd (let z : _≡_ {A = ℕ} 0 1 = cc in omega arith)
 
-pub wrong-below : (n : ℕ) (bs : List (List ℕ)) (p : ℕ) → firstWrong n bs ≡ some p → p < n + length bs
-unfolding firstWrong placeIf orElse
-wrong-below n [] p e = absurd (let z : _≡_ {A = ℕ} 0 1 = cc in omega arith)
-wrong-below n (b ∷ bs) p e = go (not (rightRecord b)) (wrong-below (suc n) bs p) e
-  where
-    go : (b : Bool) → (firstWrong (suc n) bs ≡ some p → p < suc n + length bs) → orElse (placeIf b n) (firstWrong (suc n) bs) ≡ some p → p < n + suc (length bs)
-    go true h e = omega (arith, same-some e)
-    go false h e = omega (arith, h e)
-
-shape-below : (w n : ℕ) (ns : List Node) (p : ℕ) → misshapen w n ns ≡ some p → p ≤ n + length ns
-unfolding misshapen
-shape-below zero n [] p e = absurd (let z : _≡_ {A = ℕ} 0 1 = cc in omega arith)
-shape-below zero n (r ∷ rs) p e = omega (arith, same-some e)
-shape-below (suc w) n [] p e = omega (arith, same-some e)
-shape-below (suc w) n (r ∷ rs) p e = omega (arith, shape-below (childrenOf (kind r) + w) (suc n) rs p e)
+shape-below : (n : ℕ) (o : Option ℕ) → ((e : ℕ) → o ≡ some e → e ≤ n) → (p : ℕ) → wrongEnd n o ≡ some p → p ≤ n
+unfolding wrongEnd
+shape-below n none l p h = omega (arith, same-some h)
+shape-below n (some e) l p h = omega (arith, place-below (ltb e n) e (suc n) (omega (arith, l e refl)) p h)
 
 -- the numbers of a move are below b; those of a move that is read are the bytes'
 abbrev pub NumbersBelow : ℕ → Move → Type 0
@@ -145,14 +136,14 @@ module _ (b : ℕ) where
   -- on bytes
   module _ (limits : 2049 ≤ b) where
     pub below-judge : (s : List ℕ) → Below b (judge s)
-    unfolding judge records
+    unfolding judge misshapen
     below-judge s =
         below-forbid 1 _ _ (omega arith) (place-below _ 0 b (omega arith))
         (λ e₁. let (l, z) = right-length s (placeIf-none _ 0 e₁) in
-        let r : length (records s) ≤ 2048 = omega (arith, length-pieces 16 (length s / 16) s) in
+        let r : length (records s) ≤ 2048 = omega (arith, length-cut 16 s) in
         let n : length (map node (records s)) ≤ 2048 = omega (arith, length-map (records s) node) in
-        below-forbid 2 _ _ (omega arith) (λ p e. omega (arith, wrong-below 0 (records s) p e))
-        (λ e₂. below-forbid 3 _ _ (omega arith) (λ p e. omega (arith, shape-below 1 0 (map node (records s)) p e))
+        below-forbid 2 _ _ (omega arith) (λ p e. omega (arith, failing-below rightRecord 0 (records s) p e))
+        (λ e₂. below-forbid 3 _ _ (omega arith) (λ p e. omega (arith, shape-below _ (endOf children 1 0 (map node (records s))) (λ k q. omega (arith, end-bounds children 1 0 (map node (records s)) k q)) p e))
         (λ e₃. below-term (decode (map node (records s))) (omega (arith, length-nodes (decode (map node (records s))), ap length (nodes-decode (map node (records s)) e₃))))))
 
     pub below-judgeStep : (table m : List ℕ) (room : ℕ) → word m 2 < b → word m 4 < b → ((t : Term) → judge table ≡ accept t → size t ≤ b) → Below b (judgeStep table m room)

@@ -1,12 +1,12 @@
 -- What the bytes of a term's table say at a place: the record there, its kind, and what the kind says of the term; the fields of each kind.
 use mathlib.Core.Path.{_≡_, refl, sym, ap, subst, _∙_}
-use mathlib.Core.List.{List, [], _∷_, _++_, append-assoc, append-nil}
+use mathlib.Core.List.{List, [], _∷_, _++_, append-assoc, append-nil, flatMap}
 use Prim.Native.Nat.{ℕ, zero, suc, _+_, _*_, _<_}
 use native.Mathlib.Omega.{arith}
 use native.Mathlib.Nat.{suc-add}
 use native.Mathlib.Numerals.{add-one}
 use lib.ListN.{length, getD, take, drop}
-use lib.Seq.{take-at, drop-at, drop-nil, drop-drop, getD-take, getD-drop}
+use lib.Seq.{take-at, drop-at, drop-drop, getD-take, getD-drop}
 use Rattle.cows.specs.Terms.{nil, kill, invoke, receive, wait, protection, delimitation, replication, choice, parallel, Term, leaf, under, both, size, below}
 use Rattle.cows.specs.Kinds.{Node, root, kindOf}
 use Rattle.cows.specs.Places.{Spot, spot, sub}
@@ -15,6 +15,7 @@ use Rattle.cows.proofs.Places.{inherited-spot}
 use Rattle.cows.proofs.Records.{length-record16}
 use Rattle.cows.proofs.Format.{length-nodes}
 use Rattle.cows.proofs.Rows.{record-kind}
+use Rattle.cows.proofs.Cut.{flatMap-append, drop-write}
 
 -- The records of the part at a place stand in the records of the whole, from that place on.
 abbrev pub NodesAt : Term → ℕ → Spot → Type 0
@@ -36,21 +37,14 @@ nodes-spot t =
 
 -- the bytes from a place on are those of the records from there on
 pub drop-bytes : (ns : List Node) (j : ℕ) → drop (16 * j) (bytes ns) ≡ bytes (drop j ns)
-unfolding bytes
-drop-bytes ns zero = refl
-drop-bytes [] (suc j) = drop-nil (16 * suc j)
-drop-bytes (n ∷ ns) (suc j) =
-    let e : 16 * suc j ≡ 16 + 16 * j = omega arith in
-    rw (e, ← drop-drop (16 * j) 16 (record16 n ++ bytes ns), drop-at (record16 n) (bytes ns) 16 (length-record16 n)) (drop-bytes ns j)
+drop-bytes = drop-write 16 record16 length-record16
 
 pub append-bytes : (ms ns : List Node) → bytes (ms ++ ns) ≡ bytes ms ++ bytes ns
-unfolding bytes
-append-bytes [] ns = refl
-append-bytes (m ∷ ms) ns = rw (append-bytes ms ns) (sym (append-assoc (record16 m) (bytes ms) (bytes ns)))
+append-bytes = flatMap-append record16
 
 -- a term's first record stands first
 pub first-bytes : (s : Term) → (b : List ℕ) × (encode s ≡ record16 (root s) ++ b)
-unfolding encode bytes nodes root
+unfolding encode flatMap nodes root
 first-bytes (leaf x) = ([], refl)
 first-bytes (under u t) = (bytes (nodes t), refl)
 first-bytes (both j s t) = (bytes (nodes s ++ nodes t), refl)

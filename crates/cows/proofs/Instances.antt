@@ -8,7 +8,7 @@ use Prim.Native.Nat.{ℕ, _+_, _≤_}
 use native.Mathlib.Omega.{arith}
 use lib.Dec.{eqb}
 use borrow.Author.Tests.{eqb-false, eq-eqb, ne-eqb, not-true}
-use Rattle.cows.specs.Basics.{any, member, holds}
+use Rattle.cows.specs.Basics.{any, member, holds, All}
 use Rattle.cows.specs.Terms.{delimitation, Term, leaf, under, both, variable, delimits, delimitsAtom}
 use Rattle.cows.specs.Kinds.{distinct}
 use Rattle.cows.specs.Places.{Frame, inside, leftOf, rightOf, plug, Way, fill, wayTo, enclosed}
@@ -81,8 +81,7 @@ instantiated-bind h (goes {x = x} {v = v} {σ = σ} {s = s} w r q k i) =
 
 -- the variables bound differ, and each is delimited
 abbrev pub Other : ℕ → Substitution → Type 0
-Other x [] = Unit {0}
-Other x (p ∷ σ) = (p .0 ≢ x) × Other x σ
+Other x σ = All (λ (p : ℕ × ℕ). p .0 ≢ x) σ
 
 abbrev pub Distinct : Substitution → Type 0
 Distinct [] = Unit {0}

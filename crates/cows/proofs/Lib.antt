@@ -1,4 +1,6 @@
 pub mod Basics
+pub mod Cut
+pub mod Ends
 pub mod Rows
 pub mod Places
 pub mod Sets

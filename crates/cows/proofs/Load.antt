@@ -9,7 +9,7 @@ use Rattle.cows.specs.Basics.{holds}
 use Rattle.cows.specs.Terms.{nil, Prefix, receive, wait, protection, delimitation, replication, choice, parallel, Term, leaf, under, both, Ends, kills, invokes, prefixed, receives, waits, delimits, delimitsAtom, below, invokeOf}
 use Rattle.cows.specs.Kinds.{basic, prefix, join, kind, liveKind, weightOf, open-kinds}
 use Rattle.cows.specs.Places.{Frame, inside, leftOf, rightOf, plug, Way, fill, wayTo, sub, frameDelimits, frameChooses}
-use Rattle.cows.specs.Moves.{halt, haltUnder, haltBoth, haltBeside, haltInside, afterKill, Substitution, silence, aroundChoice, continue, mapNode, mapAtoms, image, instantiate, bind, elapse, copy, afterUnfold, exchange, afterExtrude}
+use Rattle.cows.specs.Moves.{halt, haltUnder, haltBoth, haltBeside, haltInside, afterKill, Substitution, silence, aroundChoice, continue, mapNode, mapAtoms, image, instantiate, bind, elapse, copy, afterUnfold, exchange, afterExtrude, freshCopy}
 use Rattle.cows.specs.Load.{load, shieldedUnder, shieldedBoth, shielded, endedBeside, ended, arm, dropped}
 use Rattle.cows.proofs.Basics.{cond-case, cond-case₂}
 use Rattle.cows.proofs.Rows.{mapped-kind, lowered-kind}
@@ -204,7 +204,7 @@ load-elapse d (both j s t) = rw (load-elapse d s, load-elapse d t)
 
 -- Unfold: the load of the body is added.
 load-copy : (t body : Term) → load (copy t body) ≡ load body
-unfolding copy
+unfolding freshCopy
 load-copy t body = load-mapAtoms _ body
 
 pub load-unfold : (t : Term) (a : ℕ) → load (afterUnfold t a) ≡ load t + load (below (sub t a))

@@ -7,13 +7,13 @@ use native.Mathlib.Omega.{arith}
 use lib.Dec.{eqb}
 use lib.ListN.{length-map}
 use borrow.Author.Tests.{eqb-true, eq-eqb}
-use Rattle.cows.specs.Basics.{any, every, member, holds}
+use Rattle.cows.specs.Basics.{any, every, member, holds, All}
 use Rattle.cows.specs.Terms.{Basic, nil, kill, invoke, Prefix, receive, wait, protection, delimitation, replication, choice, parallel, Term, leaf, under, both, value, variable, label, datum, atom, delimits, delimitsAtom, usesBasic, usesPrefix}
 use Rattle.cows.specs.Kinds.{guard, distinct, kindOf, root, basic, prefix, guardKind}
 use Rattle.cows.specs.Within.{RightTuple, RightBasic, RightPrefix, Right, Guarded, one, counts}
 use Rattle.cows.specs.Moves.{mapBasic, mapPrefix, mapAtoms, image, mapNode}
 use Rattle.cows.proofs.Basics.{never, cond-case, and-true, true-and, not-mono, or-left, or-both, or-case}
-use Rattle.cows.proofs.Scopes.{All, Rule, inner, Used}
+use Rattle.cows.proofs.Scopes.{Rule, inner, Used}
 use Rattle.cows.proofs.Rows.{mapped-kind}
 
 -- guards

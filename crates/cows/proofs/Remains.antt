@@ -4,7 +4,7 @@ use mathlib.Core.Path.{_≡_, refl, sym, ap, ap₂, subst, _∙_}
 use mathlib.Core.Logic.{_≢_}
 use mathlib.Core.Bool.{Bool, true, false, cond, _||_}
 use mathlib.Core.Option.{some}
-use mathlib.Core.List.{List, [], _∷_, _++_}
+use mathlib.Core.List.{List, [], _∷_, _++_, flatMap}
 use Prim.Native.Nat.{ℕ, zero, suc, _+_, _-_, _≤_, _<_}
 use native.Mathlib.Omega.{arith}
 use native.Mathlib.Nat.{sub-zero}
@@ -166,7 +166,7 @@ module _ (σ : Substitution) where
   bound-at ns n = bindNode σ (getD ns n (basic nil))
 
   gathered-bound : (ns : List Node) → gathered (bound-at ns) (length ns) ≡ boundNodes σ ns
-  unfolding gathered boundNodes bound-at
+  unfolding gathered flatMap bound-at
   gathered-bound [] = refl
   gathered-bound (n ∷ ns) = ap (λ q. bindNode σ n ++ q) (gathered-bound ns)
 

@@ -8,18 +8,13 @@ use native.Mathlib.Omega.{arith}
 use native.Mathlib.Nat.{zero-add}
 use lib.Dec.{ltb, eqb}
 use borrow.Author.Tests.{lt-ltb, ltb-true}
-use Rattle.cows.specs.Basics.{any, member, holds}
+use Rattle.cows.specs.Basics.{any, member, holds, All}
 use Rattle.cows.specs.Terms.{Prefix, receive, wait, protection, delimitation, replication, choice, parallel, Term, leaf, under, both, value, variable, label, delimits, delimitsAtom, usesBasic, usesPrefix, optional, binders}
 use Rattle.cows.specs.Kinds.{guard, open-kinds}
 use Rattle.cows.specs.Places.{Frame, inside, leftOf, rightOf, plug, Way, fill, frameDelimits, enclosed}
-use Rattle.cows.specs.Within.{Bound, Scoped, Right, Guarded, nowhere, one, counts, restricted}
+use Rattle.cows.specs.Within.{Scoped, Right, Guarded, nowhere, one, counts, restricted}
 use Rattle.cows.proofs.Places.{fill-ind}
 use Rattle.cows.proofs.Basics.{and-true, true-and, or-both, or-case, or-none, member-append}
-
--- P holds of every atom of a list
-abbrev pub All : (ℕ → Type 0) → List ℕ → Type 0
-All P [] = Unit {0}
-All P (a ∷ l) = P a × All P l
 
 -- A rule of use says of an atom and of a set of atoms whether the atom may be used inside the delimitations of the set.
 abbrev pub Rule : Type 1
@@ -43,22 +38,14 @@ local a = variable a || label a
 abbrev pub Need : (ℕ → Bool) → Rule
 Need K a E = K a ≡ true → E a ≡ true
 
-scoped-all : (K E : ℕ → Bool) (l : List ℕ) → Bound K E l → All (λ a. Need K a E) l
-scoped-all K E [] h = tt
-scoped-all K E (a ∷ l) h = (h .0, scoped-all K E l (h .1))
-
-all-scoped : (K E : ℕ → Bool) (l : List ℕ) → All (λ a. Need K a E) l → Bound K E l
-all-scoped K E [] h = tt
-all-scoped K E (a ∷ l) h = (h .0, all-scoped K E l (h .1))
-
 pub scoped-used : (K E : ℕ → Bool) (t : Term) → Scoped K E t → Used (Need K) E t
-scoped-used K E (leaf x) h = scoped-all K E (usesBasic x) h
-scoped-used K E (under u t) h = (scoped-all K E (usesPrefix u) (h .0), scoped-used K (inner u E) t (h .1))
+scoped-used K E (leaf x) h = h
+scoped-used K E (under u t) h = (h .0, scoped-used K (inner u E) t (h .1))
 scoped-used K E (both j s t) h = (scoped-used K E s (h .0), scoped-used K E t (h .1))
 
 pub used-scoped : (K E : ℕ → Bool) (t : Term) → Used (Need K) E t → Scoped K E t
-used-scoped K E (leaf x) h = all-scoped K E (usesBasic x) h
-used-scoped K E (under u t) h = (all-scoped K E (usesPrefix u) (h .0), used-scoped K (inner u E) t (h .1))
+used-scoped K E (leaf x) h = h
+used-scoped K E (under u t) h = (h .0, used-scoped K (inner u E) t (h .1))
 used-scoped K E (both j s t) h = (used-scoped K E s (h .0), used-scoped K E t (h .1))
 
 -- one set of atoms inside another; a rule that asks less, with more atoms around
@@ -77,7 +64,7 @@ inside-inner u E F i a = or-both {a = delimitsAtom a u} {c = delimitsAtom a u} (
 pub need-weakens : (K L : ℕ → Bool) → Inside L K → Weakens (Need K) (Need L)
 need-weakens K L k a E F i h l = i a (h (k a l))
 
-pub all-map : (P Q : ℕ → Type 0) → ((a : ℕ) → P a → Q a) → (l : List ℕ) → All P l → All Q l
+pub all-map : {A : Type 0} (P Q : A → Type 0) → ((a : A) → P a → Q a) → (l : List A) → All P l → All Q l
 all-map P Q f [] h = tt
 all-map P Q f (a ∷ l) h = (f a (h .0), all-map P Q f l (h .1))
 

@@ -7,7 +7,7 @@ use mathlib.Core.Bool.{true, false}
 use mathlib.Core.List.{List, [], _∷_, _++_}
 use Prim.Native.Nat.{ℕ, zero, suc, _+_, _-_, _≤_, _<_}
 use lib.ListN.{length}
-use Rattle.cows.specs.Basics.{any, member}
+use Rattle.cows.specs.Basics.{any, member, All}
 use Rattle.cows.specs.Terms.{nil, kill, invoke, Prefix, receive, wait, protection, delimitation, replication, Join, choice, parallel, Term, leaf, under, both, value, variable, label, size, atoms, binders}
 use Rattle.cows.specs.Places.{Frame, inside, leftOf, rightOf, passed, plug, Way, fill, wayTo, sub, enclosed}
 use Rattle.cows.specs.Kinds.{Node, basic, prefix, join, root}
@@ -41,8 +41,7 @@ pub record Reaches (t : Term) (a b : ℕ) (x v : ℕ) : Type 0 where
   pub nested : (m n : ℕ) (r s : Term) → Stands t m (under (delimitation v) r) → Stands t n (under (delimitation x) s) → enclosed v (wayTo t n) ≡ true
 
 abbrev pub AllReach : Term → ℕ → ℕ → Substitution → Type 0
-AllReach t a b [] = Unit {0}
-AllReach t a b (p ∷ σ) = Reaches t a b (p .0) (p .1) × AllReach t a b σ
+AllReach t a b σ = All (λ (p : ℕ × ℕ). Reaches t a b (p .0) (p .1)) σ
 
 -- No [k] enclosing place c holds a ready kill of k.
 abbrev pub Unheld : Term → ℕ → Type 0

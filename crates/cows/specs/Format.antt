@@ -1,16 +1,17 @@
 -- The format: 16 bytes a record, little-endian, in prefix order (01, Records).
 use mathlib.Core.Bool.{Bool, _&&_}
-use mathlib.Core.List.{List, [], _∷_, _++_}
-use Prim.Native.Nat.{ℕ, zero, suc, _+_, _*_, _/_, _%_, _<_}
+use mathlib.Core.List.{List, [], _∷_, _++_, flatMap}
+use Prim.Native.Nat.{ℕ, suc, _+_, _*_, _/_, _%_, _<_}
 use lib.Dec.{ltb}
-use lib.ListN.{length, getD, take, drop}
+use lib.ListN.{length, getD, take}
 use Rattle.cows.specs.Terms.{nil, kill, invoke, receive, wait, protection, delimitation, replication, choice, parallel, Term, leaf, under, both}
 use Rattle.cows.specs.Kinds.{Node, basic, prefix, join, kind, Contents, kinds, rowOf}
+use Rattle.cows.specs.Basics.{All}
+use Rattle.cows.specs.Cut.{cut}
 
 -- every number of the list is a byte
 abbrev pub Bytes : List ℕ → Type 0
-Bytes [] = Unit {0}
-Bytes (x ∷ b) = (x < 256) × Bytes b
+Bytes b = All (λ n. n < 256) b
 
 -- a 16-bit number as two bytes; the byte at i, and the 16-bit number there
 unfoldable pub bytes2 : ℕ → List ℕ
@@ -50,9 +51,9 @@ writeFields (join j) write = write 0 0 [] 0
 unfoldable pub record16 : Node → List ℕ
 record16 n = writeFields n (layout (kind n))
 
-unfoldable pub bytes : List Node → List ℕ
-bytes [] = []
-bytes (n ∷ ns) = record16 n ++ bytes ns
+-- a table: its records one behind the other
+abbrev pub bytes : List Node → List ℕ
+bytes ns = flatMap record16 ns
 
 unfoldable pub encode : Term → List ℕ
 encode t = bytes (nodes t)
@@ -88,13 +89,9 @@ node b =
     ∷ [])
     (byte b 0) (basic nil)
 
--- bytes cut into n pieces of w; a table cut into its records
-unfoldable pub pieces : ℕ → ℕ → List ℕ → List (List ℕ)
-pieces w zero b = []
-pieces w (suc n) b = take w b ∷ pieces w n (drop w b)
-
-unfoldable pub records : List ℕ → List (List ℕ)
-records b = pieces 16 (length b / 16) b
+-- a table cut into its records
+abbrev pub records : List ℕ → List (List ℕ)
+records b = cut 16 b
 
 -- Reading from the last record back: each record takes its children off the front of the terms read so far.
 unfoldable pub push : Node → List Term → List Term
@@ -114,5 +111,5 @@ decode ns = getD (build ns) 0 (leaf nil)
 
 -- (for computed checks) to unfold this is to unfold every definition of this file
 unfoldable pub open-format : Unit {0}
-unfolding bytes2 byte word nodes layout record16 bytes encode slots rightContents rightRecord tuple node pieces records push build decode
+unfolding bytes2 byte word nodes layout record16 encode slots rightContents rightRecord tuple node push build decode
 open-format = tt

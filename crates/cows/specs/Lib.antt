@@ -1,5 +1,6 @@
 pub mod Limits
 pub mod Basics
+pub mod Cut
 pub mod Terms
 pub mod Kinds
 pub mod Places

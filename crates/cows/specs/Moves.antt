@@ -225,9 +225,12 @@ unfoldable pub renaming : List ℕ → List ℕ → Substitution
 renaming taken [] = []
 renaming taken (d ∷ ds) = (d, fresh taken d) ∷ renaming (fresh taken d ∷ taken) ds
 
--- A copy of a body in the table t: the atoms delimited in it are renamed in record order, to atoms that do not occur in t.
-unfoldable pub copy : Term → Term → Term
-copy t body = mapAtoms (image (renaming (atoms t) (binders body))) body
+-- A copy of a body: the atoms delimited in it are renamed in record order, to atoms that are not taken; in the table t, to atoms that do not occur in t.
+unfoldable pub freshCopy : List ℕ → Term → Term
+freshCopy taken body = mapAtoms (image (renaming taken (binders body))) body
+
+abbrev pub copy : Term → Term → Term
+copy t body = freshCopy (atoms t) body
 
 -- the replication becomes a parallel of a copy of its body (left) and itself
 unfoldable pub afterUnfold : Term → ℕ → Term
@@ -269,5 +272,5 @@ successor t (Extrude a) = extrudeAt t a
 
 -- (for computed checks) to unfold this is to unfold every definition of this file
 unfoldable pub open-moves : Unit {0}
-unfolding haltUnder haltBoth halt haltBeside haltInside afterKill killAt provided besides match closedEnds fit matched outside inScope readyKill heldBack fewer tighter silence aroundChoice continue mapBasic mapPrefix mapNode mapAtoms image instantiate bind communicateAt timeoutAt lower elapse shorter elapseBy smallest least fresh renaming copy afterUnfold unfoldAt fitting exchange afterExtrude extrudeAt successor
+unfolding haltUnder haltBoth halt haltBeside haltInside afterKill killAt provided besides match closedEnds fit matched outside inScope readyKill heldBack fewer tighter silence aroundChoice continue mapBasic mapPrefix mapNode mapAtoms image instantiate bind communicateAt timeoutAt lower elapse shorter elapseBy smallest least fresh renaming freshCopy afterUnfold unfoldAt fitting exchange afterExtrude extrudeAt successor
 open-moves = tt

@@ -7,6 +7,7 @@ use Rattle.cows.specs.Basics.{every, same, Result, refuse, accept, open-
 use Rattle.cows.specs.Terms.{nil, kill, invoke, receive, wait, protection, delimitation, replication, choice, parallel, Term, leaf, under, both, open-terms}
 use Rattle.cows.specs.Kinds.{open-kinds}
 use Rattle.cows.specs.Places.{open-places}
+use Rattle.cows.specs.Cut.{open-cut}
 use Rattle.cows.specs.Format.{bytes2, encode, open-format}
 use Rattle.cows.specs.Tables.{open-tables}
 use Rattle.cows.specs.Active.{open-active}
@@ -129,7 +130,7 @@ right c = agrees c (judgePlay (encode (c .begins)) (joined (c .moves)) 32768 600
 
 -- (for computed checks) to unfold this is to unfold every definition that a night is played by
 unfoldable pub open-all : Unit {0}
-unfolding open-basics open-terms open-kinds open-places open-format open-tables open-active open-moves open-step open-load open-run
+unfolding open-basics open-terms open-kinds open-places open-cut open-format open-tables open-active open-moves open-step open-load open-run
 open-all = tt
 
 abbrev N8 : Term

@@ -1,7 +1,7 @@
 -- The records of a term around a place, and those of variables that take their values: definitions for contracts on tables. No rule rests on them.
 use mathlib.Core.Path.{_≡_}
 use mathlib.Core.Bool.{Bool, false, cond}
-use mathlib.Core.List.{List, [], _∷_, _++_}
+use mathlib.Core.List.{List, [], _∷_, _++_, flatMap}
 use Prim.Native.Nat.{ℕ, zero, suc, _+_, _<_, max}
 use Rattle.cows.specs.Basics.{any}
 use Rattle.cows.specs.Terms.{Term, size, delimitsAtom, delimitsAt}
@@ -50,6 +50,5 @@ unfoldable pub bindNode : Substitution → Node → List Node
 bindNode σ n = cond (any (λ (p : ℕ × ℕ). nodeDelimits (p .0) n) σ) [] (mapNode (image σ) n ∷ [])
 
 -- the same of each record, one behind the other
-unfoldable pub boundNodes : Substitution → List Node → List Node
-boundNodes σ [] = []
-boundNodes σ (n ∷ ns) = bindNode σ n ++ boundNodes σ ns
+abbrev pub boundNodes : Substitution → List Node → List Node
+boundNodes σ ns = flatMap (bindNode σ) ns

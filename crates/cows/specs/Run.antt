@@ -1,6 +1,6 @@
 -- A list of moves (01, A night played): the run, which is the paper's night book, and play's replies, outputs and tally.
 use mathlib.Core.Bool.{_||_}
-use mathlib.Core.List.{List, [], _∷_, _++_}
+use mathlib.Core.List.{List, [], _∷_, _++_, flatMap}
 use mathlib.Core.Option.{Option, none, some}
 use Prim.Native.Nat.{ℕ, _+_, _-_, _*_, _/_}
 use lib.Dec.{ltb}
@@ -8,11 +8,12 @@ use lib.ListN.{length, drop, replicate}
 use Rattle.cows.specs.Limits.{maxBytes, maxListBytes}
 use Rattle.cows.specs.Basics.{placeIf, Result, refuse, accept, _>>=_, _>>_, forbid}
 use Rattle.cows.specs.Terms.{Term, size}
-use Rattle.cows.specs.Format.{bytes2, encode, pieces}
+use Rattle.cows.specs.Format.{bytes2, encode}
 use Rattle.cows.specs.Tables.{judge}
 use Rattle.cows.specs.Moves.{Move, Kill, Communicate, Timeout, Elapse, Unfold, Extrude}
 use Rattle.cows.specs.Step.{Reply, readMove, stepTerm}
 use Rattle.cows.specs.Load.{lost, copies}
+use Rattle.cows.specs.Cut.{cut}
 
 -- The tally: communications (meetings), kills (stops), timeouts (expiries), and the load copied by unfoldings.
 pub record Tally : Type 0 where
@@ -84,13 +85,15 @@ losses r [] = 0
 losses r (m ∷ ms) = lostBy (r .table) (readMove m) (judgement r (readMove m)) + losses (turn r (readMove m)) ms
 
 -- Move n of a list is its n-th six bytes, whatever they hold; a tail of 1 to 5 bytes is no move.
-unfoldable pub movesOf : List ℕ → List (List ℕ)
-movesOf l = pieces 6 (length l / 6) l
+abbrev pub movesOf : List ℕ → List (List ℕ)
+movesOf l = cut 6 l
 
--- in play's 6 bytes
-unfoldable pub replyBytes : List Reply → List ℕ
-replyBytes [] = []
-replyBytes (r ∷ rs) = bytes2 (r .answer) ++ bytes2 (r .place) ++ bytes2 (r .records) ++ replyBytes rs
+-- a reply in play's 6 bytes; replies one behind the other
+abbrev pub reply6 : Reply → List ℕ
+reply6 r = bytes2 (r .answer) ++ (bytes2 (r .place) ++ bytes2 (r .records))
+
+abbrev pub replyBytes : List Reply → List ℕ
+replyBytes rs = flatMap reply6 rs
 
 -- Play: the run and its replies, or a refusal of the whole: 1 to 7; 19, a list over 60,000 bytes; 21, an output of less than 32,768 bytes
 -- or a reply buffer of less than 6 for each move.
@@ -131,5 +134,5 @@ play table moves out slots = judgePlay table moves (length out) (length slots)
 
 -- (for computed checks) to unfold this is to unfold every definition of this file
 unfoldable pub open-run : Unit {0}
-unfolding counted noTally sum adds start judgement enter turn run kept replies lostBy losses movesOf replyBytes played judgePlay playedReply playedTally playedOutput playedReplies play
+unfolding counted noTally sum adds start judgement enter turn run kept replies lostBy losses played judgePlay playedReply playedTally playedOutput playedReplies play
 open-run = tt

@@ -6,27 +6,38 @@ use Prim.Native.Nat.{ℕ, zero, suc, _+_, _%_}
 use lib.Dec.{ltb, eqb}
 use lib.ListN.{length}
 use Rattle.cows.specs.Limits.{maxBytes, maxDepth}
-use Rattle.cows.specs.Basics.{any, member, holds, found, placeIf, orElse, firstFrom, Result, accept, _>>=_, _>>_, forbid}
+use Rattle.cows.specs.Basics.{any, member, holds, found, placeIf, firstFrom, Result, accept, _>>=_, _>>_, forbid}
 use Rattle.cows.specs.Terms.{Term, value, bindable, uses, binders, delimits, delimitsAt, prefixed}
 use Rattle.cows.specs.Kinds.{Node, kind, childrenOf, guard}
 use Rattle.cows.specs.Places.{Way, Spot, sub, first, enclosed, frameChooses}
 use Rattle.cows.specs.Format.{rightRecord, node, records, decode}
+use Rattle.cows.specs.Cut.{firstFailing}
 
 -- 1: zero bytes, over 32,768, or not a multiple of 16.
 unfoldable pub wrongLength : List ℕ → Bool
 wrongLength b = eqb (length b) 0 || ltb maxBytes (length b) || not (eqb (length b % 16) 0)
 
 -- 2: the first record, of all that there are, that is not right.
-unfoldable pub firstWrong : ℕ → List (List ℕ) → Option ℕ
-firstWrong n [] = none
-firstWrong n (b ∷ bs) = orElse (placeIf (not (rightRecord b)) n) (firstWrong (suc n) bs)
+abbrev pub firstWrong : ℕ → List (List ℕ) → Option ℕ
+firstWrong n bs = firstFailing rightRecord n bs
 
--- 3: the term ends before the records do (the first one over), or the records first (their number). `wanted` terms are still to come at record n.
-unfoldable pub misshapen : ℕ → ℕ → List Node → Option ℕ
-misshapen zero n [] = none
-misshapen zero n (r ∷ rs) = some n
-misshapen (suc wanted) n [] = some n
-misshapen (suc wanted) n (r ∷ rs) = misshapen (childrenOf (kind r) + wanted) (suc n) rs
+-- Records of any kind in prefix order, each with as many terms behind it as it wants: the place behind so many terms, read from place n on; none where the records run out.
+unfoldable pub endOf : {A : Type 0} → (A → ℕ) → (terms n : ℕ) → List A → Option ℕ
+endOf wants zero n [] = some n
+endOf wants zero n (r ∷ rs) = some n
+endOf wants (suc w) n [] = none
+endOf wants (suc w) n (r ∷ rs) = endOf wants (wants r + w) (suc n) rs
+
+-- 3: the term ends before the n records do (the first one over), or the records first (their number).
+unfoldable pub wrongEnd : ℕ → Option ℕ → Option ℕ
+wrongEnd n none = some n
+wrongEnd n (some e) = placeIf (ltb e n) e
+
+abbrev pub children : Node → ℕ
+children r = childrenOf (kind r)
+
+unfoldable pub misshapen : List Node → Option ℕ
+misshapen ns = wrongEnd (length ns) (endOf children 1 0 ns)
 
 -- 4: depth over 256; the root has depth 1.
 unfoldable pub tooDeep : ℕ → Spot → Bool
@@ -71,10 +82,10 @@ unfoldable pub judge : List ℕ → Result Term
 judge b = do
   forbid 1 (placeIf (wrongLength b) 0)
   forbid 2 (firstWrong 0 (records b))
-  forbid 3 (misshapen 1 0 (map node (records b)))
+  forbid 3 (misshapen (map node (records b)))
   judgeTerm (decode (map node (records b)))
 
 -- (for computed checks) to unfold this is to unfold every definition of this file
 unfoldable pub open-tables : Unit {0}
-unfolding wrongLength firstWrong misshapen tooDeep inChoice noGuard unbound delimitedBefore again escaped clash judgeTerm judge
+unfolding wrongLength endOf wrongEnd misshapen tooDeep inChoice noGuard unbound delimitedBefore again escaped clash judgeTerm judge
 open-tables = tt

@@ -1,11 +1,11 @@
 -- A term within the limits: every rule of document 01's section Records, said of the term itself, with no word of bytes or of judging.
 use mathlib.Core.Path.{_≡_}
 use mathlib.Core.Bool.{Bool, true, false, _&&_, _||_}
-use mathlib.Core.List.{List, [], _∷_}
+use mathlib.Core.List.{List}
 use Prim.Native.Nat.{ℕ, _+_, _≤_, _<_}
 use lib.ListN.{length}
 use Rattle.cows.specs.Limits.{maxRecords, maxDepth, maxSlots, noInterval}
-use Rattle.cows.specs.Basics.{every, member}
+use Rattle.cows.specs.Basics.{every, member, All}
 use Rattle.cows.specs.Terms.{Basic, nil, kill, invoke, Prefix, receive, wait, protection, delimitation, replication, Join, choice, parallel, Term, leaf, under, both, value, label, datum, atom, bindable, size, depth, delimitsAtom, usesBasic, usesPrefix, binders}
 use Rattle.cows.specs.Kinds.{distinct, guard}
 
@@ -42,8 +42,7 @@ Guarded (both j s t) = Guards j s t × Guarded s × Guarded t
 
 -- Every use of an atom of which K holds lies inside a delimitation of it; E holds of the atoms delimited around the term.
 abbrev pub Bound : (ℕ → Bool) → (ℕ → Bool) → List ℕ → Type 0
-Bound K E [] = Unit {0}
-Bound K E (a ∷ l) = (K a ≡ true → E a ≡ true) × Bound K E l
+Bound K E l = All (λ a. K a ≡ true → E a ≡ true) l
 
 abbrev pub Scoped : (ℕ → Bool) → (ℕ → Bool) → Term → Type 0
 Scoped K E (leaf x) = Bound K E (usesBasic x)

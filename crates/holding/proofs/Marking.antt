@@ -4,10 +4,10 @@ use mathlib.Core.Logic.{_≢_}
 use mathlib.Core.Bool.{Bool, true, false, not, _&&_, _||_}
 use mathlib.Core.List.{List}
 use mathlib.Core.Option.{none, some}
-use Prim.Native.Nat.{ℕ, zero, suc, _+_, _*_, _-_, _/_, _≤_, _<_}
+use Prim.Native.Nat.{ℕ, _+_, _*_, _-_, _/_, _≤_, _<_}
 use native.Mathlib.Omega.{arith}
 use lib.Dec.{ltb, eqb}
-use lib.ListN.{length, getD, set, replicate}
+use lib.ListN.{length, getD, set}
 use lib.Seq.{getD-set-same, getD-set-other}
 use borrow.Author.Tests.{eqb-true, eq-eqb}
 use Rattle.cows.specs.Basics.{holds, found}
@@ -55,12 +55,6 @@ pub record Marking (marks : List ℕ) (t : Term) (i : ℕ) : Type 0 where
   pub walk : Seeking readyKind (λ s. false) t i
   pub ahead : (k : ℕ) → label k ≡ true → getD marks (k - 49152) 0 ≡ 0 → Seeking readyKind (killing k) t i
   pub marked : (k : ℕ) → label k ≡ true → getD marks (k - 49152) 0 ≢ 0 → found (first (readyKill k) t) ≡ true
-
--- new marks are blank
-pub blank : (n : ℕ) → Blank (replicate n 0)
-blank zero i = refl
-blank (suc n) zero = refl
-blank (suc n) (suc i) = blank n i
 
 module _ (marks : List ℕ) (t : Term) where
   pub marking-start : Blank marks → Marking marks t 0

@@ -15,7 +15,7 @@ use Rattle.cows.specs.Kinds.{root, kindOf}
 use Rattle.cows.specs.Places.{spot, wayTo, sub, enclosed, first}
 use Rattle.cows.specs.Format.{byte, word, layout, record16}
 use Rattle.cows.specs.Tables.{unbound, escaped, again, delimitedBefore, clash}
-use Rattle.cows.proofs.Basics.{clash as refute, bool-case, and-true, or-case, or-false, not-so, holds-some, none-firstFrom}
+use Rattle.cows.proofs.Basics.{clash as refute, bool-case, and-true, or-case, or-false, not-so, holds-some, none-firstFrom, eq-case}
 use Rattle.cows.proofs.Sets.{variable-range, label-range}
 use Rattle.cows.proofs.Places.{spot-under}
 use Rattle.cows.proofs.Stands.{delimits-is, prefixed-is, member-delimited}
@@ -24,7 +24,6 @@ use Rattle.cows.proofs.Reach.{delimitsAt-is, is-delimitsAt, reach-some, reaches
 use Rattle.records.specs.Holds.{Holds}
 use Rattle.records.proofs.Stands.{holds-size}
 use Rattle.scopes.specs.Scopes.{EndsOf, opens, strays}
-use Rattle.scopes.proofs.Directory.{eq-case}
 use Rattle.scopes.proofs.Uses.{place-inside, kind-here, delimitation-is, delimitation-here, endpoint-here, kill-here, none-used}
 use Rattle.ranges.specs.Lists.{Listed}
 use Rattle.ranges.proofs.Lists.{listed-all}

@@ -10,10 +10,9 @@ use lib.ListN.{length, getD, set, replicate, length-set, length-replicate}
 use lib.Seq.{getD-set-same, getD-set-other, set-getD}
 use borrow.Author.Tests.{leb-true}
 use Rattle.cows.specs.Format.{word}
-use Rattle.cows.proofs.Basics.{and-true}
+use Rattle.cows.proofs.Basics.{and-true, eq-case, getD-zeros}
 use Rattle.ranges.specs.Lists.{Listed}
 use Rattle.ranges.proofs.Lists.{listed-inside}
-use Rattle.scopes.proofs.Directory.{eq-case, blank-replicate}
 use Rattle.index.specs.Index.{slotOf, entryOf, Marked, Index, Growing, Starts, Grows, Ready, fineBy}
 
 -- what holds of every number of a list, and of one more
@@ -25,12 +24,12 @@ pub blank : (s : List ℕ) (n : ℕ) → 32 ≤ n → Growing s (replicate 2048 
 blank s n l = record {
   index = record {
     wide = length-replicate {A = ℕ} 2048 0;
-    page = λ p. omega (arith, blank-replicate 2048 p, length-replicate {A = ℕ} n 0);
-    whole = λ p. omega (arith, blank-replicate 2048 p);
-    apart = λ p q h. absurd (omega (arith, blank-replicate 2048 p));
-    mark = λ x d e. absurd (omega (arith, blank-replicate n x));
+    page = λ p. omega (arith, getD-zeros 2048 p, length-replicate {A = ℕ} n 0);
+    whole = λ p. omega (arith, getD-zeros 2048 p);
+    apart = λ p q h. absurd (omega (arith, getD-zeros 2048 p));
+    mark = λ x d e. absurd (omega (arith, getD-zeros n x));
   };
-  below = λ p. omega (arith, blank-replicate 2048 p);
+  below = λ p. omega (arith, getD-zeros 2048 p);
   even = omega arith;
 }
 

@@ -1,6 +1,6 @@
 -- A list of moves (specs/Nights): the state before the first move, one move more, and the end.
 use mathlib.Core.Path.{_≡_, refl, sym, ap, subst, _∙_}
-use mathlib.Core.List.{List, [], _∷_, _++_}
+use mathlib.Core.List.{List, [], _∷_, _++_, flatMap}
 use mathlib.Core.Option.{Option}
 use Prim.Native.Nat.{ℕ, _+_, _*_, _-_, _/_, _≤_, _<_}
 use native.Mathlib.Omega.{arith}
@@ -9,12 +9,14 @@ use lib.ListN.{length, getD, take, drop, length-append, length-drop}
 use lib.Seq.{sets-eq, getD-take, getD-drop, take-at, drop-at, drop-drop}
 use Rattle.cows.specs.Basics.{Result, refuse, accept}
 use Rattle.cows.specs.Terms.{Term, size}
-use Rattle.cows.specs.Format.{bytes2, byte, word, pieces}
+use Rattle.cows.specs.Format.{bytes2, byte, word}
 use Rattle.cows.specs.Moves.{Move}
 use Rattle.cows.specs.Step.{Reply, readMove, stepTerm}
-use Rattle.cows.specs.Run.{noTally, Run, start, run, judgement, turn, kept, replies, replyBytes, movesOf}
-use Rattle.cows.proofs.Lists.{run-more, replies-more, pieces-more, bytes-more, length-pieces, length-replies, length-bytes}
+use Rattle.cows.specs.Run.{noTally, Run, start, run, judgement, turn, kept, replies, replyBytes, reply6}
+use Rattle.cows.specs.Cut.{cut, pieces}
+use Rattle.cows.proofs.Lists.{run-more, replies-more, bytes-more, length-replies, length-bytes}
 use Rattle.cows.proofs.Bounds.{Below, read-small, below-step}
+use Rattle.cows.proofs.Cut.{length-pieces, pieces-more}
 use Rattle.records.specs.Rewrites.{put}
 use Rattle.tables.specs.declared.Reply as code
 use Rattle.tally.specs.declared.Tally.{Tally}
@@ -23,7 +25,7 @@ use Rattle.tally.proofs.Counting.{zeros-small, sum-small}
 use Rattle.player.specs.declared.turns.Kept.{Kept}
 use Rattle.player.specs.declared.turns.Next.{Next}
 use Rattle.player.specs.Turns.{KeepsRun, GoesOn}
-use Rattle.player.specs.Nights.{sixBytes, replySix, bookAt, repliesAt, bytesAt, moveAt, CanMove, Made, Recorded, CanPlay, Playing, NightOver}
+use Rattle.player.specs.Nights.{sixBytes, bookAt, repliesAt, bytesAt, moveAt, CanMove, Made, Recorded, CanPlay, Playing, NightOver}
 use Rattle.player.proofs.Turning.{kept-records}
 
 pub part-move : (l : List ℕ) (i : ℕ) → readMove (take (6 * i + 6 - 6 * i) (drop (6 * i) l)) ≡ moveAt l i
@@ -102,7 +104,7 @@ module _ (moves : List ℕ) (i : ℕ) (k : Kept) (x y ends slots : List ℕ) (o 
 -- before the first move
 module _ (moves : List ℕ) (n : ℕ) (first : Kept) (x₀ y₀ ends₀ slots : List ℕ) (o : CanPlay moves n first x₀ y₀ ends₀ slots) where
   pub opening : (c : Tally) → c ≡ tallyOf noTally → Playing moves first x₀ y₀ ends₀ slots 0 first x₀ y₀ ends₀ slots c
-  unfolding bookAt repliesAt pieces run replies start replyBytes
+  unfolding bookAt repliesAt pieces run replies start flatMap
   opening c e = record {
     inside = omega arith;
     keeps = λ t h. h;
@@ -134,10 +136,10 @@ module _ (moves : List ℕ) (n : ℕ) (first : Kept) (x₀ y₀ ends₀ slots : 
         replies-are = λ t h.
             let b = kept (bookAt t moves i) (judgement (bookAt t moves i) (moveAt moves i)) in
             let front = replyBytes (repliesAt t moves i) in
-            let all : replyBytes (repliesAt t moves (i + 1)) ≡ front ++ replySix b = ap replyBytes (replies-next t moves i) ∙ bytes-more (repliesAt t moves i) b in
+            let all : replyBytes (repliesAt t moves (i + 1)) ≡ front ++ reply6 b = ap replyBytes (replies-next t moves i) ∙ bytes-more (repliesAt t moves i) b in
             let room : 6 * i + 6 ≤ length slots = omega (arith, o .slots-room, o .all) in
             g .made .replies (bookAt t moves i) (p .keeps t h)
-            ∙ (rw (p .replies-are t h, all) (put-next front slots (replySix b) i (bytes-long t moves i) (six-long (b .answer) (b .place) (b .records)) room));
+            ∙ (rw (p .replies-are t h, all) (put-next front slots (reply6 b) i (bytes-long t moves i) (six-long (b .answer) (b .place) (b .records)) room));
         tallied = λ t h. g .added ∙ (rw (p .tallied t h, book-next t moves i) (g .made .counted (bookAt t moves i) (p .keeps t h)));
         small = subst (λ d. Small d (i + 1)) (sym (g .added)) (sum-small c (g .counts) i (p .small) (g .made .few));
         same-first = lx ∙ p .same-first;
@@ -148,7 +150,7 @@ module _ (moves : List ℕ) (n : ℕ) (first : Kept) (x₀ y₀ ends₀ slots : 
 
     -- after the last
     pub playing-ends : n ≤ i → (t : Term) → KeepsRun (start t) x₀ y₀ ends₀ first → NightOver t moves x y ends slots replied (record { kept = k; tally = c })
-    unfolding movesOf bookAt repliesAt
+    unfolding cut bookAt repliesAt
     playing-ends over t h =
         let e : i ≡ length moves / 6 = omega (arith, o .all, p .inside) in
         record {

@@ -9,14 +9,15 @@ use lib.ListN.{length}
 use borrow.Author.Tests.{lt-ltb, le-ltb}
 use Rattle.cows.specs.Basics.{placeIf, refuse, accept, _>>_, forbid}
 use Rattle.cows.specs.Terms.{Term}
-use Rattle.cows.specs.Format.{Bytes, pieces}
+use Rattle.cows.specs.Format.{Bytes}
 use Rattle.cows.specs.Tables.{judge}
 use Rattle.cows.specs.Within.{Within}
 use Rattle.cows.specs.Load.{load}
 use Rattle.cows.specs.Run.{start, run, movesOf, played, playedReply, playedTally, playedOutput, playedReplies}
 use Rattle.cows.proofs.Tables.{judge-within, within-judge}
-use Rattle.cows.proofs.Lists.{length-pieces, length-replies}
+use Rattle.cows.proofs.Lists.{length-replies}
 use Rattle.cows.proofs.Theorems.{list-bound, tables-within}
+use Rattle.cows.proofs.Cut.{length-cut}
 use Rattle.tables.specs.declared.Reply.{Reply}
 use Rattle.tally.specs.declared.Tally.{Tally}
 use Rattle.player.specs.declared.Played.{Played}
@@ -33,9 +34,9 @@ module _ (table moves out after slots after′ : List ℕ) (p : Played) (t : Ter
   refused n g = record { reply = whole-is p (g .replied) (g .tallied); output = g .output; slots-are = g .slots-are }
 
   followed : PlayGives (accept (played t (movesOf moves))) out after slots after′ p → Within t → Followed t moves out after slots after′ p
-  unfolding played playedReply playedTally playedOutput playedReplies movesOf book
+  unfolding played playedReply playedTally playedOutput playedReplies book
   followed g w =
-      let n = length-replies (start t) (pieces 6 (length moves / 6) moves) ∙ length-pieces 6 (length moves / 6) moves in
+      let n = length-replies (start t) (movesOf moves) ∙ length-cut 6 moves in
       record {
         reply = g .replied;
         replied = g .slots-are ∙ rw n;

@@ -11,12 +11,12 @@ use lib.Seq.{take-all, take-at}
 use borrow.Author.Tests.{ltb-false, lt-ltb, le-ltb}
 use Rattle.cows.specs.Basics.{placeIf, Result, refuse, accept, _>>=_, _>>_, forbid}
 use Rattle.cows.specs.Terms.{Term}
-use Rattle.cows.specs.Format.{pieces}
 use Rattle.cows.specs.Tables.{judge}
 use Rattle.cows.specs.Run.{Run, start, movesOf, played, judgePlay, playedReply, playedTally, playedOutput, playedReplies}
 use Rattle.cows.specs.Run as meaning
 use Rattle.cows.proofs.Basics.{or-false, accept-bind}
-use Rattle.cows.proofs.Lists.{length-pieces, length-replies}
+use Rattle.cows.proofs.Lists.{length-replies}
+use Rattle.cows.proofs.Cut.{length-cut}
 use Rattle.records.specs.Rewrites.{put}
 use Rattle.records.proofs.Put.{length-put}
 use Rattle.ways.specs.Known.{Table}
@@ -70,9 +70,9 @@ module _ (q : Run) (x y ends : List ℕ) (k : Kept) (h : KeepsRun q x y ends k) 
 module _ (t : Term) (moves x y ends out after slots after′ : List ℕ) (r : Moved) (h : NightOver t moves x y ends slots after′ r) where
   plays-term : after ≡ held (r .kept .records) (cond (r .kept .second) y x) ++ replicate (32768 - 16 * r .kept .records) 0 ++ drop 32768 out
       → PlaysTerm t moves out after slots after′ (record { reply = record { answer = 0; place = 0; records = r .kept .records }; tally = r .tally })
-  unfolding played playedReply playedTally playedOutput playedReplies movesOf
+  unfolding played playedReply playedTally playedOutput playedReplies
   plays-term e =
-      let n = length-replies (start t) (pieces 6 (length moves / 6) moves) ∙ length-pieces 6 (length moves / 6) moves in
+      let n = length-replies (start t) (movesOf moves) ∙ length-cut 6 moves in
       record {
         replied = ap (λ (c : ℕ). record { answer = 0; place = 0; records = c }) (h .keeps .count);
         tallied = h .tallied;

@@ -2,15 +2,16 @@
 use mathlib.Core.Path.{_≡_}
 use mathlib.Core.List.{List, _++_}
 use mathlib.Core.Option.{Option}
-use Prim.Native.Nat.{ℕ, _+_, _*_, _/_, _≤_, _<_}
+use Prim.Native.Nat.{ℕ, _*_, _/_, _≤_, _<_}
 use lib.ListN.{length, take, drop}
 use Rattle.cows.specs.Basics.{Result, accept}
 use Rattle.cows.specs.Terms.{Term}
-use Rattle.cows.specs.Format.{bytes2, pieces}
+use Rattle.cows.specs.Format.{bytes2}
 use Rattle.cows.specs.Moves.{Move}
 use Rattle.cows.specs.Step.{Reply, readMove}
-use Rattle.cows.specs.Run.{noTally, Run, start, run, judgement, turn, kept, replies, replyBytes, movesOf, played, playedReply, playedTally, playedOutput, playedReplies}
+use Rattle.cows.specs.Run.{noTally, Run, start, run, judgement, turn, kept, replies, replyBytes, movesOf, played, playedReply, playedTally, playedOutput, playedReplies, reply6}
 use Rattle.cows.specs.Run as meaning
+use Rattle.cows.specs.Cut.{pieces}
 use Rattle.records.specs.Rewrites.{put}
 use Rattle.ways.specs.Known.{Known}
 use Rattle.tables.specs.Verdict.{refusal}
@@ -25,9 +26,6 @@ use Rattle.player.specs.Turns.{KeepsRun, Going}
 -- answer, place and records in six bytes
 abbrev pub sixBytes : ℕ → ℕ → ℕ → List ℕ
 sixBytes a p n = bytes2 a ++ (bytes2 p ++ bytes2 n)
-
-abbrev pub replySix : Reply → List ℕ
-replySix r = sixBytes (r .answer) (r .place) (r .records)
 
 -- The run of the first i moves of a list from the table of t, and its replies.
 unfoldable pub bookAt : Term → List ℕ → ℕ → Run
@@ -53,7 +51,7 @@ pub record CanMove (moves : List ℕ) (i : ℕ) (k : Kept) (x y ends slots : Lis
 -- What it gives: the run goes on by the move, its reply stands in its place, and what it counts, added to the tally, is the run's then.
 pub record Made (moves : List ℕ) (i : ℕ) (k : Kept) (x y ends slots x′ y′ ends′ slots′ : List ℕ) (r : Moved) : Type 0 where
   pub keeps : (q : Run) → KeepsRun q x y ends k → KeepsRun (turn q (moveAt moves i)) x′ y′ ends′ (r .kept)
-  pub replies : (q : Run) → KeepsRun q x y ends k → slots′ ≡ put slots (6 * i) (replySix (kept q (judgement q (moveAt moves i))))
+  pub replies : (q : Run) → KeepsRun q x y ends k → slots′ ≡ put slots (6 * i) (reply6 (kept q (judgement q (moveAt moves i))))
   pub counted : (q : Run) → KeepsRun q x y ends k → sumOf (tallyOf (q .tally)) (r .tally) ≡ tallyOf (turn q (moveAt moves i) .tally)
   pub few : Small (r .tally) 1
 

@@ -2,23 +2,21 @@
 use mathlib.Core.Path.{_≡_, refl, sym, ap, _∙_}
 use mathlib.Core.Bool.{Bool, true, _&&_}
 use mathlib.Core.List.{List, [], _∷_}
-use mathlib.Core.Option.{none}
-use Prim.Native.Nat.{ℕ, zero, suc, _+_, _*_, _/_, _%_, _≤_, _<_}
+use Prim.Native.Nat.{ℕ, zero, suc, _+_, _*_, _%_, _≤_, _<_}
 use native.Mathlib.Omega.{arith}
 use native.Mathlib.Numerals.{add-one}
 use lib.Dec.{leb}
-use lib.ListN.{length, getD, drop}
+use lib.ListN.{getD}
 use borrow.Author.Tests.{leb-true, ltb-true, le-leb, lt-ltb, eq-eqb}
 use Rattle.cows.specs.Basics.{every}
 use Rattle.cows.specs.Terms.{label, datum, atom}
 use Rattle.cows.specs.Kinds.{unused, interval, distinct, empty4, kinds, rowOf, may}
-use Rattle.cows.specs.Format.{byte, word, rightContents, rightRecord, records}
-use Rattle.cows.specs.Tables.{firstWrong}
+use Rattle.cows.specs.Format.{byte, word, rightContents, rightRecord}
 use Rattle.cows.proofs.Basics.{and-true, true-and}
 use Rattle.rows.specs.Rows.{slotRight, tupleContents}
 use Rattle.rows.proofs.Checks.{datum-range, atom-range, tupleTest, invoke-code, receive-code}
 use Rattle.records.proofs.Pieces.{piece, byte-piece, word-piece, first-piece}
-use Rattle.rows.proofs.Tested.{tuple-piece, slots-piece, right-here, none-wrong}
+use Rattle.rows.proofs.Tested.{tuple-piece, slots-piece}
 use Rattle.ranges.specs.Ranges.{kindLowest, kindGreatest, countLowest, countGreatest, atLeast, atMost, ranged, patternRight}
 
 -- a field within its range; the eight fields of the record at byte k
@@ -164,11 +162,3 @@ pub pattern-here : (s : List ℕ) (k a b c d : ℕ) (r : Bool) → a ≡ word s 
     → patternRight s k ≡ true
 unfolding patternRight
 pattern-here s k a b c d r ea eb ec ed e h = rw (← ea, ← eb, ← ec, ← ed) (sym e ∙ h)
-
--- no record is wrong if all are right
-pub all-right : (s : List ℕ) → ((i : ℕ) → i < length s / 16 → rightRecord (piece s (16 * i)) ≡ true) → firstWrong 0 (records s) ≡ none
-all-right s h = go (length s / 16) 0 (omega arith)
-  where
-    go : (m i : ℕ) → i + m ≡ length s / 16 → firstWrong i (drop i (records s)) ≡ none
-    go zero i e = none-wrong s i (omega arith)
-    go (suc m) i e = let l : i < length s / 16 = omega arith in right-here s i true l (sym (h i l)) refl ∙ go m (i + 1) (omega arith)

@@ -9,8 +9,7 @@ use lib.ListN.{length, getD, set}
 use lib.Seq.{getD-set-same, getD-set-other}
 use mir.Val.{boolByte}
 use borrow.Author.Tests.{le-leb}
-use Rattle.cows.proofs.Basics.{never, true-and}
-use Rattle.scopes.proofs.Directory.{eq-case}
+use Rattle.cows.proofs.Basics.{never, true-and, eq-case}
 use Rattle.ranges.specs.Lists.{Listed, Inside}
 
 -- a test as a number

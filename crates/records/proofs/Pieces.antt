@@ -1,12 +1,11 @@
 -- The records of a table, cut out of its bytes, and the numbers in them.
 use mathlib.Core.Path.{_≡_, ap, _∙_}
-use mathlib.Core.List.{List, [], _∷_}
-use Prim.Native.Nat.{ℕ, zero, suc, _+_, _*_, _/_, _≤_, _<_}
+use mathlib.Core.List.{List}
+use Prim.Native.Nat.{ℕ, suc, _+_, _<_}
 use native.Mathlib.Omega.{arith}
-use lib.ListN.{length, getD, take, drop, drop-of-length-le}
-use lib.Seq.{getD-take, getD-drop, drop-drop}
-use Rattle.cows.specs.Format.{byte, word, pieces, records}
-use Rattle.cows.proofs.Lists.{length-pieces}
+use lib.ListN.{getD, take, drop}
+use lib.Seq.{getD-take, getD-drop}
+use Rattle.cows.specs.Format.{byte, word}
 
 -- 16 bytes from byte k on
 abbrev pub piece : List ℕ → ℕ → List ℕ
@@ -26,23 +25,3 @@ module _ (s : List ℕ) (k : ℕ) where
   pub first-piece : byte (piece s k) 0 ≡ getD s k 0
   unfolding byte
   first-piece = byte-piece 0 (omega arith) ∙ ap (λ i. getD s i 0) (omega arith)
-
--- the records from a place on
-pieces-cons : (w n i : ℕ) (b : List ℕ) → i < n → drop i (pieces w n b) ≡ take w (drop (w * i) b) ∷ drop (suc i) (pieces w n b)
-unfolding pieces
-pieces-cons w zero i b h = absurd (omega arith)
-pieces-cons w (suc n) zero b h = let e : w * 0 ≡ 0 = omega arith in rw e
-pieces-cons w (suc n) (suc i) b h =
-    let e : w + w * i ≡ w * suc i = omega arith in
-    pieces-cons w n i (drop w b) (omega arith) ∙ rw (drop-drop (w * i) w b, e)
-
-pub length-records : (s : List ℕ) → length (records s) ≡ length s / 16
-unfolding records
-length-records s = length-pieces 16 (length s / 16) s
-
-pub records-cons : (s : List ℕ) (i : ℕ) → i < length s / 16 → drop i (records s) ≡ piece s (16 * i) ∷ drop (suc i) (records s)
-unfolding records
-records-cons s i h = pieces-cons 16 (length s / 16) i s h
-
-pub records-end : (s : List ℕ) (i : ℕ) → length s / 16 ≤ i → drop i (records s) ≡ []
-records-end s i h = drop-of-length-le (records s) {i = i} (omega (arith, length-records s))

@@ -1,114 +1,68 @@
--- Where terms end (specs/Ends): one term after the other; the ends that a backward pass finds; the shape of a table by its first end.
+-- Where the terms of a table end (specs/Ends): the ends that a backward pass finds; the shape of a table by its first end.
 use mathlib.Core.Path.{_≡_, refl, sym, ap, subst, _∙_}
 use mathlib.Core.Option.{Option, none, some}
-use mathlib.Core.List.{List, [], _∷_, map}
+use mathlib.Core.List.{List, map}
 use Prim.Native.Nat.{ℕ, zero, suc, _+_, _*_, _-_, _/_, _≤_, _<_}
 use native.Mathlib.Omega.{arith}
-use native.Mathlib.Nat.{zero-add, suc-add, sub-self}
-use mathlib.Core.Bool.{true, not}
+use mathlib.Core.Bool.{true}
 use lib.Dec.{ltb, eqb}
 use lib.ListN.{length, getD, set, drop, length-set, length-drop, length-map, drop-of-length-le}
-use lib.Seq.{drop-drop, drop-nil, getD-set-same, getD-set-other}
-use borrow.Author.Tests.{ltb-true, eqb-true, eqb-false, not-false}
+use lib.Seq.{drop-drop, getD-set-same, getD-set-other}
+use borrow.Author.Tests.{ltb-true, eqb-true, eqb-false, le-ltb, lt-ltb}
 use Rattle.cows.specs.Basics.{placeIf}
 use Rattle.cows.specs.Terms.{Term, leaf, under, both, size}
-use Rattle.cows.specs.Kinds.{kinds, Node, childrenOf, kind}
+use Rattle.cows.specs.Kinds.{kinds, childrenOf, kind}
 use Rattle.cows.specs.Places.{sub}
 use Rattle.cows.specs.Format.{byte, rightRecord, encode, node, records}
-use Rattle.cows.specs.Tables.{firstWrong, misshapen}
+use Rattle.cows.specs.Tables.{firstWrong, endOf, wrongEnd, children, misshapen}
 use Rattle.cows.proofs.Rows.{kind-cases, arity, children-few}
 use Rattle.cows.proofs.Format.{length-encode}
-use Rattle.cows.proofs.Basics.{bool-case, and-true, orElse-none, placeIf-none}
-use Rattle.records.specs.Ends.{after, kindsOf, endAt, pickEnd, EndsFrom}
+use Rattle.cows.proofs.Basics.{bool-case, and-true}
+use Rattle.cows.proofs.Cut.{length-cut, cut-cons, failing-none}
+use Rattle.cows.proofs.Ends.{end-none, end-one, end-bounds, end-add, end-short, end-map}
+use Rattle.cows.proofs.Scopes.{all-map}
+use Rattle.records.specs.Ends.{wants, endAt, pickEnd, EndsFrom}
 use Rattle.records.specs.Rewrites.{Stands}
-use Rattle.records.proofs.Pieces.{first-piece, length-records, records-cons}
+use Rattle.records.specs.Answers.{placeOr}
+use Rattle.records.proofs.Pieces.{piece, first-piece}
 use Rattle.records.proofs.Stands.{long, stands-children, stands-fits, stands-under, stands-left, stands-right, part-stands}
-
--- Terms read from place n on in records rs, with `over` past the last of them.
-module _ {A : Type 0} (wants : A → ℕ) (over : ℕ) where
-  pub after-none : (n : ℕ) (rs : List A) → after wants over 0 n rs ≡ n
-  unfolding after
-  after-none n [] = refl
-  after-none n (r ∷ rs) = refl
-
-  after-one : (n : ℕ) (r : A) (rs : List A) → after wants over 1 n (r ∷ rs) ≡ after wants over (wants r) (suc n) rs
-  unfolding after
-  after-one n r rs = ap (λ w. after wants over w (suc n) rs) (let z : wants r + 0 ≡ wants r = omega arith in z)
-
-  pub after-within : (w n : ℕ) (rs : List A) → n + length rs ≤ over → (n ≤ after wants over w n rs) × (after wants over w n rs ≤ over)
-  unfolding after
-  after-within zero n [] h = omega arith
-  after-within zero n (r ∷ rs) h = omega arith
-  after-within (suc w) n [] h = omega arith
-  after-within (suc w) n (r ∷ rs) h = omega (arith, after-within (wants r + w) (suc n) rs (omega arith))
-
-  -- behind no records
-  after-over : (w : ℕ) → after wants over w over [] ≡ over
-  unfolding after
-  after-over zero = refl
-  after-over (suc w) = refl
-
-  -- a terms, and w terms behind them
-  pub after-add : (a w n : ℕ) (rs : List A) → n + length rs ≤ over
-      → after wants over (a + w) n rs ≡ after wants over w (after wants over a n rs) (drop (after wants over a n rs - n) rs)
-  unfolding after
-  after-add zero w n [] h = rw (sub-self n, zero-add w)
-  after-add zero w n (r ∷ rs) h = rw (sub-self n, zero-add w)
-  after-add (suc a) w n [] h = rw (suc-add a w, drop-nil (over - n)) (sym (after-over w))
-  after-add (suc a) w n (r ∷ rs) h =
-      let e = after wants over (wants r + a) (suc n) rs in
-      let p : wants r + (a + w) ≡ wants r + a + w = omega arith in
-      let q : e - n ≡ suc (e - suc n) = omega (arith, after-within (wants r + a) (suc n) rs (omega arith)) in
-      rw (suc-add a w, p, q) (after-add (wants r + a) w (suc n) rs (omega arith))
-
-  -- the same by places in the whole list
-  pub after-more : (ks : List A) (a w m : ℕ) → m ≤ over → length ks ≤ over
-      → after wants over (a + w) m (drop m ks) ≡ after wants over w (after wants over a m (drop m ks)) (drop (after wants over a m (drop m ks)) ks)
-  after-more ks a w m h l =
-      let b : m + length (drop m ks) ≤ over = omega (arith, length-drop m ks) in
-      let e = after wants over a m (drop m ks) in
-      let p : m + (e - m) ≡ e = omega (arith, after-within a m (drop m ks) b) in
-      after-add a w m (drop m ks) b ∙ rw (drop-drop (e - m) m ks, p)
-
--- the kinds of a table's records
-drop-map : {A B : Type 0} (f : A → B) (m : ℕ) (l : List A) → drop m (map f l) ≡ map f (drop m l)
-drop-map f zero l = refl
-drop-map f (suc m) [] = refl
-drop-map f (suc m) (x ∷ l) = drop-map f m l
-
-length-kinds : (s : List ℕ) → length (kindsOf s) ≡ length s / 16
-unfolding kindsOf
-length-kinds s = length-map (records s) (λ b. byte b 0) ∙ length-records s
-
-kinds-cons : (s : List ℕ) (m : ℕ) → m < length s / 16 → drop m (kindsOf s) ≡ getD s (16 * m) 0 ∷ drop (suc m) (kindsOf s)
-unfolding kindsOf
-kinds-cons s m h =
-    rw (drop-map (λ b. byte b 0) m (records s), drop-map (λ b. byte b 0) (suc m) (records s), records-cons s m h, first-piece s (16 * m))
 
 -- The end at a place, from those behind it.
 module _ (s : List ℕ) where
+  abbrev over : ℕ
+  over = suc (length s / 16)
+
+  -- the end of so many terms
+  abbrev endOfTerms : ℕ → ℕ → Option ℕ
+  endOfTerms w m = endOf wants w m (drop m (records s))
+
   pub end-within : (m : ℕ) → m ≤ length s / 16 + 1 → (m ≤ endAt s m) × (endAt s m ≤ length s / 16 + 1)
   unfolding endAt
-  end-within m h =
-      let l : m + length (drop m (kindsOf s)) ≤ suc (length s / 16) = omega (arith, length-drop m (kindsOf s), length-kinds s) in
-      omega (arith, after-within childrenOf (suc (length s / 16)) 1 m (drop m (kindsOf s)) l)
+  end-within m h = go (endOfTerms 1 m) (end-bounds wants 1 m (drop m (records s)))
+    where
+      go : (o : Option ℕ) → ((e : ℕ) → o ≡ some e → (m ≤ e) × (e ≤ m + length (drop m (records s)))) → (m ≤ placeOr over o) × (placeOr over o ≤ length s / 16 + 1)
+      go none f = omega arith
+      go (some e) f = omega (arith, f e refl, length-drop m (records s), length-cut 16 s)
 
   pub end-over : (m : ℕ) → length s / 16 ≤ m → endAt s m ≡ length s / 16 + 1
-  unfolding endAt after
-  end-over m h = rw (drop-of-length-le (kindsOf s) {i = m} (omega (arith, length-kinds s))) (omega arith)
+  unfolding endAt endOf
+  end-over m h = rw (drop-of-length-le (records s) {i = m} (omega (arith, length-cut 16 s))) (omega arith)
 
-  end-turn : (m : ℕ) → m < length s / 16 → endAt s m ≡ after childrenOf (suc (length s / 16)) (childrenOf (getD s (16 * m) 0)) (suc m) (drop (suc m) (kindsOf s))
+  end-two : (m : ℕ) (o : Option ℕ) → endOfTerms 1 m ≡ o → placeOr over (endOfTerms 2 m) ≡ endAt s (placeOr over o)
   unfolding endAt
-  end-turn m h = rw (kinds-cons s m h) (after-one childrenOf (suc (length s / 16)) m (getD s (16 * m) 0) (drop (suc m) (kindsOf s)))
+  end-two m none q = ap (placeOr over) (end-short wants 1 1 m (drop m (records s)) q) ∙ sym (end-over over (omega arith) ∙ omega arith)
+  end-two m (some e) q =
+      let z : m + (e - m) ≡ e = omega (arith, end-bounds wants 1 m (drop m (records s)) e q) in
+      rw (end-add wants 1 1 m (drop m (records s)) e q, drop-drop (e - m) m (records s), z)
 
   pub end-pick : (m c : ℕ) → m < length s / 16 → c ≡ childrenOf (getD s (16 * m) 0) → c ≤ 2 → endAt s m ≡ pickEnd c (suc m) (endAt s (suc m)) (endAt s (endAt s (suc m)))
   unfolding pickEnd endAt
-  end-pick m c h e l = end-turn m h ∙ rw (← e) (go c l)
+  end-pick m c h e l = rw (cut-cons 16 s m h, end-one wants m (piece s (16 * m)) (drop (suc m) (records s)) c (ap childrenOf (first-piece s (16 * m)) ∙ sym e)) (go c l)
     where
-      go : (c : ℕ) → c ≤ 2 → after childrenOf (suc (length s / 16)) c (suc m) (drop (suc m) (kindsOf s)) ≡ pickEnd c (suc m) (endAt s (suc m)) (endAt s (endAt s (suc m)))
-      go zero l = after-none childrenOf (suc (length s / 16)) (suc m) (drop (suc m) (kindsOf s))
+      go : (c : ℕ) → c ≤ 2 → placeOr over (endOfTerms c (suc m)) ≡ pickEnd c (suc m) (endAt s (suc m)) (endAt s (endAt s (suc m)))
+      go zero l = ap (placeOr over) (end-none wants (suc m) (drop (suc m) (records s)))
       go (suc zero) l = refl
-      go (suc (suc zero)) l = after-more childrenOf (suc (length s / 16)) (kindsOf s) 1 1 (suc m) (omega arith) (omega (arith, length-kinds s))
+      go (suc (suc zero)) l = end-two (suc m) (endOfTerms 1 (suc m)) refl
       go (suc (suc (suc c))) l = absurd (omega arith)
 
   -- The pass that finds the ends: its start, its turn, and an end that it reads.
@@ -161,25 +115,10 @@ module _ (s : List ℕ) where
 abbrev pub Shape : ℕ → ℕ → Option ℕ → Type 0
 Shape e n o = (e ≡ n → o ≡ none) × (e < n → o ≡ some e) × (n < e → o ≡ some n)
 
-shape-after : (over w n : ℕ) (rs : List Node) → n + length rs < over → Shape (after (λ r. childrenOf (kind r)) over w n rs) (n + length rs) (misshapen w n rs)
-unfolding after misshapen
-shape-after over zero n [] h = (λ e. refl, λ l. absurd (omega arith), λ l. absurd (omega arith))
-shape-after over zero n (r ∷ rs) h = (λ e. absurd (omega arith), λ l. refl, λ l. absurd (omega arith))
-shape-after over (suc w) n [] h = (λ e. absurd (omega arith), λ l. absurd (omega arith), λ l. ap some (let z : n ≡ n + 0 = omega arith in z))
-shape-after over (suc w) n (r ∷ rs) h =
-    let z : n + length (r ∷ rs) ≡ suc n + length rs = omega arith in
-    rw z (shape-after over (childrenOf (kind r) + w) (suc n) rs (omega arith))
-
--- what counts is the numbers of children
-after-numbers : {A : Type 0} (wants : A → ℕ) (over w n : ℕ) (rs : List A) → after wants over w n rs ≡ after (λ c. c) over w n (map wants rs)
-unfolding after
-after-numbers wants over zero n [] = refl
-after-numbers wants over zero n (r ∷ rs) = refl
-after-numbers wants over (suc w) n [] = refl
-after-numbers wants over (suc w) n (r ∷ rs) = after-numbers wants over (wants r + w) (suc n) rs
-
-after-same : {A B : Type 0} (f : A → ℕ) (g : B → ℕ) (over w n : ℕ) (rs : List A) (ts : List B) → map f rs ≡ map g ts → after f over w n rs ≡ after g over w n ts
-after-same f g over w n rs ts e = after-numbers f over w n rs ∙ (ap (after (λ c. c) over w n) e ∙ sym (after-numbers g over w n ts))
+shape-end : (n : ℕ) (o : Option ℕ) → ((e : ℕ) → o ≡ some e → e ≤ n) → Shape (placeOr (suc n) o) n (wrongEnd n o)
+unfolding wrongEnd placeIf
+shape-end n none l = (λ h. absurd (omega arith), λ h. absurd (omega arith), λ h. refl)
+shape-end n (some e) l = (λ h. rw (le-ltb e n (omega arith)), λ h. rw (lt-ltb e n h), λ h. absurd (omega (arith, l e refl)))
 
 right-kind : (b : List ℕ) → rightRecord b ≡ true → byte b 0 ≡ kind (node b)
 unfolding rightRecord kinds node
@@ -188,19 +127,13 @@ right-kind b h =
     (λ e l. rw e, λ e l. rw e, λ e l. rw e, λ e l. rw e, λ e l. rw e, λ e l. rw e, λ e l. rw e, λ e l. rw e, λ e l. rw e, λ e l. rw e) (λ n e l. absurd (omega arith))
     (byte b 0) refl (ltb-true (byte b 0) 10 (and-true (ltb (byte b 0) 10) _ h .0))
 
-map-children : (n : ℕ) (rs : List (List ℕ)) → firstWrong n rs ≡ none → map childrenOf (map (λ b. byte b 0) rs) ≡ map (λ r. childrenOf (kind r)) (map node rs)
-unfolding firstWrong
-map-children n [] h = refl
-map-children n (b ∷ rs) h =
-    let (p, q) = orElse-none (placeIf (not (rightRecord b)) n) _ h in
-    rw (right-kind b (not-false _ (placeIf-none _ n p)), map-children (suc n) rs q)
-
-pub end-shape : (s : List ℕ) → firstWrong 0 (records s) ≡ none → Shape (endAt s 0) (length s / 16) (misshapen 1 0 (map node (records s)))
-unfolding endAt kindsOf
+pub end-shape : (s : List ℕ) → firstWrong 0 (records s) ≡ none → Shape (endAt s 0) (length s / 16) (misshapen (map node (records s)))
+unfolding endAt misshapen
 end-shape s h =
-    let l : 0 + length (map node (records s)) ≡ length s / 16 = rw (zero-add, length-map) (length-records s) in
-    rw (after-same childrenOf (λ r. childrenOf (kind r)) (suc (length s / 16)) 1 0 _ (map node (records s)) (map-children 0 (records s) h), ← l)
-    (shape-after (suc (0 + length (map node (records s)))) 1 0 (map node (records s)) (omega arith))
+    let ns = map node (records s) in
+    let l : length ns ≡ length s / 16 = rw length-map (length-cut 16 s) in
+    let e = end-map wants children node 1 0 (records s) (all-map _ _ (λ b r. ap childrenOf (right-kind b r)) (records s) (failing-none rightRecord 0 (records s) h)) in
+    rw (e, l) (shape-end (length s / 16) (endOf children 1 0 ns) (λ k q. omega (arith, end-bounds children 1 0 ns k q)))
 
 -- A term that stands at a place ends its size behind it.
 module _ (s : List ℕ) where

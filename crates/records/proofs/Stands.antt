@@ -1,13 +1,13 @@
 -- Terms that stand at a byte of a table (specs/Rewrites): their first record, their children, their places in a table that holds a term.
 use mathlib.Core.Path.{_≡_, refl, ap, subst, _∙_}
-use mathlib.Core.List.{List, _++_, append-nil}
+use mathlib.Core.List.{List, _++_, append-nil, flatMap}
 use Prim.Native.Nat.{ℕ, _+_, _*_, _/_, _≤_, _<_}
 use native.Mathlib.Omega.{arith}
 use lib.ListN.{length, take, drop, getD}
 use Rattle.cows.specs.Terms.{Basic, Prefix, Join, Term, leaf, under, both, size}
 use Rattle.cows.specs.Kinds.{basic, prefix, join, root, kindOf, childrenOf}
 use Rattle.cows.specs.Places.{sub}
-use Rattle.cows.specs.Format.{byte, word, nodes, record16, bytes, encode}
+use Rattle.cows.specs.Format.{byte, word, nodes, record16, encode}
 use Rattle.cows.proofs.Places.{size-pos}
 use Rattle.cows.proofs.Rows.{record-kind, arity, children-of}
 use Rattle.cows.proofs.Records.{length-record16}
@@ -19,15 +19,15 @@ use Rattle.records.proofs.Put.{has-left, has-right, has-take, has-fits,
 
 -- A term's bytes: its first record, then its children's.
 pub encode-leaf : (x : Basic) → encode (leaf x) ≡ record16 (basic x)
-unfolding encode nodes bytes
+unfolding encode nodes flatMap
 encode-leaf x = append-nil (record16 (basic x))
 
 pub encode-under : (u : Prefix) (t : Term) → encode (under u t) ≡ record16 (prefix u) ++ encode t
-unfolding encode nodes bytes
+unfolding encode nodes flatMap
 encode-under u t = refl
 
 pub encode-both : (j : Join) (s t : Term) → encode (both j s t) ≡ record16 (join j) ++ (encode s ++ encode t)
-unfolding encode nodes bytes
+unfolding encode nodes flatMap
 encode-both j s t = ap (λ l. record16 (join j) ++ l) (append-bytes (nodes s) (nodes t))
 
 pub long : (t : Term) → 16 ≤ length (encode t)

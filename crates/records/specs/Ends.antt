@@ -1,32 +1,26 @@
--- Where terms end: records in prefix order, each wanting as many terms behind it as it has children.
+-- Where the terms of a table end, by the kinds of its records.
 use mathlib.Core.Path.{_≡_}
-use Prim.Native.Nat.{ℕ, zero, suc, _+_, _/_, _<_, _≤_}
+use Prim.Native.Nat.{ℕ, suc, _+_, _/_, _<_, _≤_}
 use mathlib.Core.Bool.{Bool, true, false, cond}
-use mathlib.Core.List.{List, [], _∷_, map}
+use mathlib.Core.List.{List}
 use lib.ListN.{length, getD, drop}
 use lib.Dec.{eqb}
 use Rattle.cows.specs.Kinds.{childrenOf}
 use Rattle.cows.specs.Format.{byte, records}
+use Rattle.cows.specs.Tables.{endOf}
+use Rattle.records.specs.Answers.{placeOr}
 
 -- 1 where a test holds, else 0
 abbrev pub oneIf : Bool → ℕ
 oneIf true = 1
 oneIf false = 0
 
--- The place behind so many terms, read from place n on in records of which `wants` tells the children; `over` where the records run out.
--- Over any kinds of record.
-unfoldable pub after : {A : Type 0} → (A → ℕ) → ℕ → ℕ → ℕ → List A → ℕ
-after wants over zero n [] = n
-after wants over zero n (r ∷ rs) = n
-after wants over (suc w) n [] = over
-after wants over (suc w) n (r ∷ rs) = after wants over (wants r + w) (suc n) rs
-
--- the kinds of a table's records; the end of the term at place m, one past the number of records where they run out
-unfoldable pub kindsOf : List ℕ → List ℕ
-kindsOf s = map (λ b. byte b 0) (records s)
+-- the terms that a record wants behind it; the end of the term at place m, one past the number of records where they run out
+abbrev pub wants : List ℕ → ℕ
+wants b = childrenOf (byte b 0)
 
 unfoldable pub endAt : List ℕ → ℕ → ℕ
-endAt s m = after childrenOf (suc (length s / 16)) 1 m (drop m (kindsOf s))
+endAt s m = placeOr (suc (length s / 16)) (endOf wants 1 m (drop m (records s)))
 
 unfoldable pub pickEnd : ℕ → ℕ → ℕ → ℕ → ℕ
 pickEnd c x a b = cond (eqb c 0) x (cond (eqb c 1) a b)

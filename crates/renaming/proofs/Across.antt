@@ -1,6 +1,6 @@
 -- The records of a table one after the other (specs/Mapped: along, across), from bytes and from the records of a term.
 use mathlib.Core.Path.{_≡_, refl, sym, ap, _∙_}
-use mathlib.Core.List.{List, [], _∷_, _++_, append-assoc}
+use mathlib.Core.List.{List, [], _∷_, _++_, flatMap}
 use Prim.Native.Nat.{ℕ, suc, _+_, _-_, _*_, _≤_, _<_}
 use native.Mathlib.Omega.{arith}
 use native.Mathlib.Numerals.{add-one}
@@ -14,16 +14,6 @@ use Rattle.records.specs.Rewrites.{put, Has, Stands}
 use Rattle.records.proofs.Put.{put-put, has-left, has-right, has-take}
 use Rattle.records.proofs.Pieces.{piece}
 use Rattle.renaming.specs.Mapped.{along, across}
-
--- what h makes of each record of a list
-unfoldable pub over : (Node → List ℕ) → List Node → List ℕ
-over h [] = []
-over h (n ∷ ns) = h n ++ over h ns
-
-pub over-append : (h : Node → List ℕ) (ms ns : List Node) → over h (ms ++ ns) ≡ over h ms ++ over h ns
-unfolding over
-over-append h [] ns = refl
-over-append h (m ∷ ms) ns = rw (over-append h ms ns) (sym (append-assoc (h m) (over h ms) (over h ns)))
 
 -- one turn of a loop from place i to place `to`, and its end
 module _ (g : ℕ → List ℕ → List ℕ) (s : List ℕ) (i to : ℕ) where
@@ -74,14 +64,14 @@ module _ (g : ℕ → List ℕ → List ℕ) (s d₀ : List ℕ) (at from to : �
 
 -- the records that stand from place i on, and those of a term
 module _ (g : List ℕ → List ℕ) (h : Node → List ℕ) (same : (n : Node) → g (record16 n) ≡ h n) (s : List ℕ) where
-  across-nodes : (i : ℕ) (ns : List Node) → Has s (16 * i) (bytes ns) → across g s i (length ns) ≡ over h ns
-  unfolding along over bytes
+  across-nodes : (i : ℕ) (ns : List Node) → Has s (16 * i) (bytes ns) → across g s i (length ns) ≡ flatMap h ns
+  unfolding along flatMap
   across-nodes i [] k = refl
   across-nodes i (n ∷ ns) k =
       let l = length-record16 n in
       let e : take 16 (drop (16 * i) s) ≡ record16 n = rw l at (has-take (record16 n) (has-left (record16 n) (bytes ns) k)) in
       rw (e, same n) (ap (λ b. h n ++ b) (across-nodes (suc i) ns (has-right (record16 n) (bytes ns) (16 * suc i) (omega arith) k)))
 
-  pub across-term : (i : ℕ) (t : Term) → Stands s (16 * i) t → across g s i (size t) ≡ over h (nodes t)
+  pub across-term : (i : ℕ) (t : Term) → Stands s (16 * i) t → across g s i (size t) ≡ flatMap h (nodes t)
   unfolding encode
   across-term i t k = rw (← length-nodes t) (across-nodes i (nodes t) k)

@@ -1,10 +1,10 @@
--- New atoms for those that a body delimits: the search finds the smallest one that is not taken, and the names become those of the copy.
+-- New atoms: the search finds the smallest one that is not taken.
 use mathlib.Core.Path.{_≡_, refl, sym, ap, _∙_}
 use mathlib.Core.Logic.{_≢_}
 use mathlib.Core.Bool.{Bool, true, false, cond, _||_}
 use mathlib.Core.Option.{none}
 use mathlib.Core.List.{List, _∷_}
-use Prim.Native.Nat.{ℕ, zero, suc, _+_, _-_, _≤_, _<_}
+use Prim.Native.Nat.{ℕ, zero, suc, _+_, _≤_, _<_}
 use native.Mathlib.Omega.{arith}
 use lib.Dec.{eqb}
 use lib.ListN.{length, getD, set, length-set}
@@ -13,13 +13,12 @@ use Rattle.cows.specs.Basics.{any, member}
 use Rattle.cows.specs.Terms.{atom}
 use Rattle.cows.specs.Moves.{least, fresh}
 use Rattle.cows.specs.Allows.{SameSet, Smallest}
-use Rattle.cows.proofs.Basics.{clash, cond-case, lt-case, or-false, or-left, or-right, not-so}
+use Rattle.cows.proofs.Basics.{clash, cond-case, lt-case, or-false, or-left, or-right, not-so, eq-case}
 use Rattle.cows.proofs.Sets.{in-values, in-variables, in-labels, Set, alike-sets, value-range, variable-range, label-range, set-case}
 use Rattle.cows.proofs.Renaming.{fresh-smallest, smallest-least}
-use Rattle.cows.proofs.Records.{small-atom}
 use Rattle.records.specs.Atoms.{classOf}
-use Rattle.renaming.specs.Names.{setOf, leastOf, NextFree, Wanting, Wanted, Renamed}
-use Rattle.renaming.proofs.Occurring.{eq-case, after-store, not-zero}
+use Rattle.renaming.specs.Names.{setOf, leastOf, NextFree, Taking, Wanting, Wanted, New}
+use Rattle.renaming.proofs.Occurring.{after-store}
 
 -- The sets by their numbers: set k goes from leastOf k to endOf k (not included).
 endOf : ℕ → ℕ
@@ -82,7 +81,7 @@ module _ (names next taken : List ℕ) (d : ℕ) (w : Wanting names next taken d
   new-high : new < endOf (setOf d)
   new-high = place .range new (new-smallest .set) .1
 
-  new-small : (1 ≤ new) × (new < 65536)
+  pub new-small : (1 ≤ new) × (new < 65536)
   new-small = (omega (arith, place .first, new-low), omega (arith, place .last, new-high))
 
   pub new-apart : (a : ℕ) → member a taken ≡ true → a ≢ new
@@ -101,29 +100,26 @@ module _ (names next taken : List ℕ) (d : ℕ) (w : Wanting names next taken d
       let s = place .alike r (omega (arith, w .taking .from k (place .number), f .past)) (omega (arith, new-high)) in
       omega (arith, new-smallest .least r s (taken-nonzero r z))
 
-  -- d gets this name, and it is then taken
-  pub names-after : (a : ℕ) → getD (set (set names d new) new new) a 0 ≡ cond (eqb a new) new (cond (eqb a d) new (getD names a 0))
-  names-after a =
-      after-store (set names d new) new new a (rw (length-set names d new) (omega (arith, w .taking .room, new-small)))
-      ∙ ap (cond (eqb a new) new) (after-store names d new a (omega (arith, w .taking .room, small-atom d (w .right))))
+  -- it is then taken
+  names-after : (a : ℕ) → getD (set names new new) a 0 ≡ cond (eqb a new) new (getD names a 0)
+  names-after a = after-store names new new a (omega (arith, w .taking .room, new-small))
 
   next-after : (k : ℕ) → getD (set next (setOf d) (new + 1)) k 0 ≡ cond (eqb k (setOf d)) (new + 1) (getD next k 0)
   next-after k = after-store next (setOf d) (new + 1) k (omega (arith, w .taking .sets, place .number))
 
-  new-used : (a : ℕ) → member a (new ∷ taken) ≡ true → getD (set (set names d new) new new) a 0 ≢ 0
+  new-used : (a : ℕ) → member a (new ∷ taken) ≡ true → getD (set names new new) a 0 ≢ 0
   unfolding member any
-  new-used a m = rw (names-after a) (go (eqb a new) (eqb a d) m)
+  new-used a m = rw (names-after a) (go (eqb a new) m)
     where
-      go : (p q : Bool) → (p || any (eqb a) taken) ≡ true → cond p new (cond q new (getD names a 0)) ≢ 0
-      go true q h z = omega (arith, new-small)
-      go false true h z = omega (arith, new-small)
-      go false false h z = w .taking .used a (unfold member in h) z
+      go : (p : Bool) → (p || any (eqb a) taken) ≡ true → cond p new (getD names a 0) ≢ 0
+      go true h z = omega (arith, new-small)
+      go false h z = w .taking .used a (unfold member in h) z
 
-  new-free : (a : ℕ) → member a (new ∷ taken) ≡ false → getD (set (set names d new) new new) a 0 ≡ 0
+  new-free : (a : ℕ) → member a (new ∷ taken) ≡ false → getD (set names new new) a 0 ≡ 0
   unfolding member any
   new-free a m =
       let (p, q) = or-false (eqb a new) (any (eqb a) taken) m in
-      names-after a ∙ rw (p, ne-eqb a d (λ e. clash (w .known) (unfold member any in ap (λ b. any (eqb b) taken) (sym e) ∙ q))) (w .taking .free a (unfold member any in q))
+      names-after a ∙ rw p (w .taking .free a (unfold member any in q))
 
   new-passed : (k : ℕ) → k < 3 → (a : ℕ) → leastOf k ≤ a → a < getD (set next (setOf d) (new + 1)) k 0 → member a (new ∷ taken) ≡ true
   unfolding member any fresh
@@ -137,20 +133,16 @@ module _ (names next taken : List ℕ) (d : ℕ) (w : Wanting names next taken d
           or-right (eqb a new) (any (eqb a) taken) (unfold member any in smallest-least (suc (length taken)) (least d) taken a s (unfold fresh in omega arith)))
       go false e v = or-right (eqb a new) (any (eqb a) taken) (w .taking .passed k h a l v)
 
-  renamed : Renamed names next d (set (set names d new) new new) (set next (setOf d) (new + 1)) taken
-  renamed =
-      record {
-        is = refl;
-        taking = record {
-          room = length-set (set names d new) new new ∙ (length-set names d new ∙ w .taking .room);
-          sets = length-set next (setOf d) (new + 1) ∙ w .taking .sets;
-          none = names-after 0 ∙ rw (ne-eqb 0 new (λ e. omega (arith, new-small)), ne-eqb 0 d (λ e. not-zero d (w .right) (sym e))) (w .taking .none);
-          used = new-used;
-          free = new-free;
-          from = λ k h. rw (next-after k) (cond-case (λ n. leastOf k ≤ n) (eqb k (setOf d)) (λ e. rw (eqb-true k (setOf d) e) (omega (arith, new-low))) (λ e. w .taking .from k h));
-          passed = new-passed;
-        };
-      }
+  new-taking : Taking (set names new new) (set next (setOf d) (new + 1)) (new ∷ taken)
+  new-taking = record {
+    room = length-set names new new ∙ w .taking .room;
+    sets = length-set next (setOf d) (new + 1) ∙ w .taking .sets;
+    none = names-after 0 ∙ rw (ne-eqb 0 new (λ e. omega (arith, new-small))) (w .taking .none);
+    used = new-used;
+    free = new-free;
+    from = λ k h. rw (next-after k) (cond-case (λ n. leastOf k ≤ n) (eqb k (setOf d)) (λ e. rw (eqb-true k (setOf d) e) (omega (arith, new-low))) (λ e. w .taking .from k h));
+    passed = new-passed;
+  }
 
 -- the same of what code found: the number k of the set, and the free place r
 module _ (names next : List ℕ) (d k r : ℕ) (e : k ≡ setOf d) (f : NextFree names (getD next k 0) r) where
@@ -160,5 +152,20 @@ module _ (names next : List ℕ) (d k r : ℕ) (e : k ≡ setOf d) (f : NextFree
   pub found-small : Wanted names next d → r < 65536
   found-small w = omega (arith, new-small names next (w .taken) d (w .wanting), found-new (w .taken) (w .wanting))
 
-  pub found-renamed : (taken : List ℕ) → Wanting names next taken d → {d′ : ℕ} → d′ ≡ d → Renamed names next d (set (set names d′ r) r r) (set next k (r + 1)) taken
-  found-renamed taken w q = rw (q, e, found-new taken w) (renamed names next taken d w)
+  pub found-taken : (taken : List ℕ) → Wanting names next taken d → New names next d (set names r r) (set next k (r + 1)) r taken
+  found-taken taken w = record { is = found-new taken w; entered = refl; taking = rw (e, found-new taken w) (new-taking names next taken d w) }
+
+-- a taken atom may get any name
+pub taking-store : (names next taken : List ℕ) (d v : ℕ) → Taking names next taken → d < 65536 → member d taken ≡ true → v ≢ 0 → Taking (set names d v) next taken
+taking-store names next taken d v t l m z = record {
+  room = length-set names d v ∙ t .room;
+  sets = t .sets;
+  none = at 0 ∙ rw (ne-eqb 0 d (λ e. t .used d m (ap (λ b. getD names b 0) (sym e) ∙ t .none))) (t .none);
+  used = λ a n. rw (at a) (cond-case (λ x. x ≢ 0) (eqb a d) (λ e. z) (λ e. t .used a n));
+  free = λ a n. at a ∙ rw (ne-eqb a d (λ e. clash m (ap (λ b. member b taken) (sym e) ∙ n))) (t .free a n);
+  from = t .from;
+  passed = t .passed;
+}
+  where
+    at : (a : ℕ) → getD (set names d v) a 0 ≡ cond (eqb a d) v (getD names a 0)
+    at a = after-store names d v a (omega (arith, t .room))

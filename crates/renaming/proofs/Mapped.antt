@@ -1,7 +1,7 @@
 -- Laws of records whose atoms change (specs/Mapped), for renamings and substitutions alike: mapping every atom of a term is mapping every field of its records.
 use mathlib.Core.Path.{_≡_, refl, sym, ap, ap₂, _∙_}
 use mathlib.Core.Bool.{true}
-use mathlib.Core.List.{List, [], _∷_, _++_, map}
+use mathlib.Core.List.{List, [], _∷_, _++_, map, flatMap}
 use Prim.Native.Nat.{ℕ, _+_, _*_, _<_}
 use native.Mathlib.Omega.{arith}
 use lib.Dec.{eqb}
@@ -19,7 +19,7 @@ use Rattle.records.specs.Rewrites.{put, Stands}
 use Rattle.records.proofs.Put.{and-then}
 use Rattle.records.proofs.Pieces.{word-piece}
 use Rattle.renaming.specs.Mapped.{mapNode, tupleBytes, withAtoms, mapRecord, mapped, named}
-use Rattle.renaming.proofs.Across.{over, across-term}
+use Rattle.renaming.proofs.Across.{across-term}
 
 -- the records of a mapped term
 map-append : (f : Node → Node) (xs ys : List Node) → map f (xs ++ ys) ≡ map f xs ++ map f ys
@@ -100,11 +100,11 @@ module _ (f : ℕ → ℕ) (zero : f 0 ≡ 0) where
   record-mapped (join parallel) = none-mapped 6 0
 
   pub mapped-term : (s : List ℕ) (i : ℕ) (t : Term) → Stands s (16 * i) t → mapped f s i (size t) ≡ encode (mapAtoms f t)
-  unfolding encode over bytes
+  unfolding encode flatMap
   mapped-term s i t h =
       across-term (mapRecord f) (λ n. record16 (mapNode f n)) (λ n. sym (record-mapped n)) s i t h ∙ (bytes-over (nodes t) ∙ ap bytes (sym (nodes-mapped f t)))
     where
-      bytes-over : (ns : List Node) → over (λ n. record16 (mapNode f n)) ns ≡ bytes (map (mapNode f) ns)
+      bytes-over : (ns : List Node) → flatMap (λ n. record16 (mapNode f n)) ns ≡ bytes (map (mapNode f) ns)
       bytes-over [] = refl
       bytes-over (n ∷ ns) = ap (λ b. record16 (mapNode f n) ++ b) (bytes-over ns)
 

@@ -2,32 +2,29 @@
 use mathlib.Core.Path.{_≡_, refl, sym, ap, ap₂, _∙_}
 use mathlib.Core.Logic.{_≢_}
 use mathlib.Core.Bool.{Bool, true, false, cond, _||_}
-use mathlib.Core.List.{List, [], _∷_, _++_, append-nil}
+use mathlib.Core.List.{List, [], _∷_, _++_, append-nil, flatMap}
 use Prim.Native.Nat.{ℕ, _+_, _-_, _*_, _/_, _≤_, _<_}
 use native.Mathlib.Omega.{arith}
 use lib.Dec.{eqb}
 use lib.ListN.{length, getD, set, length-set}
 use lib.Seq.{getD-set-same, getD-set-other}
-use borrow.Author.Tests.{eqb-true, eqb-false, eq-eqb, ne-eqb}
+use borrow.Author.Tests.{eqb-true, eq-eqb, ne-eqb}
 use Rattle.cows.specs.Basics.{any, every, member}
 use Rattle.cows.specs.Terms.{Basic, nil, kill, invoke, Prefix, receive, wait, protection, delimitation, replication, Join, choice, parallel, Term, leaf, under, both, value, variable, label, datum, atom, size, delimits, usesBasic, usesPrefix, optional, atoms}
 use Rattle.cows.specs.Kinds.{basic, prefix, join}
 use Rattle.cows.specs.Format.{word, nodes, layout, record16, slots, encode}
 use Rattle.cows.specs.Within.{RightBasic, RightPrefix, Right}
-use Rattle.cows.proofs.Basics.{never, bool-case, and-true, true-and, or-left, or-right, or-case, member-append, every-append}
+use Rattle.cows.proofs.Basics.{never, and-true, true-and, or-left, or-right, or-case, member-append, every-append, eq-case}
 use Rattle.cows.proofs.Records.{small-atom}
 use Rattle.cows.proofs.Format.{length-encode}
 use Rattle.cows.proofs.Fields.{layout-first, layout-second, layout-slot}
+use Rattle.cows.proofs.Cut.{flatMap-append}
 use Rattle.records.specs.Holds.{Holds}
 use Rattle.records.specs.Rewrites.{Stands}
 use Rattle.records.proofs.Pieces.{piece, word-piece}
 use Rattle.renaming.specs.Mapped.{across}
-use Rattle.renaming.specs.Names.{fields, entered}
-use Rattle.renaming.proofs.Across.{over, over-append, across-next, across-end, across-term}
-
--- two numbers are the same, or not
-pub eq-case : (P : Type 0) (a b : ℕ) → (a ≡ b → P) → (a ≢ b → P) → P
-eq-case P a b f g = bool-case P (eqb a b) (λ e. f (eqb-true a b e)) (λ e. g (eqb-false a b e))
+use Rattle.renaming.specs.Names.{fields, entered, Marks}
+use Rattle.renaming.proofs.Across.{across-next, across-end, across-term}
 
 -- an entry after a store
 pub after-store : (l : List ℕ) (i v a : ℕ) → i < length l → getD (set l i v) a 0 ≡ cond (eqb a i) v (getD l a 0)
@@ -41,6 +38,11 @@ pub entered-append : (l xs ys : List ℕ) → entered l (xs ++ ys) ≡ entered (
 unfolding entered
 entered-append l [] ys = refl
 entered-append l (x ∷ xs) ys = entered-append (set l x x) xs ys
+
+length-entered : (l ws : List ℕ) → length (entered l ws) ≡ length l
+unfolding entered
+length-entered l [] = refl
+length-entered l (w ∷ ws) = length-entered (set l w w) ws ∙ length-set l w w
 
 entered-at : (l ws : List ℕ) → ((w : ℕ) → member w ws ≡ true → w < length l) → (a : ℕ) → getD (entered l ws) a 0 ≡ cond (member a ws) a (getD l a 0)
 unfolding entered member any
@@ -116,15 +118,15 @@ module _ (a : ℕ) (z : eqb a 0 ≡ false) where
   member-join parallel = member-none 6 0
 
   -- and of a term's records
-  member-fields : (t : Term) → Right t → member a (over (λ n. fields (record16 n)) (nodes t)) ≡ member a (atoms t)
-  unfolding over nodes atoms
+  member-fields : (t : Term) → Right t → member a (flatMap (λ n. fields (record16 n)) (nodes t)) ≡ member a (atoms t)
+  unfolding flatMap nodes atoms
   member-fields (leaf x) h = rw (append-nil (fields (record16 (basic x)))) (member-basic x h)
   member-fields (under u t) h =
-      member-append a (fields (record16 (prefix u))) (over (λ n. fields (record16 n)) (nodes t))
+      member-append a (fields (record16 (prefix u))) (flatMap (λ n. fields (record16 n)) (nodes t))
       ∙ (ap₂ _||_ (member-prefix u (h .0)) (member-fields t (h .1)) ∙ sym (member-append a (usesPrefix u ++ optional (delimits u)) (atoms t)))
   member-fields (both j s t) h =
-      member-append a (fields (record16 (join j))) (over (λ n. fields (record16 n)) (nodes s ++ nodes t))
-      ∙ rw (member-join j, over-append (λ n. fields (record16 n)) (nodes s) (nodes t), member-append a (over (λ n. fields (record16 n)) (nodes s)) (over (λ n. fields (record16 n)) (nodes t)), member-fields s (h .0), member-fields t (h .1))
+      member-append a (fields (record16 (join j))) (flatMap (λ n. fields (record16 n)) (nodes s ++ nodes t))
+      ∙ rw (member-join j, flatMap-append (λ n. fields (record16 n)) (nodes s) (nodes t), member-append a (flatMap (λ n. fields (record16 n)) (nodes s)) (flatMap (λ n. fields (record16 n)) (nodes t)), member-fields s (h .0), member-fields t (h .1))
       (sym (member-append a (atoms s) (atoms t)))
 
 -- The atoms of a right term are atoms.
@@ -176,15 +178,27 @@ pub not-zero : (a : ℕ) → atom a ≡ true → a ≢ 0
 unfolding atom datum value variable label
 not-zero a h e = never (rw e at h)
 
+-- Marks of a list and of another: those of both. (0 is marked by itself, or not at all.)
+pub marks-entered : (l taken ws all : List ℕ) → Marks l taken → ((w : ℕ) → member w all ≡ true → w < 65536) → ((a : ℕ) → a ≢ 0 → member a all ≡ member a ws) → Marks (entered l all) (ws ++ taken)
+marks-entered l taken ws all m small same = record {
+  room = length-entered l all ∙ m .room;
+  entry = λ a. entered-at l all (λ w k. omega (arith, small w k, m .room)) a ∙ eq-case _ a 0 (zero a) (λ z. rw (same a z, m .entry a, member-append a ws taken) (both (member a ws) (member a taken) a));
+}
+  where
+    both : (p q : Bool) (a : ℕ) → cond p a (cond q a 0) ≡ cond (p || q) a 0
+    both true q a = refl
+    both false q a = refl
+
+    zero : (a : ℕ) → a ≡ 0 → cond (member a all) a (getD l a 0) ≡ cond (member a (ws ++ taken)) a 0
+    zero a e = rw (m .entry a, e) (rw (same-cond (member 0 taken), same-cond (member 0 all), same-cond (member 0 (ws ++ taken))))
+
 -- What the whole table marks: its term's atoms.
-pub marked-term : (s : List ℕ) (t : Term) → Holds s t → (l : List ℕ) → length l ≡ 65536 → getD l 0 0 ≡ 0
-    → (a : ℕ) → getD (entered l (across fields s 0 (length s / 16))) a 0 ≡ cond (member a (atoms t)) a (getD l a 0)
-marked-term s t h l room none a =
-    rw (n, across-term fields (λ r. fields (record16 r)) (λ r. refl) s 0 t stands)
-    (entered-at l all small a ∙ eq-case (cond (member a all) a (getD l a 0) ≡ cond (member a (atoms t)) a (getD l a 0)) a 0 zero (λ z. rw (same a z)))
+pub marked-term : (s : List ℕ) (t : Term) → Holds s t → (l taken : List ℕ) → Marks l taken → Marks (entered l (across fields s 0 (length s / 16))) (atoms t ++ taken)
+marked-term s t h l taken m =
+    rw (n, across-term fields (λ r. fields (record16 r)) (λ r. refl) s 0 t stands) (marks-entered l taken (atoms t) all m small same)
   where
     all : List ℕ
-    all = over (λ r. fields (record16 r)) (nodes t)
+    all = flatMap (λ r. fields (record16 r)) (nodes t)
 
     n : length s / 16 ≡ size t
     n = omega (arith, ap length (h .is) ∙ length-encode t)
@@ -195,8 +209,5 @@ marked-term s t h l room none a =
     same : (b : ℕ) → b ≢ 0 → member b all ≡ member b (atoms t)
     same b z = member-fields b (ne-eqb b 0 z) t (h .right)
 
-    small : (w : ℕ) → member w all ≡ true → w < length l
-    small w m = eq-case (w < length l) w 0 (λ e. omega arith) (λ z. omega (arith, small-atom w (atoms-right t (h .right) w (sym (same w z) ∙ m))))
-
-    zero : a ≡ 0 → cond (member a all) a (getD l a 0) ≡ cond (member a (atoms t)) a (getD l a 0)
-    zero e = rw (e, none) (same-cond (member 0 all) ∙ sym (same-cond (member 0 (atoms t))))
+    small : (w : ℕ) → member w all ≡ true → w < 65536
+    small w k = eq-case (w < 65536) w 0 (λ e. omega arith) (λ z. small-atom w (atoms-right t (h .right) w (sym (same w z) ∙ k)))

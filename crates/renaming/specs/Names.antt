@@ -1,4 +1,4 @@
--- The names of atoms while a body is copied: an array that has a number for each atom, 0 where the atom does not occur.
+-- The names of atoms while a body is copied: an array that has a number for each atom, 0 where the atom is not taken.
 use mathlib.Core.Path.{_≡_}
 use mathlib.Core.Logic.{_≢_}
 use mathlib.Core.Bool.{true, false, cond}
@@ -9,12 +9,13 @@ use Rattle.cows.specs.Basics.{member}
 use Rattle.cows.specs.Terms.{Term, atom, size, atoms, binders}
 use Rattle.cows.specs.Places.{sub}
 use Rattle.cows.specs.Format.{word, slots}
-use Rattle.cows.specs.Within.{counts}
+use Rattle.cows.specs.Within.{counts, Right}
 use Rattle.cows.specs.Moves.{image, fresh, renaming}
 use Rattle.records.specs.declared.Atom.{Atom}
 use Rattle.records.specs.declared.Atom.the-variants.{None, Value, Variable, Label}
 use Rattle.records.specs.Atoms.{classOf}
 use Rattle.records.specs.Holds.{Holds}
+use Rattle.records.specs.Rewrites.{Stands}
 
 -- the six fields for atoms of a record's 16 bytes
 unfoldable pub fields : List ℕ → List ℕ
@@ -40,11 +41,16 @@ leastOf zero = 1
 leastOf (suc zero) = 32768
 leastOf (suc (suc k)) = 49152
 
--- r is the first place from `from` on where no atom occurs, or behind all names.
+-- r is the first place from `from` on that has no name, or behind all names.
 pub record NextFree (names : List ℕ) (from r : ℕ) : Type 0 where
   pub past : from ≤ r
   pub used : (a : ℕ) → from ≤ a → a < r → getD names a 0 ≢ 0
   pub free : r < length names → getD names r 0 ≡ 0
+
+-- The names are the atoms `taken`: each is entered under itself, and no other is.
+pub record Marks (names taken : List ℕ) : Type 0 where
+  pub room : length names ≡ 65536
+  pub entry : (a : ℕ) → getD names a 0 ≡ cond (member a taken) a 0
 
 -- The names while the atoms `taken` occur, and for each set an atom of it below which all are taken.
 pub record Taking (names next taken : List ℕ) : Type 0 where
@@ -56,44 +62,52 @@ pub record Taking (names next taken : List ℕ) : Type 0 where
   pub from : (k : ℕ) → k < 3 → leastOf k ≤ getD next k 0
   pub passed : (k : ℕ) → k < 3 → (a : ℕ) → leastOf k ≤ a → a < getD next k 0 → member a taken ≡ true
 
--- An atom d that occurs is to be renamed, and there are few enough for a new one.
+-- A new atom of d's set is wanted, and few enough are taken that there is one.
 pub record Wanting (names next taken : List ℕ) (d : ℕ) : Type 0 where
   pub taking : Taking names next taken
   pub few : length taken < 16383
   pub right : atom d ≡ true
-  pub known : member d taken ≡ true
 
 pub record Wanted (names next : List ℕ) (d : ℕ) : Type 0 where
   pub taken : List ℕ
   pub wanting : Wanting names next taken d
 
--- d is renamed to the smallest atom of its set that is not taken, and this is then taken.
-pub record Renamed (names next : List ℕ) (d : ℕ) (names′ next′ taken : List ℕ) : Type 0 where
-  pub is : names′ ≡ set (set names d (fresh taken d)) (fresh taken d) (fresh taken d)
-  pub taking : Taking names′ next′ (fresh taken d ∷ taken)
+-- It is r, the smallest atom of the set that is not taken, and this is then taken.
+pub record New (names next : List ℕ) (d : ℕ) (names′ next′ : List ℕ) (r : ℕ) (taken : List ℕ) : Type 0 where
+  pub is : r ≡ fresh taken d
+  pub entered : names′ ≡ set names r r
+  pub taking : Taking names′ next′ (r ∷ taken)
 
--- The table s of t, within the limits, has a part at places `from` to `to` (not included).
-pub record Part (s : List ℕ) (from to : ℕ) (t : Term) : Type 0 where
-  pub holds : Holds s t
-  pub unique : (a : ℕ) → counts a t ≤ 1
-  pub small : size t ≤ 2048
-  pub inside : from < size t
-  pub end : to ≡ from + size (sub t from)
+-- A body stands at places `from` to `to` (not included) of s. It delimits no atom twice, its atoms are among those that the names mark, and few enough are marked.
+pub record Marking (s : List ℕ) (from to : ℕ) (names : List ℕ) (body : Term) (taken : List ℕ) : Type 0 where
+  pub stands : Stands s (16 * from) body
+  pub right : Right body
+  pub unique : (a : ℕ) → counts a body ≤ 1
+  pub end : to ≡ from + size body
+  pub marks : Marks names taken
+  pub known : (a : ℕ) → member a taken ≡ true → atom a ≡ true
+  pub among : (a : ℕ) → member a (atoms body) ≡ true → member a taken ≡ true
+  pub few : length taken + size body < 16383
 
--- Such a part is to be copied. (`ordered` and `fits` follow; they are here for `omega`.)
-pub record Body (s : List ℕ) (from to : ℕ) : Type 0 where
-  pub term : Term
-  pub part : Part s from to term
-  pub ordered : from ≤ to
+-- (`fits` follows; it is here for `omega`.)
+pub record Marked (s : List ℕ) (from to : ℕ) (names : List ℕ) : Type 0 where
+  pub body : Term
+  pub taken : List ℕ
+  pub marking : Marking s from to names body taken
   pub fits : 16 * to ≤ length s
 
--- The names are the atoms of its table themselves.
-pub record Marked (s : List ℕ) (from to : ℕ) (names : List ℕ) : Type 0 where
-  pub body : Body s from to
-  pub room : length names ≡ 65536
-  pub marked : (a : ℕ) → getD names a 0 ≡ cond (member a (atoms (body .term))) a 0
-
--- The names are those of the atoms in a copy of it.
-pub record Chosen (t : Term) (from : ℕ) (names : List ℕ) : Type 0 where
+-- The names are those of the atoms in a copy of the body.
+pub record Chosen (taken : List ℕ) (body : Term) (names : List ℕ) : Type 0 where
   pub none : getD names 0 0 ≡ 0
-  pub new : (a : ℕ) → member a (atoms t) ≡ true → getD names a 0 ≡ image (renaming (atoms t) (binders (sub t from))) a
+  pub new : (a : ℕ) → member a taken ≡ true → getD names a 0 ≡ image (renaming taken (binders body)) a
+
+-- The table s, within the limits, has a part at places `from` to `to` (not included), which is to be copied. (`ordered` and `fits` follow; they are here for `omega`.)
+pub record Body (s : List ℕ) (from to : ℕ) : Type 0 where
+  pub term : Term
+  pub holds : Holds s term
+  pub unique : (a : ℕ) → counts a term ≤ 1
+  pub small : size term ≤ 2048
+  pub inside : from < size term
+  pub end : to ≡ from + size (sub term from)
+  pub ordered : from ≤ to
+  pub fits : 16 * to ≤ length s

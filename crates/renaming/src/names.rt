@@ -1,17 +1,15 @@
-// The names of atoms in a copy: every atom that occurs is entered under itself, then each that the body delimits gets a new one.
+// The names of atoms in a copy: every atom that is taken is entered under itself, then each that the body delimits gets a new one.
 use records::Atom;
 use records::classify;
 use records::wide16;
 use records::word_at;
 ghost use mathlib.Core.Path.{_≡_};
-ghost use mathlib.Core.Bool.{cond};
-ghost use mathlib.Core.List.{List};
+ghost use mathlib.Core.List.{List, _++_};
 ghost use Prim.Native.Nat.{ℕ, _+_, _*_, _<_};
-ghost use lib.ListN.{length, getD, take, drop};
-ghost use Rattle.cows.specs.Basics.{member};
+ghost use lib.ListN.{length, take, drop};
 ghost use Rattle.cows.specs.Terms.{Term, atoms};
 ghost use Rattle.records.specs.Holds.{Holds};
-ghost use Rattle.renaming.specs.Names.{fields, entered, setOf, NextFree, Wanting, Wanted, Renamed, Marked, Chosen};
+ghost use Rattle.renaming.specs.Names.{fields, entered, setOf, NextFree, Marks, Wanting, Wanted, New, Marking, Marked, Chosen};
 
 // Enters the six fields of the record at place i under themselves. Those not in use are 0, which is no atom.
 fn mark_record(s: &[u8], i: usize, names: &mut [u16])
@@ -33,10 +31,10 @@ fn mark_record(s: &[u8], i: usize, names: &mut [u16])
     names[wide16(z)] = z;
 }
 
-// Enters every atom that occurs in the table under itself.
+// Enters every atom that occurs in the table under itself: it is then taken, with those that were before.
 pub fn mark(s: &[u8], names: &mut [u16])
     requires { ⌜ length (now names) ≡ 65536 ⌝ }
-    ensures { λ _. ⌜ ((t : Term) → Holds (now (s .entry)) t → getD (now (names .entry)) 0 0 ≡ 0 → (a : ℕ) → getD (now (names .exit)) a 0 ≡ cond (member a (atoms t)) a (getD (now (names .entry)) a 0)) ⌝ }
+    ensures { λ _. ⌜ ((t : Term) (taken : List ℕ) → Holds (now (s .entry)) t → Marks (now (names .entry)) taken → Marks (now (names .exit)) (atoms t ++ taken)) ⌝ }
 {
     let n = s.len() / 16;
     let mut i = 0;
@@ -58,7 +56,7 @@ fn set_of(a: u16) -> usize
     }
 }
 
-// The first place from `from` on where no atom occurs.
+// The first place from `from` on that has no name.
 fn next_free(names: &[u16], from: usize) -> usize
     ensures { λ r. ⌜ NextFree (now (names .entry)) from r ⌝ }
 {
@@ -72,23 +70,23 @@ fn next_free(names: &[u16], from: usize) -> usize
     i
 }
 
-// Renames d to the smallest atom of its set that does not occur; next[k] is where the search in set k goes on.
-fn rename(d: u16, names: &mut [u16], next: &mut [usize])
+// A new atom: the smallest of d's set that is not taken, which it then is; next[k] is where the search in set k goes on.
+pub fn new_atom(d: u16, names: &mut [u16], next: &mut [usize]) -> u16
     requires { ⌜ Wanted (now names) (now next) d ⌝ }
-    ensures { λ _. ⌜ ((taken : List ℕ) → Wanting (now (names .entry)) (now (next .entry)) taken d → Renamed (now (names .entry)) (now (next .entry)) d (now (names .exit)) (now (next .exit)) taken) ⌝ }
+    ensures { λ r. ⌜ ((taken : List ℕ) → Wanting (now (names .entry)) (now (next .entry)) taken d → New (now (names .entry)) (now (next .entry)) d (now (names .exit)) (now (next .exit)) r taken) ⌝ }
 {
     let k = set_of(d);
     let free = next_free(names, next[k]);
     let new = free as u16;
-    names[wide16(d)] = new;
     names[free] = new;
     next[k] = free + 1;
+    new
 }
 
 // Renames every atom that the records at places `from` to `to` (not included) delimit, in record order.
 pub fn choose(s: &[u8], from: usize, to: usize, names: &mut [u16])
     requires { ⌜ Marked (now s) from to (now names) ⌝ }
-    ensures { λ _. ⌜ ((t : Term) → Holds (now (s .entry)) t → Chosen t from (now (names .exit))) ⌝ }
+    ensures { λ _. ⌜ ((body : Term) (taken : List ℕ) → Marking (now (s .entry)) from to (now (names .entry)) body taken → Chosen taken body (now (names .exit))) ⌝ }
 {
     let mut next: [usize; 3] = [1, 32768, 49152];
     let mut i = from;
@@ -97,7 +95,9 @@ pub fn choose(s: &[u8], from: usize, to: usize, names: &mut [u16])
             i += 1;
             continue;
         }
-        rename(word_at(s, 16 * i + 2), names, &mut next);
+        let d = word_at(s, 16 * i + 2);
+        let new = new_atom(d, names, &mut next);
+        names[wide16(d)] = new;
         i += 1;
     }
 }

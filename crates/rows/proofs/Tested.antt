@@ -1,17 +1,12 @@
--- The record check on the bytes of a table, and the search for the first wrong record.
+-- The record check on the bytes of a table.
 use mathlib.Core.Path.{_≡_, sym, _∙_}
-use mathlib.Core.Bool.{Bool, true, false, not}
-use mathlib.Core.Option.{some, none}
 use mathlib.Core.List.{List, [], _∷_}
-use Prim.Native.Nat.{ℕ, _+_, _*_, _/_, _≤_, _<_}
+use Prim.Native.Nat.{ℕ, _+_, _<_}
 use native.Mathlib.Omega.{arith}
-use native.Mathlib.Numerals.{add-one}
-use lib.ListN.{length, getD, drop, List·getD-eq-default, length-take}
-use Rattle.cows.specs.Basics.{placeIf, orElse}
-use Rattle.cows.specs.Format.{byte, word, slots, rightContents, rightRecord, records}
-use Rattle.cows.specs.Tables.{firstWrong}
+use lib.ListN.{getD, drop, List·getD-eq-default, length-take}
+use Rattle.cows.specs.Format.{byte, word, slots, rightContents, rightRecord}
 use Rattle.cows.proofs.Basics.{lt-case}
-use Rattle.records.proofs.Pieces.{piece, byte-piece, word-piece, first-piece, records-cons, records-end}
+use Rattle.records.proofs.Pieces.{piece, byte-piece, word-piece, first-piece}
 use Rattle.rows.specs.Rows.{quad, tupleContents, plainRight}
 use Rattle.rows.proofs.Checks.{tupleTest, tuple-code, plain-code}
 
@@ -45,17 +40,3 @@ module _ (s : List ℕ) (k : ℕ) where
       let z : k + 0 ≡ k = omega arith in
       rw (first-piece s k, quad-piece 0 (omega arith), quad-piece 8 (omega arith), z) at
       (plain-code (piece s k) (small-piece h) (λ e. m (sym (first-piece s k) ∙ e)) (λ e. n (sym (first-piece s k) ∙ e)))
-
--- the search for the first wrong record, at place i
-module _ (s : List ℕ) (i : ℕ) (b : Bool) (l : i < length s / 16) (e : b ≡ rightRecord (piece s (16 * i))) where
-  pub wrong-here : not b ≡ true → firstWrong i (drop i (records s)) ≡ some i
-  unfolding firstWrong placeIf orElse
-  wrong-here h = rw (records-cons s i l, ← e, h)
-
-  pub right-here : not b ≡ false → firstWrong i (drop i (records s)) ≡ firstWrong (i + 1) (drop (i + 1) (records s))
-  unfolding firstWrong placeIf orElse
-  right-here h = rw (records-cons s i l, ← e, h, add-one i)
-
-pub none-wrong : (s : List ℕ) (i : ℕ) → length s / 16 ≤ i → firstWrong i (drop i (records s)) ≡ none
-unfolding firstWrong
-none-wrong s i h = rw (records-end s i h)

@@ -5,16 +5,13 @@ use mathlib.Core.Bool.{Bool, true, false}
 use mathlib.Core.List.{List, [], _∷_}
 use Prim.Native.Nat.{ℕ, zero, suc, _+_, _/_, _%_, _≤_, _<_}
 use native.Mathlib.Omega.{arith}
-use lib.Dec.{ltb, eqb}
+use lib.Dec.{ltb}
 use lib.ListN.{length, getD, set, replicate, length-set, length-replicate}
 use lib.Seq.{getD-set-same, getD-set-other}
-use borrow.Author.Tests.{lt-ltb, eqb-true, eqb-false}
+use borrow.Author.Tests.{lt-ltb}
 use Rattle.cows.specs.Within.{one}
-use Rattle.cows.proofs.Basics.{bool-case}
+use Rattle.cows.proofs.Basics.{eq-case, getD-zeros}
 use Rattle.scopes.specs.Scopes.{slotOf, Paged, Keeps, given, Growing, Blank, Given}
-
-pub eq-case : (P : Type 0) (a b : ℕ) → (a ≡ b → P) → (a ≢ b → P) → P
-eq-case P a b f g = bool-case P (eqb a b) (λ e. f (eqb-true a b e)) (λ e. g (eqb-false a b e))
 
 -- the same numbers under another name
 pub keeps-as : (pages marks : List ℕ) (f g : ℕ → ℕ) → ((a : ℕ) → f a ≡ g a) → Keeps pages marks f → Keeps pages marks g
@@ -154,10 +151,5 @@ module _ (pages marks : List ℕ) (b : Blank pages marks) where
   pub blank-keeps : Keeps pages marks (λ a. 0)
   blank-keeps = record { kept = λ a i. b .fresh (slotOf pages a); empty = λ a i h. refl }
 
-pub blank-replicate : (n i : ℕ) → _≡_ {A = ℕ} (getD (replicate n 0) i 0) 0
-blank-replicate zero i = refl
-blank-replicate (suc n) zero = refl
-blank-replicate (suc n) (suc i) = blank-replicate n i
-
 pub blank-new : (n : ℕ) → 256 ≤ n → Blank (replicate 256 0) (replicate n 0)
-blank-new n l = record { wide = length-replicate {A = ℕ} 256 0; room = rw (length-replicate {A = ℕ} n 0) l; none = blank-replicate 256; fresh = blank-replicate n }
+blank-new n l = record { wide = length-replicate {A = ℕ} 256 0; room = rw (length-replicate {A = ℕ} n 0) l; none = getD-zeros 256; fresh = getD-zeros n }

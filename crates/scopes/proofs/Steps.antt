@@ -11,12 +11,12 @@ use Rattle.cows.specs.Terms.{delimitation, Term, under, size, below}
 use Rattle.cows.specs.Places.{spot, sub}
 use Rattle.cows.specs.Format.{word}
 use Rattle.cows.specs.Tables.{again}
-use Rattle.cows.proofs.Basics.{lt-case}
+use Rattle.cows.proofs.Basics.{lt-case, eq-case}
 use Rattle.records.specs.Ends.{endAt, EndsFrom}
 use Rattle.records.specs.Holds.{Holds}
 use Rattle.records.proofs.Shapes.{end-within, end-term}
 use Rattle.scopes.specs.Scopes.{slotOf, Paged, Keeps, enteredOf, markOf, Passed, EndsOf}
-use Rattle.scopes.proofs.Directory.{eq-case, keeps-as, store-keeps}
+use Rattle.scopes.proofs.Directory.{keeps-as, store-keeps}
 use Rattle.scopes.proofs.Marks.{entered-pass, mark-pass, entered-here, entered-other, mark-other, mark-there, mark-farther, mark-nearer, mark-again}
 use Rattle.records.proofs.Stands.{holds-size}
 use Rattle.scopes.proofs.Uses.{atom-small, kind-here, delimitation-here, place-inside}

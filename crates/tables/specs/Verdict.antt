@@ -49,7 +49,7 @@ judgeScopes t = do
 -- shape and all that comes behind it, of records that are right
 unfoldable pub judgeShape : List ℕ → Result Term
 judgeShape b = do
-  forbid 3 (misshapen 1 0 (map node (records b)))
+  forbid 3 (misshapen (map node (records b)))
   judgeTerm (decode (map node (records b)))
 
 -- the bytes are whole records, not too many, and each is right: refusals 1 and 2 do not apply, but for an empty table

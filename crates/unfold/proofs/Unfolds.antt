@@ -11,13 +11,13 @@ use lib.ListN.{length, getD, take, drop, length-drop}
 use lib.Seq.{take-all, drop-at, drop-drop, length-take-le}
 use borrow.Author.Tests.{ltb-true, ltb-false, lt-ltb}
 use Rattle.cows.specs.Basics.{refuse, accept, _>>=_}
-use Rattle.cows.specs.Terms.{replication, parallel, Term, leaf, under, both, size, depth, prefixed, replicates, below}
+use Rattle.cows.specs.Terms.{replication, parallel, Term, under, both, size, depth, prefixed, replicates, below}
 use Rattle.cows.specs.Kinds.{join, root, kindOf}
 use Rattle.cows.specs.Places.{wayTo, sub}
 use Rattle.cows.specs.Format.{byte, layout, record16, encode}
 use Rattle.cows.specs.Active.{live, wanted}
 use Rattle.cows.specs.Within.{Within}
-use Rattle.cows.specs.Moves.{mapAtoms, copy, afterUnfold, unfoldAt}
+use Rattle.cows.specs.Moves.{copy, afterUnfold, unfoldAt, freshCopy}
 use Rattle.cows.specs.Step.{overLimits}
 use Rattle.cows.proofs.Basics.{or-false, or-both, bind-accept, same-accept}
 use Rattle.cows.proofs.Places.{size-pos, fill-spot, spot-fits, spot-under}
@@ -26,6 +26,8 @@ use Rattle.cows.proofs.Format.{length-encode}
 use Rattle.cows.proofs.Fields.{table-at, kind-is}
 use Rattle.cows.proofs.Ways.{encode-replaced, depth-part, depth-most, size-swap}
 use Rattle.cows.proofs.Stands.{replicates-is, prefixed-is, wanted-is, wanted-live, live-wanted}
+use Rattle.cows.proofs.Recordwise.{size-map}
+use Rattle.cows.proofs.Binds.{depth-mapped}
 use Rattle.records.specs.Rewrites.{put, Stands}
 use Rattle.records.proofs.Put.{and-then}
 use Rattle.records.proofs.Stands.{encode-both, holds-stands}
@@ -42,25 +44,13 @@ use Rattle.plans.specs.declared.Plan.{Plan}
 use Rattle.plans.specs.Plans.{Planned, Asks}
 use Rattle.plans.proofs.Planning.{within-limits, planned-allowed, planned-large, absent}
 
--- a term whose atoms are mapped has as many records, and is as deep
-size-mapped : (f : ℕ → ℕ) (t : Term) → size (mapAtoms f t) ≡ size t
-unfolding size mapAtoms
-size-mapped f (leaf x) = refl
-size-mapped f (under u t) = ap suc (size-mapped f t)
-size-mapped f (both j s t) = rw (size-mapped f s, size-mapped f t)
-
-depth-mapped : (f : ℕ → ℕ) (t : Term) → depth (mapAtoms f t) ≡ depth t
-unfolding depth mapAtoms
-depth-mapped f (leaf x) = refl
-depth-mapped f (under u t) = ap suc (depth-mapped f t)
-depth-mapped f (both j s t) = rw (depth-mapped f s, depth-mapped f t)
-
+-- a copy has as many records as the body, and is as deep
 size-copy : (t s : Term) → size (copy t s) ≡ size s
-unfolding copy
-size-copy t s = size-mapped _ s
+unfolding freshCopy
+size-copy t s = size-map _ s
 
 depth-copy : (t s : Term) → depth (copy t s) ≡ depth s
-unfolding copy
+unfolding freshCopy
 depth-copy t s = depth-mapped _ s
 
 -- The successor: its records, its depth and its bytes.

@@ -1,5 +1,5 @@
 use borrow.Author.Needs.{needs}
-use Rattle.holding.proofs.Marking.{blank}
+use Rattle.cows.proofs.Basics.{getD-zeros}
 use Rattle.holding.proofs.first_held.Statement.{statement}
 use Rattle.holding.proofs.first_held.Tie as tie
 
@@ -11,4 +11,4 @@ first-held-spec =
     (λ c κs. search needs)
     (λ c. search needs)
     (λ c κs. search needs)
-    (λ c t h va vb. c .first-marked .ensures t (record { table = h; left = va; right = vb; marked = c .before .before .before .mark-kills .ensures t h (blank 16384) })))
+    (λ c t h va vb. c .first-marked .ensures t (record { table = h; left = va; right = vb; marked = c .before .before .before .mark-kills .ensures t h (getD-zeros 16384) })))

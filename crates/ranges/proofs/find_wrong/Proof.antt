@@ -6,7 +6,7 @@ use native.Mathlib.Omega.{arith}
 use lib.ListN.{length, drop}
 use Rattle.cows.specs.Format.{records}
 use Rattle.cows.specs.Tables.{firstWrong}
-use Rattle.rows.proofs.Tested.{wrong-here, right-here, none-wrong}
+use Rattle.cows.proofs.Cut.{failing-here, passing-here, none-left}
 use Rattle.records.specs.Answers.{placeOr}
 
 abbrev Inv-loop : tie.InvT-loop
@@ -19,18 +19,18 @@ returns : tie.Need-returns Inv-loop μ-loop
 returns c =
     let r = c .before in
     let v = r .before .before .loop .inv in
-    sym (ap (placeOr _) (v .1 ∙ wrong-here _ _ _ (omega arith) (r .record-right .ensures) (c .if1 .taken)))
+    sym (ap (placeOr _) (v .1 ∙ failing-here 16 _ _ _ _ (omega arith) (r .record-right .ensures) (c .if1 .taken)))
 
 loop-again : tie.Need-loop-again Inv-loop μ-loop
 loop-again c =
     let r = c .before in
     let v = r .before .before .loop .inv in
-    (v .0, v .1 ∙ right-here _ _ _ (omega arith) (r .record-right .ensures) (c .if1 .left))
+    (v .0, v .1 ∙ passing-here 16 _ _ _ _ (omega arith) (r .record-right .ensures) (c .if1 .left))
 
 returns-2 : tie.Need-returns-2 Inv-loop μ-loop
 returns-2 c =
     let v = c .before .loop .inv in
-    v .0 ∙ sym (ap (placeOr _) (v .1 ∙ none-wrong _ _ (omega arith)))
+    v .0 ∙ sym (ap (placeOr _) (v .1 ∙ none-left 16 _ _ _ (omega arith)))
 
 pub find-wrong-spec : {M : Type 1} → statement M
 find-wrong-spec =

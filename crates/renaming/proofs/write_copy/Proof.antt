@@ -13,10 +13,14 @@ write-copy-spec =
     (λ c. search needs)
     (λ c κs. search needs)
     (λ c. search needs)
-    (λ c κs. body-marked _ _ _ (c .before .before .before .before .before .before .pre .0) _ (c .before .before .mark .kept .1 .0) (c .before .before .mark .ensures))
+    (λ c κs. let m = c .before .before in body-marked _ _ _ (m .before .before .before .before .pre .0) _ (m .mark .ensures))
     (λ c. search needs)
     (λ c κs.
-    let p = c .before .before .before .before .before .before .before .before .before .before .pre in
-    (p .0 .ordered, p .0 .fits, c .before .before .before .choose .kept .1 .1 .1 .0 ∙ (c .before .before .before .before .before .before .mark .kept .1 .0 ∙ length-replicate {A = ℕ} 65536 0), p .1))
+    let m = c .before .before .before .before .before .before in
+    let p = m .before .before .before .before .pre in
+    (p .0 .ordered, p .0 .fits, c .before .before .before .choose .kept .1 .1 .1 .0 ∙ (m .mark .kept .1 .0 ∙ length-replicate {A = ℕ} 65536 0), p .1))
     (λ c. search needs)
-    (λ c t h. rw (← body-copied _ _ _ (c .before .before .before .before .before .before .before .before .before .before .before .before .before .pre .0) _ t h (c .before .before .before .before .before .before .choose .ensures t h)) (c .before .before .copy-named .ensures)))
+    (λ c t h.
+    let d = c .before .before .before .before .before .before in
+    let m = d .before .before .before in
+    rw (← body-copied _ _ _ (m .before .before .before .before .pre .0) _ (m .mark .ensures) _ (d .choose .ensures) t h) (c .before .before .copy-named .ensures)))

@@ -2,14 +2,14 @@ use borrow.Author.Needs.{needs}
 use mathlib.Core.Path.{_≡_, refl, _∙_}
 use Prim.Native.Nat.{_-_, _≤_}
 use native.Mathlib.Omega.{arith}
-use lib.ListN.{length}
+use lib.ListN.{length, length-set}
 use Rattle.renaming.proofs.Choosing.{Going, going-start, going-other, going-wants, going-turn, going-end}
 use Rattle.renaming.proofs.names.choose.Statement.{statement}
 use Rattle.renaming.proofs.names.choose.Tie as tie
 
 -- the names so far, and the renaming of those that are left
 abbrev Inv-loop : tie.InvT-loop
-Inv-loop s from to names₀ next₀ i₀ names next i = (i ≤ to) × (length names ≡ length names₀) × (length next ≡ 3) × Going s from to names next i
+Inv-loop s from to names₀ next₀ i₀ names next i = (i ≤ to) × (length names ≡ length names₀) × (length next ≡ 3) × Going s from to names₀ names next i
 
 abbrev μ-loop : tie.MeasureT-loop
 μ-loop s from to names₀ next₀ i₀ names next i = to - i
@@ -20,23 +20,34 @@ choose-spec =
     (tie.spec
     Inv-loop
     μ-loop
-    (λ c. (omega arith, refl, refl, going-start _ _ _ _ (c .before .before .pre)))
+    (λ c. let m = c .before .before .pre in (omega (arith, m .marking .end), refl, refl, going-start _ _ _ _ m))
+    (λ c. search needs)
     (λ c. omega arith)
-    (λ c. omega arith)
-    (λ c. omega arith)
+    (λ c. search needs)
     (λ c. omega arith)
     (λ c.
     let v = c .before .before .before .loop .inv in
-    (omega arith, v .1, v .2, going-other _ _ _ _ _ _ (v .3) (c .before .before .loop-test .taken) (c .if1 .taken)))
-    (λ c. omega arith)
-    (λ c. omega arith)
+    (omega arith, v .1, v .2, going-other _ _ _ _ _ _ _ (v .3) (c .before .before .loop-test .taken) (c .if1 .taken)))
+    (λ c. search needs)
+    (λ c. search needs)
     (λ c κs. omega arith)
     (λ c. search needs)
-    (λ c κs. going-wants _ _ _ _ _ _ (c .before .before .before .before .before .before .loop .inv .3) (c .before .before .before .before .before .loop-test .taken) (c .before .before .before .if1 .left) (c .before .before .word-at .ensures))
-    (λ c. omega arith)
+    (λ c κs.
+    let w = c .before .before in
+    going-wants _ _ _ _ _ _ _ (w .before .before .before .before .loop .inv .3) (w .before .before .before .loop-test .taken) (w .before .if1 .left) (w .word-at .ensures))
+    (λ c κs. search needs)
+    (λ c. search needs)
+    (λ c. omega (arith, c .before .before .before .before .new-atom .kept .1 .0))
+    (λ c. search needs)
     (λ c. omega arith)
     (λ c.
-    let v = c .before .before .before .before .before .before .before .before .before .before .loop .inv in
-    (omega arith, c .before .before .before .rename .kept .1 .0 ∙ v .1, c .before .before .before .rename .kept .1 .1 .0 ∙ v .2, going-turn _ _ _ _ _ _ (v .3) (c .before .before .before .before .before .before .before .before .before .loop-test .taken) (c .before .before .before .before .before .before .before .if1 .left) (c .before .before .before .before .before .before .word-at .ensures) _ _ (c .before .before .before .rename .ensures)))
+    let n = c .before .before .before .before in
+    let w = n .before .before .before in
+    let v = w .before .before .before .before .loop .inv in (
+      omega arith,
+      simp length-set (n .new-atom .kept .1 .0 ∙ v .1),
+      n .new-atom .kept .1 .1 .0 ∙ v .2,
+      going-turn _ _ _ _ _ _ _ (v .3) (w .before .before .before .loop-test .taken) (w .before .if1 .left) (w .word-at .ensures) _ _ (n .new-atom .ensures) (c .wide16 .ensures .0),
+    ))
     (λ c. c .before .loop .inv .1)
-    (λ c. going-end _ _ _ _ _ _ (c .before .loop .inv .3) (c .loop-test .left)))
+    (λ c. going-end _ _ _ _ _ _ _ (c .before .loop .inv .3) (c .loop-test .left)))

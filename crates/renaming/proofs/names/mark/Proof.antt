@@ -35,6 +35,6 @@ mark-spec =
       entered-turn _ _ _ _ _ (v .3) (c .before .before .before .before .loop-test .taken) (c .before .before .mark-record .ensures),
     ))
     (λ c. c .before .loop .inv .2)
-    (λ c t h z a.
+    (λ c t taken h m.
     let v = c .before .loop .inv in
-    rw (← entered-end _ _ _ _ _ (v .3) (c .loop-test .left), v .0) (marked-term _ t h _ (c .before .before .before .before .pre) z a)))
+    rw (← entered-end _ _ _ _ _ (v .3) (c .loop-test .left), v .0) (marked-term _ t h _ taken m)))
