@@ -15,7 +15,7 @@ use Rattle.cows.specs.Format.{byte, word, node, rightRecord, records, de
 use Rattle.cows.specs.Tables.{endOf, wrongEnd, children, misshapen, judgeTerm, judge}
 use Rattle.cows.specs.Active.{wanted}
 use Rattle.cows.specs.Moves.{Matching, binds, differs, matched, Move, Kill, Communicate, Timeout, Elapse, Unfold, Extrude, killAt, communicateAt, timeoutAt, elapseBy, unfoldAt, extrudeAt, successor}
-use Rattle.cows.specs.Step.{rightMove, readMove, proposed, fitted, stepTerm, judgeStep}
+use Rattle.cows.specs.Step.{rightMove, sixMoves, readMove, proposed, fitted, stepTerm, judgeStep}
 use Rattle.cows.specs.Run.{judgePlay}
 use Rattle.cows.proofs.Basics.{same-some, only-some, placeIf-none, firstFrom-below, need-accept}
 use Rattle.cows.proofs.Format.{length-nodes, nodes-decode}
@@ -53,11 +53,10 @@ NumbersBelow b (Unfold a) = a < b
 NumbersBelow b (Extrude a) = a < b
 
 pub read-small : (b : ℕ) (m : List ℕ) → word m 2 < b → word m 4 < b → (v : Move) → readMove m ≡ some v → NumbersBelow b v
-unfolding readMove
+unfolding sixMoves readMove
 read-small b m h k v e = pick (byte m 0) (only-some (rightMove m) _ v e .1)
   where
-    pick : (i : ℕ)
-        → getElem? (Kill (word m 2) ∷ Communicate (word m 2) (word m 4) ∷ Timeout (word m 2) ∷ Elapse (word m 2) ∷ Unfold (word m 2) ∷ Extrude (word m 2) ∷ []) i ≡ some v → NumbersBelow b v
+    pick : (i : ℕ) → getElem? (sixMoves (word m 2) (word m 4)) i ≡ some v → NumbersBelow b v
     pick zero e = subst (NumbersBelow b) (same-some e) h
     pick (suc zero) e = subst (NumbersBelow b) (same-some e) (h, k)
     pick (suc (suc zero)) e = subst (NumbersBelow b) (same-some e) h

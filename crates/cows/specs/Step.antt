@@ -16,18 +16,12 @@ use Rattle.cows.specs.Moves.{Move, Kill, Communicate, Timeout, Elapse, U
 unfoldable pub rightMove : List ℕ → Bool
 rightMove m = eqb (length m) 6 && eqb (byte m 1) 0 && (eqb (byte m 0) 1 || eqb (word m 4) 0)
 
+-- the moves of the numbers a and b, by kind
+unfoldable pub sixMoves : (a b : ℕ) → List Move
+sixMoves a b = Kill a ∷ Communicate a b ∷ Timeout a ∷ Elapse a ∷ Unfold a ∷ Extrude a ∷ []
+
 unfoldable pub readMove : List ℕ → Option Move
-readMove m =
-    only (rightMove m)
-    (getElem?
-    (Kill (word m 2)
-    ∷ Communicate (word m 2) (word m 4)
-    ∷ Timeout (word m 2)
-    ∷ Elapse (word m 2)
-    ∷ Unfold (word m 2)
-    ∷ Extrude (word m 2)
-    ∷ [])
-    (byte m 0))
+readMove m = only (rightMove m) (getElem? (sixMoves (word m 2) (word m 4)) (byte m 0))
 
 -- A move on a term, as it was read: 10 if it is none, and else its own refusals, 11 to 18, and the successor.
 unfoldable pub proposed : Option Move → Term → Result Term
@@ -78,5 +72,5 @@ stepOutput table m out = written (judgeStep table m (length out)) out
 
 -- (for computed checks) to unfold this is to unfold every definition of this file
 unfoldable pub open-step : Unit {0}
-unfolding rightMove readMove proposed overLimits fitted stepTerm judgeStep reply written stepReply stepOutput
+unfolding rightMove sixMoves readMove proposed overLimits fitted stepTerm judgeStep reply written stepReply stepOutput
 open-step = tt

@@ -225,21 +225,6 @@ module _ (q : Run) (m : Option Move) (to after : List ℕ) (r : Tried) (room : l
   pub turned-accepted : (n : ℕ) (from ends : List ℕ) → r .reply .answer ≡ 0 → EndsFrom (take (16 * r .reply .records) after) ends 0 → Turned q n from m after ends r
   turned-accepted n from ends z h = let (u, e) = judgement-accepted q m (r .reply) (j .answers .replies) z in turned u e n from ends z h
 
--- the table that is kept, and the next move on it
-pub going-begins : (x y ends : List ℕ) (k : Kept) → Going x y ends k → CanTurn (k .records) (cond (k .second) y x) ends (cond (k .second) x y)
-going-begins x y ends k g = record {
-  asks = record {
-    known = table-known _ _ _ (g .keeps .table);
-    room = cond-length (k .second) y x (g .keeps .second-room) (g .keeps .first-room);
-  };
-  inside = omega (arith, cond-length (k .second) x y (g .keeps .first-room) (g .keeps .second-room), g .keeps .count, g .keeps .table .within .small);
-  ends-room = g .keeps .ends-room;
-}
-  where
-    cond-length : (b : Bool) (u v : List ℕ) → length u ≡ 32768 → length v ≡ 32768 → length (cond b v u) ≡ 32768
-    cond-length true u v h l = l
-    cond-length false u v h l = h
-
 pub kept-records : (q : Run) (m : Option Move) → kept q (judgement q m) .records ≡ size (turn q m .table)
 unfolding kept
 kept-records q m = go (judgement q m) refl
@@ -248,7 +233,12 @@ kept-records q m = go (judgement q m) refl
     go (refuse n p) e = rw (turn-refused q m n p e)
     go (accept s) e = let (v, ev) = accepted-move q m s e in rw (turn-accepted q m s v e ev)
 
--- what is kept then: r is the turn of the table in the buffer `from`, and `to` is the other
+-- a buffer of the two
+cond-room : (b : Bool) (x y : List ℕ) → length x ≡ 32768 → length y ≡ 32768 → length (cond b y x) ≡ 32768
+cond-room true x y h k = k
+cond-room false x y h k = h
+
+-- what is kept then: r is the turn of the table in the buffer `from`, and `to` is the other; b tells whether `from` is the second
 module _ (q : Run) (m : Option Move) (from to ends : List ℕ) (n : ℕ) (r : Tried) (t : Turned q n from m to ends r) (from-room : length from ≡ 32768) (room : 2049 < length ends) where
   kept-table : Table (held (r .reply .records) (cond (eqb (r .reply .answer) 0) to from)) ends (turn q m .table)
   kept-table = go (r .reply .answer) (t .stays) (t .goes)
@@ -258,64 +248,44 @@ module _ (q : Run) (m : Option Move) (from to ends : List ℕ) (n : ℕ) (r : Tr
       go zero s g = g refl
       go (suc a) s g = rw (ne-eqb (suc a) 0 (λ e. absurd (omega arith))) (s (λ e. absurd (omega arith)))
 
-  -- in the second buffer before, and in the first
-  pub second-keeps : KeepsRun (turn q m) to from ends (keptAfter true r .kept)
+  pub then-keeps : (b : Bool) → KeepsRun (turn q m) (cond b to from) (cond b from to) ends (keptAfter b r .kept)
   unfolding keptAfter
-  second-keeps = record {
-    table = subst (λ x. Table (held (r .reply .records) x) ends (turn q m .table)) (sym (other (eqb (r .reply .answer) 0))) kept-table;
+  then-keeps b = record {
+    table = subst (λ x. Table (held (r .reply .records) x) ends (turn q m .table)) (sym (other b (eqb (r .reply .answer) 0))) kept-table;
     count = ap (λ (x : Reply). x .records) (t .replies) ∙ kept-records q m;
-    first-room = t .length-is;
-    second-room = from-room;
+    first-room = cond-room b from to from-room (t .length-is);
+    second-room = cond-room b to from (t .length-is) from-room;
     ends-room = room;
   }
     where
-      other : (b : Bool) → cond (cond b (not true) true) from to ≡ cond b to from
-      other true = refl
-      other false = refl
+      other : (b accepted : Bool) → cond (cond accepted (not b) b) (cond b from to) (cond b to from) ≡ cond accepted to from
+      other true true = refl
+      other true false = refl
+      other false true = refl
+      other false false = refl
 
-  pub first-keeps : KeepsRun (turn q m) from to ends (keptAfter false r .kept)
-  unfolding keptAfter
-  first-keeps = record {
-    table = subst (λ x. Table (held (r .reply .records) x) ends (turn q m .table)) (sym (other (eqb (r .reply .answer) 0))) kept-table;
-    count = ap (λ (x : Reply). x .records) (t .replies) ∙ kept-records q m;
-    first-room = from-room;
-    second-room = t .length-is;
-    ends-room = room;
+-- a move on the table that is kept, in the second buffer if b
+module _ (x y ends : List ℕ) (k : Kept) (g : Going x y ends k) (b : Bool) (at-b : k .second ≡ b) where
+  from-room : length (cond b y x) ≡ 32768
+  from-room = cond-room b x y (g .keeps .first-room) (g .keeps .second-room)
+
+  in-from : (q : Run) → KeepsRun q x y ends k → Table (held (k .records) (cond b y x)) ends (q .table)
+  in-from q h = subst (λ c. Table (held (k .records) (cond c y x)) ends (q .table)) at-b (h .table)
+
+  pub begins : CanTurn (k .records) (cond b y x) ends (cond b x y)
+  begins = record {
+    asks = record { known = table-known _ _ _ (in-from (g .run) (g .keeps)); room = cond-room b y x (g .keeps .second-room) (g .keeps .first-room) };
+    inside = omega (arith, from-room, g .keeps .count, g .keeps .table .within .small);
+    ends-room = g .keeps .ends-room;
   }
-    where
-      other : (b : Bool) → cond (cond b (not false) false) to from ≡ cond b to from
-      other true = refl
-      other false = refl
 
--- a move on the table in the second buffer, and in the first
-module _ (x y ends : List ℕ) (k : Kept) (g : Going x y ends k) where
-  pub begins-second : k .second ≡ true → CanTurn (k .records) y ends x
-  begins-second e = subst (λ b. CanTurn (k .records) (cond b y x) ends (cond b x y)) e (going-begins x y ends k g)
-
-  pub begins-first : k .second ≡ false → CanTurn (k .records) x ends y
-  begins-first e = subst (λ b. CanTurn (k .records) (cond b y x) ends (cond b x y)) e (going-begins x y ends k g)
-
-  module _ (m : Option Move) (to ends′ : List ℕ) (r : Tried) (room : 2049 < length ends′) where
-    pub goes-second : k .second ≡ true → ((q : Run) → Table (held (k .records) y) ends (q .table) → Turned q (k .records) y m to ends′ r) → GoesOn m k x y ends to y ends′ (keptAfter true r)
-    unfolding keptAfter
-    goes-second e t =
-        let at : (q : Run) → KeepsRun q x y ends k → Turned q (k .records) y m to ends′ r =
-        λ q h. t q (subst (λ b. Table (held (k .records) (cond b y x)) ends (q .table)) e (h .table)) in
-        record {
-          keeps = λ q h. second-keeps q m y to ends′ (k .records) r (at q h) (h .second-room) room;
-          replies = λ q h. at q h .replies;
-          counted = λ q h. at q h .counted;
-          few = at (g .run) (g .keeps) .few;
-        }
-
-    pub goes-first : k .second ≡ false → ((q : Run) → Table (held (k .records) x) ends (q .table) → Turned q (k .records) x m to ends′ r) → GoesOn m k x y ends x to ends′ (keptAfter false r)
-    unfolding keptAfter
-    goes-first e t =
-        let at : (q : Run) → KeepsRun q x y ends k → Turned q (k .records) x m to ends′ r =
-        λ q h. t q (subst (λ b. Table (held (k .records) (cond b y x)) ends (q .table)) e (h .table)) in
-        record {
-          keeps = λ q h. first-keeps q m x to ends′ (k .records) r (at q h) (h .first-room) room;
-          replies = λ q h. at q h .replies;
-          counted = λ q h. at q h .counted;
-          few = at (g .run) (g .keeps) .few;
-        }
+  pub goes : (m : Option Move) (to ends′ : List ℕ) (r : Tried) → 2049 < length ends′
+      → ((q : Run) → Table (held (k .records) (cond b y x)) ends (q .table) → Turned q (k .records) (cond b y x) m to ends′ r)
+      → GoesOn m k x y ends (cond b to (cond b y x)) (cond b (cond b y x) to) ends′ (keptAfter b r)
+  unfolding keptAfter
+  goes m to ends′ r room t = record {
+    keeps = λ q h. then-keeps q m (cond b y x) to ends′ (k .records) r (t q (in-from q h)) from-room room b;
+    replies = λ q h. t q (in-from q h) .replies;
+    counted = λ q h. t q (in-from q h) .counted;
+    few = t (g .run) (in-from (g .run) (g .keeps)) .few;
+  }

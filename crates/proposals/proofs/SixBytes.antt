@@ -12,8 +12,8 @@ use borrow.Author.Tests.{eqb-true, eq-eqb, ne-eqb, not-false}
 use Rattle.cows.specs.Basics.{only}
 use Rattle.cows.specs.Format.{byte, word}
 use Rattle.cows.proofs.Basics.{and-true}
-use Rattle.cows.specs.Moves as moves
-use Rattle.cows.specs.Step.{rightMove, readMove}
+use Rattle.cows.specs.Moves.{Move}
+use Rattle.cows.specs.Step.{rightMove, sixMoves, readMove}
 
 -- what the bytes of a move are tested for
 pub wrong-length : (m : List ℕ) → length m ≢ 6 → false ≡ rightMove m
@@ -45,31 +45,9 @@ right-length m e = eqb-true (length m) 6 (and-true (eqb (length m) 6) _ (and-tru
 -- the kinds
 module _ (m : List ℕ) (right : rightMove m ≡ true) where
   pub no-kind : 6 ≤ getD m 0 0 → none ≡ readMove m
-  unfolding readMove only byte
-  no-kind h = rw right
-      (beyond (moves.Kill (word m 2) ∷ moves.Communicate (word m 2) (word m 4) ∷ moves.Timeout (word m 2) ∷ moves.Elapse (word m 2) ∷ moves.Unfold (word m 2) ∷ moves.Extrude (word m 2) ∷ [])
-      (getD m 0 0) h)
+  unfolding sixMoves readMove only byte
+  no-kind h = rw right (beyond (sixMoves (word m 2) (word m 4)) (getD m 0 0) h)
 
-  pub kill-read : (a : ℕ) → a ≡ word m 2 → getD m 0 0 ≡ 0 → some (moves.Kill a) ≡ readMove m
+  pub kind-read : {v : Move} (a b k : ℕ) → a ≡ word m 2 → b ≡ word m 4 → getD m 0 0 ≡ k → some v ≡ getElem? (sixMoves a b) k → some v ≡ readMove m
   unfolding readMove only byte
-  kill-read a w e = rw (right, e, w)
-
-  pub communicate-read : (a b : ℕ) → a ≡ word m 2 → b ≡ word m 4 → getD m 0 0 ≡ 1 → some (moves.Communicate a b) ≡ readMove m
-  unfolding readMove only byte
-  communicate-read a b w x e = rw (right, e, w, x)
-
-  pub timeout-read : (a : ℕ) → a ≡ word m 2 → getD m 0 0 ≡ 2 → some (moves.Timeout a) ≡ readMove m
-  unfolding readMove only byte
-  timeout-read a w e = rw (right, e, w)
-
-  pub elapse-read : (d : ℕ) → d ≡ word m 2 → getD m 0 0 ≡ 3 → some (moves.Elapse d) ≡ readMove m
-  unfolding readMove only byte
-  elapse-read d w e = rw (right, e, w)
-
-  pub unfold-read : (a : ℕ) → a ≡ word m 2 → getD m 0 0 ≡ 4 → some (moves.Unfold a) ≡ readMove m
-  unfolding readMove only byte
-  unfold-read a w e = rw (right, e, w)
-
-  pub extrude-read : (a : ℕ) → a ≡ word m 2 → getD m 0 0 ≡ 5 → some (moves.Extrude a) ≡ readMove m
-  unfolding readMove only byte
-  extrude-read a w e = rw (right, e, w)
+  kind-read a b k w x e h = h ∙ rw (right, e, w, x)

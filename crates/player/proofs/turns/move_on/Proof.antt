@@ -2,9 +2,10 @@ use borrow.Author.Needs.{needs}
 use Rattle.player.proofs.turns.move_on.Statement.{statement}
 use Rattle.player.proofs.turns.move_on.Tie as tie
 use mathlib.Core.Path.{sym, subst}
+use mathlib.Core.Bool.{true, false}
 use native.Mathlib.Omega.{arith}
 use Rattle.player.specs.Turns.{GoesOn}
-use Rattle.player.proofs.Turning.{begins-second, begins-first, goes-second, goes-first}
+use Rattle.player.proofs.Turning.{begins, goes}
 
 pub move-on-spec : {M : Type 1} → statement M
 move-on-spec =
@@ -12,7 +13,7 @@ move-on-spec =
     (tie.spec
     (λ c κs. let i = c .before .before .before in
     let z = i .before .before .before .before in
-    begins-second _ _ _ (z .args .kept) (z .pre) (i .if1 .taken))
+    begins _ _ _ (z .args .kept) (z .pre) true (i .if1 .taken))
     (λ c κs. search needs)
     (λ c. search needs)
     (λ c. search needs)
@@ -21,10 +22,10 @@ move-on-spec =
     let i = t .before .before .before .before in
     let z = i .before .before .before .before in
     subst (GoesOn _ _ _ _ _ _ _ _) (sym (c .kept-after .ensures))
-    (goes-second _ _ _ (z .args .kept) (z .pre) _ _ _ _ (omega (arith, z .pre .keeps .ends-room, c .before .before .before .before .ends)) (i .if1 .taken) (t .turn .ensures)))
+    (goes _ _ _ (z .args .kept) (z .pre) true (i .if1 .taken) _ _ _ _ (omega (arith, z .pre .keeps .ends-room, c .before .before .before .before .ends)) (t .turn .ensures)))
     (λ c κs. let i = c .before .before .before in
     let z = i .before .before .before .before in
-    begins-first _ _ _ (z .args .kept) (z .pre) (i .if1 .left))
+    begins _ _ _ (z .args .kept) (z .pre) false (i .if1 .left))
     (λ c κs. search needs)
     (λ c. search needs)
     (λ c. search needs)
@@ -33,4 +34,4 @@ move-on-spec =
     let i = t .before .before .before .before in
     let z = i .before .before .before .before in
     subst (GoesOn _ _ _ _ _ _ _ _) (sym (c .kept-after2 .ensures))
-    (goes-first _ _ _ (z .args .kept) (z .pre) _ _ _ _ (omega (arith, z .pre .keeps .ends-room, c .before .before .before .before .ends2)) (i .if1 .left) (t .turn2 .ensures))))
+    (goes _ _ _ (z .args .kept) (z .pre) false (i .if1 .left) _ _ _ _ (omega (arith, z .pre .keeps .ends-room, c .before .before .before .before .ends2)) (t .turn2 .ensures))))
