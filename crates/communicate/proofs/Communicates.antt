@@ -46,6 +46,7 @@ pub no-receive : (t : Term) (a b : ℕ) → (ltb a (size t) && live (wayTo t a) 
 unfolding communicateAt _>>=_
 no-receive t a b h = rw (absent (prefixed receives) 3 kind-of-receive t a h)
 
+-- The receive.
 module _ {s receiver : List ℕ} {t : Term} {a k : ℕ} (h : LiveAt s receiver a 3 t k) where
   pub receiving : (q : Ends) × (sub t a ≡ under (receiveOf q) (below (sub t a))) × EndsAt s a q
   receiving = receive-here s t a (h .walks .holds) (h .walks .inside) (h .kind-is)

@@ -105,16 +105,12 @@ pub fn judge(s: &[u8], ends: &[u16], a: usize, b: usize) -> Plan
 {
     let mut receiver = [0u16; limits::MAX_DEPTH];
     let mut sender = [0u16; limits::MAX_DEPTH];
-    let sought = seek(s, ends, a, b, &mut receiver, &mut sender);
-    match sought {
+    match seek(s, ends, a, b, &mut receiver, &mut sender) {
         Sought::Missing(p) => refused(Judgement::Absent(p)),
-        Sought::Both(k, n) => {
-            let answer = ask(s, ends, a, b, &receiver, k, &sender, n);
-            match answer {
-                Asked::Barred(judgement) => refused(judgement),
-                Asked::Agreed(l) => meeting_plan(s, ends, a, &receiver, k, l),
-            }
-        }
+        Sought::Both(k, n) => match ask(s, ends, a, b, &receiver, k, &sender, n) {
+            Asked::Barred(judgement) => refused(judgement),
+            Asked::Agreed(l) => meeting_plan(s, ends, a, &receiver, k, l),
+        },
     }
 }
 

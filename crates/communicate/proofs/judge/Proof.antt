@@ -23,7 +23,7 @@ judge-spec =
     let i = c .before .before .before in
     let p = i .before .before .before .before in
     let q = p .before .before .before .before .before .pre in
-    faces q (rw (i .sought2 .given .1) at (p .seek .ensures (q .term) (q .table))) (search needs) (search needs))
+    faces q (rw (i .k .given .1) at (p .seek .ensures (q .term) (q .table))) (search needs) (search needs))
     (λ c. search needs)
     (λ c κs. search needs)
     (λ c. search needs)
@@ -33,17 +33,17 @@ judge-spec =
     let i = j .before .before .before .before .before .before in
     let p = i .before .before .before .before in
     let q = p .before .before .before .before .before .pre in
-    let x = rw (i .sought2 .given .1) at (p .seek .ensures (q .term) (q .table)) in
-    record { known = q; live = x .receive; way = walk-known _ _ q _ _ _ (search needs) (x .receive .walks); sender = _; meets = rw (j .answer2 .given .1) at (j .before .before .ask .ensures (q .term) (q .table) x) })
-    (λ c t z. planned-refused _ 11 _ (ap resultOf (c .refused .ensures .0)) (rw (c .before .before .sought .given .1) at (c .before .before .before .before .before .before .seek .ensures t z)))
+    let x = rw (i .k .given .1) at (p .seek .ensures (q .term) (q .table)) in
+    record { known = q; live = x .receive; way = walk-known _ _ q _ _ _ (search needs) (x .receive .walks); sender = _; meets = rw (j .l .given .1) at (j .before .before .ask .ensures (q .term) (q .table) x) })
+    (λ c t z. planned-refused _ 11 _ (ap resultOf (c .refused .ensures .0)) (rw (c .before .before .p .given .1) at (c .before .before .before .before .before .before .seek .ensures t z)))
     (λ c t z.
     let j = c .before .before in
     let i = j .before .before .before .before .before .before in
-    let x = rw (i .sought2 .given .1) at (i .before .before .before .before .seek .ensures t z) in
-    let (n, p, e, k) = rw (j .answer .given .1) at (j .before .before .ask .ensures t z x) in
+    let x = rw (i .k .given .1) at (i .before .before .before .before .seek .ensures t z) in
+    let (n, p, e, k) = rw (j .judgement .given .1) at (j .before .before .ask .ensures t z x) in
     planned-refused _ n p (ap resultOf (c .refused2 .ensures .0) ∙ e) k)
     (λ c t z.
     let j = c .before .before .before in
     let i = j .before .before .before .before .before .before in
-    let x = rw (i .sought2 .given .1) at (i .before .before .before .before .seek .ensures t z) in
-    c .meeting-plan .ensures t _ z (x .receive) (rw (j .answer2 .given .1) at (j .before .before .ask .ensures t z x))))
+    let x = rw (i .k .given .1) at (i .before .before .before .before .seek .ensures t z) in
+    c .meeting-plan .ensures t _ z (x .receive) (rw (j .l .given .1) at (j .before .before .ask .ensures t z x))))
