@@ -17,8 +17,9 @@ use Rattle.cows.specs.Format.{byte, word, nodes, layout, record16, bytes, encod
 use Rattle.cows.specs.Within.{Right, Within}
 use Rattle.cows.specs.Allows.{Matches}
 use Rattle.cows.specs.Moves.{Substitution, mapBasic, silence, image}
+use Rattle.cows.proofs.Rows.{length-record16}
 use Rattle.cows.proofs.Fields.{drop-bytes, append-bytes, first-delimitation}
-use Rattle.cows.proofs.Records.{RightNode, length-record16}
+use Rattle.cows.proofs.Records.{RightNode}
 use Rattle.cows.proofs.Format.{length-nodes, RightNodes, right-nodes}
 use Rattle.cows.proofs.Binding.{AllBind, values-fit, all-in-scope}
 use Rattle.cows.proofs.Silence.{silence-nodes}

@@ -1,31 +1,23 @@
 -- Extrusion leaves a part (proofs/Parts): a delimitation that changes places with a fitting parent.
-use mathlib.Core.Path.{_≡_, refl, subst}
+use mathlib.Core.Path.{_≡_, subst, ap, _∙_}
 use mathlib.Core.Bool.{true, false}
 use mathlib.Core.Option.{some}
 use mathlib.Core.List.{[], _∷_}
 use Prim.Native.Nat.{ℕ}
-use Rattle.cows.specs.Terms.{receive, wait, protection, delimitation, replication, choice, parallel, Term, under, prefixed, delimits, below}
+use Rattle.cows.specs.Terms.{delimitation, Term, under, prefixed, delimits, below}
 use Rattle.cows.specs.Active.{onKind}
-use Rattle.cows.specs.Kinds.{guard, open-kinds}
-use Rattle.cows.specs.Places.{Frame, inside, leftOf, rightOf, plug, Way, fill, wayTo, sub, passed}
+use Rattle.cows.specs.Kinds.{guard, guardKind, kind}
+use Rattle.cows.specs.Places.{Frame, plug, Way, fill, wayTo, sub, passed}
 use Rattle.cows.specs.Moves.{fitting, exchange, afterExtrude}
-use Rattle.cows.proofs.Basics.{never}
 use Rattle.cows.proofs.Places.{fill-spot}
 use Rattle.cows.proofs.Stands.{delimits-is, prefixed-is}
 use Rattle.cows.proofs.Parts.{Part, whole, outward, fill-part}
+use Rattle.cows.proofs.Rows.{plug-kind, floats-guard}
 
 -- a fitting parent is no guard
 fitting-guard : (f : Frame) (w : Way) (s : Term) → fitting (f ∷ w) ≡ true → guard (plug f s) ≡ false
-unfolding fitting onKind passed open-kinds plug
-fitting-guard (inside (receive p o ws)) w s h = never h
-fitting-guard (inside (wait n)) w s h = never h
-fitting-guard (inside protection) w s h = refl
-fitting-guard (inside (delimitation d)) w s h = refl
-fitting-guard (inside replication) w s h = refl
-fitting-guard (leftOf choice t) w s h = never h
-fitting-guard (leftOf parallel t) w s h = refl
-fitting-guard (rightOf choice t) w s h = never h
-fitting-guard (rightOf parallel t) w s h = refl
+unfolding fitting onKind guard
+fitting-guard f w s h = ap guardKind (plug-kind f s) ∙ floats-guard (kind (passed f)) h
 
 part-exchange : (d : ℕ) (s : Term) (w : Way) → fitting w ≡ true → Part true (fill w (under (delimitation d) s)) (exchange d s w)
 unfolding exchange fill fitting

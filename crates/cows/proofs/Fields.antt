@@ -12,9 +12,8 @@ use Rattle.cows.specs.Kinds.{Node, root, kindOf}
 use Rattle.cows.specs.Places.{Spot, spot, sub}
 use Rattle.cows.specs.Format.{bytes2, byte, word, nodes, layout, record16, bytes, encode}
 use Rattle.cows.proofs.Places.{inherited-spot}
-use Rattle.cows.proofs.Records.{length-record16}
 use Rattle.cows.proofs.Format.{length-nodes}
-use Rattle.cows.proofs.Rows.{record-kind}
+use Rattle.cows.proofs.Rows.{record-kind, length-record16}
 use Rattle.cows.proofs.Cut.{flatMap-append, drop-write}
 
 -- The records of the part at a place stand in the records of the whole, from that place on.

@@ -12,8 +12,8 @@ use Rattle.cows.specs.Format.{Bytes, nodes, record16, bytes, encode, nod
 use Rattle.cows.specs.Tables.{endOf, children, wrongEnd, misshapen}
 use Rattle.cows.specs.Within.{Right}
 use Rattle.cows.specs.Basics.{All, placeIf}
-use Rattle.cows.proofs.Rows.{children-leaf, children-under, children-both}
-use Rattle.cows.proofs.Records.{RightNode, node-record16, length-record16, record-bytes}
+use Rattle.cows.proofs.Rows.{children-leaf, children-under, children-both, length-record16}
+use Rattle.cows.proofs.Records.{RightNode, node-record16, record-bytes}
 use Rattle.cows.proofs.Cut.{all-append, append-all, length-write, cut-write, map-read, write-bytes}
 use Rattle.cows.proofs.Basics.{same-some}
 use Rattle.cows.proofs.Ends.{none-some, end-bounds, end-right, end-append, end-none, end-one}

@@ -219,19 +219,6 @@ node-record16 (prefix replication) h = refl
 node-record16 (join choice) h = refl
 node-record16 (join parallel) h = refl
 
-pub length-record16 : (n : Node) → length (record16 n) ≡ 16
-unfolding record16 layout bytes2
-length-record16 (basic nil) = refl
-length-record16 (basic (kill k)) = refl
-length-record16 (basic (invoke p o ws)) = refl
-length-record16 (prefix (receive p o ws)) = refl
-length-record16 (prefix (wait n)) = refl
-length-record16 (prefix protection) = refl
-length-record16 (prefix (delimitation d)) = refl
-length-record16 (prefix replication) = refl
-length-record16 (join choice) = refl
-length-record16 (join parallel) = refl
-
 -- A right node's bytes are bytes.
 pub small-atom : (a : ℕ) → atom a ≡ true → a < 65536
 small-atom a h = set-case (a < 65536) a h (λ e. omega (arith, value-range a e)) (λ e. omega (arith, variable-range a e)) (λ e. omega (arith, label-range a e))

@@ -2,15 +2,18 @@
 -- proved row by row (kind-cases).
 use mathlib.Core.Path.{_≡_, refl}
 use mathlib.Core.Bool.{Bool, true, false, _&&_}
+use mathlib.Core.List.{List}
 use Prim.Native.Nat.{ℕ, zero, suc, _≤_, _<_}
 use native.Mathlib.Omega.{arith}
 use lib.Dec.{leb}
+use lib.ListN.{length}
 use borrow.Author.Tests.{lt-leb}
 use Rattle.cows.specs.Terms.{Basic, nil, kill, invoke, Prefix, receive, wait, protection, delimitation, replication, Join, choice, parallel, Term, leaf, under, both, below}
-use Rattle.cows.specs.Kinds.{Node, basic, prefix, join, root, kind, kindOf, childrenOf, liveKind, readyKind, open-kinds}
-use Rattle.cows.specs.Format.{byte, layout, record16}
+use Rattle.cows.specs.Kinds.{Node, basic, prefix, join, root, kind, kindOf, childrenOf, liveKind, readyKind, guardKind, floatsOver, open-kinds}
+use Rattle.cows.specs.Places.{Frame, inside, leftOf, rightOf, passed, plug}
+use Rattle.cows.specs.Format.{bytes2, byte, layout, writeFields, record16}
 use Rattle.cows.specs.Moves.{mapBasic, mapPrefix, mapNode, lower}
-use Rattle.cows.proofs.Basics.{and-none}
+use Rattle.cows.proofs.Basics.{never, and-none}
 
 -- the unknown kinds, from 10 on
 abbrev pub unknown : ℕ → ℕ
@@ -38,18 +41,32 @@ module _ (low top : ℕ) (P : ℕ → Bool) where
   pub kind-range : top < 10 → In 0 × In 1 × In 2 × In 3 × In 4 × In 5 × In 6 × In 7 × In 8 × In 9 → ((n : ℕ) → P (unknown n) ≡ false) → (k : ℕ) → In k
   kind-range h rows none = kind-cases In rows (λ n. rw (lt-leb (unknown n) top (omega arith), none n) (and-none (leb low (unknown n))))
 
--- a record's first byte
+-- What holds whatever is written in the fields holds of a record: so of its first byte, and of its length.
+by-fields : (P : List ℕ → Type 0) (write : ℕ → ℕ → List ℕ → ℕ → List ℕ) → ((a b : ℕ) (ws : List ℕ) (i : ℕ) → P (write a b ws i)) → (n : Node) → P (writeFields n write)
+by-fields P write h (basic nil) = h _ _ _ _
+by-fields P write h (basic (kill k)) = h _ _ _ _
+by-fields P write h (basic (invoke p o ws)) = h _ _ _ _
+by-fields P write h (prefix (receive p o ws)) = h _ _ _ _
+by-fields P write h (prefix (wait n)) = h _ _ _ _
+by-fields P write h (prefix protection) = h _ _ _ _
+by-fields P write h (prefix (delimitation d)) = h _ _ _ _
+by-fields P write h (prefix replication) = h _ _ _ _
+by-fields P write h (join j) = h _ _ _ _
+
 pub record-kind : (n : Node) → byte (record16 n) 0 ≡ kind n
 unfolding byte record16 layout
-record-kind (basic nil) = refl
-record-kind (basic (kill k)) = refl
-record-kind (basic (invoke p o ws)) = refl
-record-kind (prefix (receive p o ws)) = refl
-record-kind (prefix (wait n)) = refl
-record-kind (prefix protection) = refl
-record-kind (prefix (delimitation d)) = refl
-record-kind (prefix replication) = refl
-record-kind (join j) = refl
+record-kind n = by-fields (λ r. byte r 0 ≡ kind n) (layout (kind n)) (λ a b ws i. refl) n
+
+pub length-record16 : (n : Node) → length (record16 n) ≡ 16
+unfolding record16 layout bytes2
+length-record16 n = by-fields (λ r. length r ≡ 16) (layout (kind n)) (λ a b ws i. refl) n
+
+-- the kind of what a frame makes is that of the record passed
+pub plug-kind : (f : Frame) (s : Term) → kindOf (plug f s) ≡ kind (passed f)
+unfolding passed plug kindOf root
+plug-kind (inside u) s = refl
+plug-kind (leftOf j t) s = refl
+plug-kind (rightOf j t) s = refl
 
 -- the row's children are those that a term has
 pub children-leaf : (x : Basic) → childrenOf (kind (basic x)) ≡ 0
@@ -102,6 +119,13 @@ unfolding open-kinds
 live-ready-kind =
     kind-cases (λ k. liveKind k ≡ true → readyKind k ≡ true)
     (λ e. e, λ e. e, λ e. e, λ e. e, λ e. e, λ e. e, λ e. e, λ e. e, λ e. e, λ e. refl) (λ n e. e)
+
+-- what a delimitation may float over is no guard
+pub floats-guard : (k : ℕ) → floatsOver k ≡ true → guardKind k ≡ false
+unfolding open-kinds
+floats-guard =
+    kind-cases (λ k. floatsOver k ≡ true → guardKind k ≡ false)
+    (never, λ e. refl, λ e. refl, never, never, never, λ e. refl, λ e. refl, λ e. refl, λ e. refl) (λ n e. refl)
 
 -- a term by the number of its children
 pub no-child : (t : Term) → childrenOf (kindOf t) ≡ 0 → (x : Basic) × (t ≡ leaf x)

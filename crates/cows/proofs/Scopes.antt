@@ -9,12 +9,13 @@ use native.Mathlib.Nat.{zero-add}
 use lib.Dec.{ltb, eqb}
 use borrow.Author.Tests.{lt-ltb, ltb-true}
 use Rattle.cows.specs.Basics.{any, member, holds, All}
-use Rattle.cows.specs.Terms.{Prefix, receive, wait, protection, delimitation, replication, choice, parallel, Term, leaf, under, both, value, variable, label, delimits, delimitsAtom, usesBasic, usesPrefix, optional, binders}
-use Rattle.cows.specs.Kinds.{guard, open-kinds}
+use Rattle.cows.specs.Terms.{Prefix, choice, parallel, Term, leaf, under, both, value, variable, label, delimits, delimitsAtom, usesBasic, usesPrefix, optional, binders}
+use Rattle.cows.specs.Kinds.{guard, guardKind}
 use Rattle.cows.specs.Places.{Frame, inside, leftOf, rightOf, plug, Way, fill, frameDelimits, enclosed}
 use Rattle.cows.specs.Within.{Scoped, Right, Guarded, nowhere, one, counts, restricted}
 use Rattle.cows.proofs.Places.{fill-ind}
 use Rattle.cows.proofs.Basics.{and-true, true-and, or-both, or-case, or-none, member-append}
+use Rattle.cows.proofs.Rows.{plug-kind}
 
 -- A rule of use says of an atom and of a set of atoms whether the atom may be used inside the delimitations of the set.
 abbrev pub Rule : Type 1
@@ -98,16 +99,8 @@ used-any P f E (both j s t) = (used-any P f E s, used-any P f E t)
 
 -- What stands in a frame decides nothing of whether the whole is a guard; a guard in place of a guard keeps a choice right.
 pub guard-plug : (f : Frame) (s r : Term) → guard (plug f s) ≡ guard (plug f r)
-unfolding plug open-kinds
-guard-plug (inside (receive p o ws)) s r = refl
-guard-plug (inside (wait n)) s r = refl
-guard-plug (inside protection) s r = refl
-guard-plug (inside (delimitation d)) s r = refl
-guard-plug (inside replication) s r = refl
-guard-plug (leftOf choice t) s r = refl
-guard-plug (leftOf parallel t) s r = refl
-guard-plug (rightOf choice t) s r = refl
-guard-plug (rightOf parallel t) s r = refl
+unfolding guard
+guard-plug f s r = ap guardKind (plug-kind f s ∙ sym (plug-kind f r))
 
 pub guarded-plug : (f : Frame) (s r : Term) → (guard s ≡ true → guard r ≡ true) → (Guarded s → Guarded r) → Guarded (plug f s) → Guarded (plug f r)
 unfolding plug

@@ -18,12 +18,12 @@ use Rattle.cows.specs.Format.{byte, word, layout, record16, bytes, encode}
 use Rattle.cows.specs.Active.{live, wanted, onKind}
 use Rattle.cows.specs.Moves.{fitting, exchange, afterExtrude, extrudeAt}
 use Rattle.cows.specs.Step.{overLimits}
+use Rattle.cows.proofs.Rows.{length-record16, plug-kind}
 use Rattle.cows.proofs.Basics.{never, bind-accept, forbid-accept, same-accept, or-right, or-case, or-false, placeIf-none}
 use Rattle.cows.specs.Records.{At, opens, closes, ahead, behind}
 use Rattle.cows.proofs.Places.{size-pos, fill-spot, spot-left, spot-right}
 use Rattle.cows.proofs.Format.{length-nodes, length-bytes, length-encode}
 use Rattle.cows.proofs.Fields.{record-at, append-bytes, kind-delimitation, first-delimitation}
-use Rattle.cows.proofs.Records.{length-record16}
 use Rattle.cows.proofs.Stands.{right-at, delimits-is, prefixed-is, wanted-is, wanted-live, live-wanted}
 use Rattle.cows.proofs.Ways.{length-ahead, take-ahead, drop-here, encode-plug, encode-fill, above-at, depth-part, depth-most, size-frame, size-swap}
 use Rattle.records.specs.Rewrites.{Stands}
@@ -42,7 +42,6 @@ use Rattle.plans.specs.Plans.{resultOf, limited, Planned, Asks}
 use Rattle.extrude.specs.Extruding.{isLabel, besideOf, parentOf, liftAt, Lifting, Below, Lifts, lifted}
 use Rattle.plans.proofs.Planning.{within-limits, absent}
 use Rattle.plans.proofs.Joining.{length-part}
-use Rattle.ways.proofs.Frames.{passed-kind}
 
 -- behind a prefix all goes deeper by one
 plain-depth : (f : Frame) (s r : Term) → kindOf (plug f s) ≢ 6 → floatsOver (kindOf (plug f s)) ≡ true → depth s ≡ suc (depth r) → depth (plug f s) ≡ suc (depth (plug f r))
@@ -104,7 +103,7 @@ module _ (s ends : List ℕ) (a p k : ℕ) (t : Term) (d : ℕ) (h : Lifting s e
 
   fitting-at : fitting (wayTo t a) ≡ floatsOver (getD s (16 * p) 0)
   unfolding fitting onKind
-  fitting-at = ap fitting way-is ∙ ap floatsOver (passed-kind f (sub t a) ∙ sym (holds-kind s t p (h .table .holds) (at .0) ∙ ap kindOf (at .1)))
+  fitting-at = ap fitting way-is ∙ ap floatsOver (sym (plug-kind f (sub t a)) ∙ sym (holds-kind s t p (h .table .holds) (at .0) ∙ ap kindOf (at .1)))
 
   pub lift-stuck : floatsOver (getD s (16 * p) 0) ≡ false → resultOf (Stuck a) ≡ limited (liftAt d t a)
   unfolding limited liftAt _>>=_ _>>_ forbid placeIf

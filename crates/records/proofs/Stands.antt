@@ -9,8 +9,7 @@ use Rattle.cows.specs.Kinds.{basic, prefix, join, root, kindOf, childrenOf}
 use Rattle.cows.specs.Places.{sub}
 use Rattle.cows.specs.Format.{byte, word, nodes, record16, encode}
 use Rattle.cows.proofs.Places.{size-pos}
-use Rattle.cows.proofs.Rows.{record-kind, arity, children-of}
-use Rattle.cows.proofs.Records.{length-record16}
+use Rattle.cows.proofs.Rows.{record-kind, arity, children-of, length-record16}
 use Rattle.cows.proofs.Format.{length-encode}
 use Rattle.cows.proofs.Fields.{append-bytes, first-bytes, table-at, kind-at, word-at}
 use Rattle.records.specs.Holds.{Holds}

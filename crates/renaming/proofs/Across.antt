@@ -8,7 +8,7 @@ use lib.ListN.{length, take, drop, length-append}
 use Rattle.cows.specs.Terms.{Term, size}
 use Rattle.cows.specs.Kinds.{Node}
 use Rattle.cows.specs.Format.{nodes, record16, bytes, encode}
-use Rattle.cows.proofs.Records.{length-record16}
+use Rattle.cows.proofs.Rows.{length-record16}
 use Rattle.cows.proofs.Format.{length-nodes}
 use Rattle.records.specs.Rewrites.{put, Has, Stands}
 use Rattle.records.proofs.Put.{put-put, has-left, has-right, has-take}

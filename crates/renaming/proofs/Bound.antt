@@ -11,8 +11,8 @@ use borrow.Author.Tests.{eq-eqb, ne-eqb, not-true}
 use Rattle.cows.specs.Terms.{nil, variable}
 use Rattle.cows.specs.Kinds.{basic}
 use Rattle.cows.specs.Format.{byte, word, record16}
+use Rattle.cows.proofs.Rows.{length-record16}
 use Rattle.cows.proofs.Basics.{clash, and-none, or-false}
-use Rattle.cows.proofs.Records.{length-record16}
 use Rattle.records.specs.declared.Atom.{Atom}
 use Rattle.records.specs.declared.Takes.{Takes}
 use Rattle.records.specs.Atoms.{classOf, numberOf, closedAt}

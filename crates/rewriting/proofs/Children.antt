@@ -8,8 +8,7 @@ use lib.ListN.{length, take, drop, getD}
 use Rattle.cows.specs.Terms.{Term}
 use Rattle.cows.specs.Kinds.{root, childrenOf}
 use Rattle.cows.specs.Format.{record16}
-use Rattle.cows.proofs.Rows.{children-few}
-use Rattle.cows.proofs.Records.{length-record16}
+use Rattle.cows.proofs.Rows.{children-few, length-record16}
 use Rattle.records.specs.Rewrites.{put, Stands, Ready, Rewrites}
 use Rattle.records.proofs.Rewrites.{record-copied, Step, first-asks, second-asks, one-gives, both-gives}
 use Rattle.rewriting.specs.Placed.{Placed}

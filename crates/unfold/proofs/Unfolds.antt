@@ -19,9 +19,9 @@ use Rattle.cows.specs.Active.{live, wanted}
 use Rattle.cows.specs.Within.{Within}
 use Rattle.cows.specs.Moves.{copy, afterUnfold, unfoldAt, freshCopy}
 use Rattle.cows.specs.Step.{overLimits}
+use Rattle.cows.proofs.Rows.{length-record16}
 use Rattle.cows.proofs.Basics.{or-false, or-both, bind-accept, same-accept}
 use Rattle.cows.proofs.Places.{size-pos, fill-spot, spot-fits, spot-under}
-use Rattle.cows.proofs.Records.{length-record16}
 use Rattle.cows.proofs.Format.{length-encode}
 use Rattle.cows.proofs.Fields.{table-at, kind-is}
 use Rattle.cows.proofs.Ways.{encode-replaced, depth-part, depth-most, size-swap}

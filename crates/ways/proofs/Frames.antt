@@ -23,13 +23,7 @@ use Rattle.records.specs.Holds.{Holds}
 use Rattle.records.proofs.Stands.{holds-kind, holds-word}
 use Rattle.ways.specs.Ways.{OnWay, Walks, startOf, scopeOf}
 use Rattle.ways.proofs.Climbing.{split-at}
-
--- the kind of the record of a frame
-pub passed-kind : (f : Frame) (s : Term) → kind (passed f) ≡ kindOf (plug f s)
-unfolding passed plug kindOf root
-passed-kind (inside u) s = refl
-passed-kind (leftOf j t) s = refl
-passed-kind (rightOf j t) s = refl
+use Rattle.cows.proofs.Rows.{plug-kind}
 
 frame-choice : (f : Frame) (s : Term) → frameChooses f ≡ eqb (kindOf (plug f s)) 5
 unfolding frameChooses plug kindOf root
@@ -96,11 +90,11 @@ module _ (s way : List ℕ) (n : ℕ) (t : Term) (a : ℕ) (h : Walks s way n t 
 
     pub live-turn : liveKind (getD s (16 * p) 0) ≡ true → live (drop k (wayTo t a)) ≡ live (drop (k + 1) (wayTo t a))
     unfolding live every onKind
-    live-turn e = rw (step .way, way-next, passed-kind (step .frame) inner, ← way-kind, e)
+    live-turn e = rw (step .way, way-next, ← plug-kind (step .frame) inner, ← way-kind, e)
 
     pub live-stop : liveKind (getD s (16 * p) 0) ≡ false → live (drop k (wayTo t a)) ≡ false
     unfolding live every onKind
-    live-stop e = rw (step .way, passed-kind (step .frame) inner, ← way-kind, e)
+    live-stop e = rw (step .way, ← plug-kind (step .frame) inner, ← way-kind, e)
 
     pub start-turn : (c : ℕ) → getD s (16 * p) 0 ≡ 5 → startOf c (drop k (wayTo t a)) ≡ startOf p (drop (k + 1) (wayTo t a))
     unfolding startOf

@@ -1,9 +1,9 @@
 use borrow.Author.Needs.{needs}
 use mathlib.Core.Path.{refl, sym, _∙_}
 use native.Mathlib.Omega.{arith}
+use Rattle.cows.proofs.Rows.{length-record16}
 use Rattle.cows.specs.Terms.{nil}
 use Rattle.cows.specs.Kinds.{basic}
-use Rattle.cows.proofs.Records.{length-record16}
 use Rattle.records.specs.Rewrites.{put}
 use Rattle.renaming.proofs.Bound.{closed-goes, closed-stays, bound-nil, bound-gone, bound-kept, room-nil, room-kept}
 use Rattle.renaming.proofs.Mapped.{length-mapRecord}
