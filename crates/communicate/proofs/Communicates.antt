@@ -3,17 +3,17 @@ use mathlib.Core.Path.{_≡_, refl, ap, _∙_}
 use mathlib.Core.Bool.{true, false, _&&_}
 use mathlib.Core.Option.{none, some}
 use mathlib.Core.List.{List}
-use Prim.Native.Nat.{ℕ, _+_, _*_, _-_, _/_, _<_}
+use Prim.Native.Nat.{ℕ, _+_, _-_, _/_, _<_}
 use native.Mathlib.Omega.{arith}
 use lib.Dec.{ltb, eqb}
 use lib.ListN.{length, getD}
 use Rattle.cows.specs.Basics.{every, placeIf, refuse, accept, _>>=_, _>>_, forbid}
-use Rattle.cows.specs.Terms.{Term, leaf, under, Ends, size, prefixed, receives, invokes, below, receiveOf, invokeOf}
+use Rattle.cows.specs.Terms.{Term, leaf, under, Action, size, prefixed, receives, invokes, below, receiveOf, invokeOf}
 use Rattle.cows.specs.Kinds.{root, kindOf}
 use Rattle.cows.specs.Places.{wayTo, sub, first}
 use Rattle.cows.specs.Format.{byte, layout, record16}
 use Rattle.cows.specs.Active.{live, wanted}
-use Rattle.cows.specs.Moves.{Substitution, Matching, binds, differs, closedEnds, fit, matched, inScope, heldBack, tighter, silence, continue, bind, communicateAt}
+use Rattle.cows.specs.Moves.{Substitution, Matching, binds, differs, closedAction, fit, matched, inScope, heldBack, tighter, silence, continue, bind, communicateAt}
 use Rattle.cows.proofs.Meeting.{fit-fits}
 use Rattle.cows.proofs.Stands.{receives-is, invokes-is, prefixed-is, live-wanted}
 use Rattle.ways.specs.Known.{Table, Known}
@@ -22,7 +22,7 @@ use Rattle.ways.proofs.Tables.{table-size, table-ended, live-inside, walk-known
 use Rattle.matching.specs.declared.Difference.{Difference}
 use Rattle.matching.specs.declared.Fit.{Fit}
 use Rattle.matching.specs.declared.Fit.the-variants.{Binds, Differs}
-use Rattle.matching.specs.Matching.{fitOf, EndsAt}
+use Rattle.matching.specs.Matching.{fitOf, ActionAt}
 use Rattle.matching.proofs.Parties.{receive-here, invoke-here}
 use Rattle.plans.specs.declared.Judgement.the-variants.{Allowed}
 use Rattle.plans.specs.declared.Plan.{Plan}
@@ -34,11 +34,11 @@ use Rattle.scoping.specs.Scopes as scopes
 use Rattle.communicate.specs.Judging.{BothLive, Meetable}
 use Rattle.communicate.proofs.Meets.{Matched, left, accepted-met}
 
-kind-of-receive : (s : Term) (q : Ends) → prefixed receives s ≡ some q → kindOf s ≡ 3
+kind-of-receive : (s : Term) (q : Action) → prefixed receives s ≡ some q → kindOf s ≡ 3
 unfolding kindOf root record16 layout byte
 kind-of-receive s q e = ap kindOf (prefixed-is receives receiveOf receives-is s q e)
 
-kind-of-invoke : (s : Term) (m : Ends) → invokes s ≡ some m → kindOf s ≡ 2
+kind-of-invoke : (s : Term) (m : Action) → invokes s ≡ some m → kindOf s ≡ 2
 unfolding kindOf root record16 layout byte
 kind-of-invoke s m e = ap kindOf (invokes-is s m e)
 
@@ -48,7 +48,7 @@ no-receive t a b h = rw (absent (prefixed receives) 3 kind-of-receive t a h)
 
 -- The receive.
 module _ {s receiver : List ℕ} {t : Term} {a k : ℕ} (h : LiveAt s receiver a 3 t k) where
-  pub receiving : (q : Ends) × (sub t a ≡ under (receiveOf q) (below (sub t a))) × EndsAt s a q
+  pub receiving : (q : Action) × (sub t a ≡ under (receiveOf q) (below (sub t a))) × ActionAt s a q
   receiving = receive-here s t a (h .walks .holds) (h .walks .inside) (h .kind-is)
 
   receive-wanted : wanted (prefixed receives) t a ≡ accept (receiving .0)
@@ -61,26 +61,26 @@ module _ {s receiver : List ℕ} {t : Term} {a k : ℕ} (h : LiveAt s receiver a
 
 -- The receive q at place a and the invoke m at place b.
 module _ {s ends : List ℕ} {t : Term} {a b : ℕ} {receiver : List ℕ} {k : ℕ} {sender : List ℕ} {n : ℕ} (z : Table s ends t) (h : BothLive s a b receiver k sender n t) where
-  abbrev receive : (q : Ends) × (sub t a ≡ under (receiveOf q) (below (sub t a))) × EndsAt s a q
+  abbrev receive : (q : Action) × (sub t a ≡ under (receiveOf q) (below (sub t a))) × ActionAt s a q
   receive = receiving (h .receive)
 
-  pub invoke : (m : Ends) × (sub t b ≡ leaf (invokeOf m)) × EndsAt s b m
+  pub invoke : (m : Action) × (sub t b ≡ leaf (invokeOf m)) × ActionAt s b m
   invoke = invoke-here s t b (h .invoke .walks .holds) (h .invoke .walks .inside) (h .invoke .kind-is)
 
-  abbrev pub q : Ends
+  abbrev pub q : Action
   q = receive .0
 
-  abbrev pub m : Ends
+  abbrev pub m : Action
   m = invoke .0
 
   invoke-wanted : wanted invokes t b ≡ accept m
   unfolding invokes
   invoke-wanted = live-wanted invokes t b m _ refl (record { at = record { placed = h .invoke .walks .inside; stands = invoke .1 }; live = h .invoke .live })
 
-  pub ends-b : EndsAt s b m
+  pub ends-b : ActionAt s b m
   ends-b = invoke .2
 
-  pub parties-fit : {r : Fit} → ((q m : Ends) → EndsAt s a q → EndsAt s b m → r ≡ fitOf (fit q m)) → r ≡ fitOf (fit q m)
+  pub parties-fit : {r : Fit} → ((q m : Action) → ActionAt s a q → ActionAt s b m → r ≡ fitOf (fit q m)) → r ≡ fitOf (fit q m)
   parties-fit f = f q m (receive .2) ends-b
 
   pub differ : (d : Difference) → Differs d ≡ fitOf (fit q m) → communicateAt t a b ≡ refuse 12 a
@@ -103,7 +103,7 @@ module _ {s ends : List ℕ} {t : Term} {a b : ℕ} {receiver : List ℕ} {k : �
     abbrev pub σ : Substitution
     σ = pairs .0
 
-    pub meets : scopes.Meets s a b receiver k sender n t σ
+    pub meets : scopes.MatchedParties s a b receiver k sender n t σ
     meets = record {
       within = z .within;
       to-receiver = h .receive .walks;
@@ -115,8 +115,8 @@ module _ {s ends : List ℕ} {t : Term} {a b : ℕ} {receiver : List ℕ} {k : �
       fits = pairs .1;
     }
 
-    pub closed : closedEnds m ≡ true
-    unfolding closedEnds
+    pub closed : closedAction m ≡ true
+    unfolding closedAction
     closed = rw (fit-fits q m σ (pairs .1) .closed)
 
     pub apart : every (inScope t a b) σ ≡ false → communicateAt t a b ≡ refuse 13 a

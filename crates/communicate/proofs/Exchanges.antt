@@ -19,7 +19,7 @@ use Rattle.records.specs.Rewrites.{put}
 use Rattle.records.proofs.Put.{and-then}
 use Rattle.ways.specs.Ways.{startOf}
 use Rattle.ways.proofs.Tables.{table-size, table-ended}
-use Rattle.renaming.specs.Bound.{bound}
+use Rattle.renaming.specs.Bound.{boundRecords}
 use Rattle.plans.specs.Plans.{Asks}
 use Rattle.plans.specs.Cutting.{Span}
 use Rattle.matching.specs.Taking.{takesOf}
@@ -27,7 +27,7 @@ use Rattle.plans.proofs.Continuing.{span}
 use Rattle.communicate.proofs.Meets.{Met, accepted-met}
 use Rattle.communicate.proofs.Replacing.{metRecords, part-bound}
 
--- The bytes ahead of the choice, those of the continuation and those behind the choice, each of them bound, fit the output, and are the table of r.
+-- The bytes ahead of the choice, those of the continuation and those behind the choice, each of them boundRecords, fit the output, and are the table of r.
 pub record Parts (front body back out : List ℕ) (r : Term) : Type 0 where
   pub front-fits : length front ≤ length out
   pub body-fits : length front + length body ≤ length out
@@ -96,5 +96,5 @@ module _ {s ends : List ℕ} (a b : ℕ) {from : ℕ} {out : List ℕ} (q : Asks
     -- by what the code finds the slots to take
     pub asks-parts : {t₀ t₁ t₂ t₃ : Takes} → t₀ ≡ takesOf (word s (16 * a + 6)) (word s (16 * b + 6)) → t₁ ≡ takesOf (word s (16 * a + 8)) (word s (16 * b + 8))
         → t₂ ≡ takesOf (word s (16 * a + 10)) (word s (16 * b + 10)) → t₃ ≡ takesOf (word s (16 * a + 12)) (word s (16 * b + 12))
-        → Parts (bound t₀ t₁ t₂ t₃ b s 0 (from - 0)) (bound t₀ t₁ t₂ t₃ b s (a + 1) (end - (a + 1))) (bound t₀ t₁ t₂ t₃ b s rest (length s / 16 - rest)) out (q .successor)
+        → Parts (boundRecords t₀ t₁ t₂ t₃ b s 0 (from - 0)) (boundRecords t₀ t₁ t₂ t₃ b s (a + 1) (end - (a + 1))) (boundRecords t₀ t₁ t₂ t₃ b s rest (length s / 16 - rest)) out (q .successor)
     asks-parts e₀ e₁ e₂ e₃ = let z : from - 0 ≡ from = omega arith in rw (z, e₀, e₁, e₂, e₃) met-parts

@@ -8,7 +8,7 @@ use lib.Dec.{eqb}
 use lib.ListN.{length, take, drop}
 use borrow.Author.Tests.{eqb-true, eq-eqb, not-true}
 use Rattle.cows.specs.Basics.{any, member, accept, every}
-use Rattle.cows.specs.Terms.{choice, parallel, Term, under, Ends, variable, size, invokes, prefixed, receives, below, receiveOf, leaf, depth, invokeOf}
+use Rattle.cows.specs.Terms.{choice, parallel, Term, under, Action, variable, size, invokes, prefixed, receives, below, receiveOf, leaf, depth, invokeOf}
 use Rattle.cows.specs.Kinds.{Node, distinct}
 use Rattle.cows.specs.Places.{inside, leftOf, rightOf, Way, wayTo, sub, frameDelimits, enclosed, frameChooses}
 use Rattle.cows.specs.Format.{nodes, bytes, encode}
@@ -31,7 +31,7 @@ use Rattle.plans.proofs.Continuing.{cuts}
 use Rattle.communicate.proofs.Silences.{silence-enclosed, left-nodes, left-size, left-depth}
 
 -- The receive q at place a fits the invoke m at place b, and each variable that it binds is in scope.
-pub record Matched (t : Term) (a b : ℕ) (q m : Ends) (σ : Substitution) : Type 0 where
+pub record Matched (t : Term) (a b : ℕ) (q m : Action) (σ : Substitution) : Type 0 where
   pub receiver : a < size t
   pub receives : sub t a ≡ under (receiveOf q) (below (sub t a))
   pub sender : b < size t
@@ -53,8 +53,8 @@ Left t a b σ r = Leaves t a σ (startOf a (wayTo t a)) (nodes (silence t b)) r
 
 -- There are such parties, and r is what they leave.
 pub record Met (t : Term) (a b : ℕ) (r : Term) : Type 0 where
-  pub receive : Ends
-  pub invoke : Ends
+  pub receive : Action
+  pub invoke : Action
   pub pairs : Substitution
   pub matched : Matched t a b receive invoke pairs
   pub leaves : Left t a b pairs r
@@ -86,7 +86,7 @@ enclosed-around d (rightOf choice t ∷ w) h = enclosed-around d w h
 enclosed-around d (rightOf parallel t ∷ w) h = h
 
 -- The receive q at place a and the invoke m at place b match.
-module _ (t : Term) (a b : ℕ) (q m : Ends) (σ : Substitution) (w : Within t) (h : Matched t a b q m σ) where
+module _ (t : Term) (a b : ℕ) (q m : Action) (σ : Substitution) (w : Within t) (h : Matched t a b q m σ) where
   abbrev c : ℕ
   c = startOf a (wayTo t a)
 

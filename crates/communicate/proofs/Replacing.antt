@@ -1,4 +1,4 @@
--- What the four slots of a receive take (matching, specs/Taking) is the substitution of its matching, and the records of a table so bound are its boundNodes (crate cows, proofs/Binds).
+-- What the four slots of a receive take (matching, specs/Taking) is the substitution of its matching, and the records of a table so boundRecords are its boundNodes (crate cows, proofs/Binds).
 use mathlib.Core.Path.{_≡_, refl, sym, ap, ap₂, subst, _∙_}
 use mathlib.Core.Logic.{_≢_}
 use mathlib.Core.Bool.{Bool, true, false, cond}
@@ -9,8 +9,8 @@ use lib.Dec.{eqb}
 use lib.ListN.{length, getD, take, drop, length-drop, take-append-drop}
 use lib.Seq.{length-take-le}
 use borrow.Author.Tests.{eq-eqb, ne-eqb}
-use Rattle.cows.specs.Basics.{any, holds}
-use Rattle.cows.specs.Terms.{nil, kill, invoke, receive, wait, protection, delimitation, replication, choice, parallel, Term, leaf, Ends, variable, size, delimits, delimitsAtom, below, invokeOf}
+use Rattle.cows.specs.Basics.{any, foundWith}
+use Rattle.cows.specs.Terms.{nil, kill, invoke, receive, wait, protection, delimitation, replication, choice, parallel, Term, leaf, Action, variable, size, delimits, delimitsAtom, below, invokeOf}
 use Rattle.cows.specs.Kinds.{Node, basic, prefix, join, root}
 use Rattle.cows.specs.Places.{sub}
 use Rattle.cows.specs.Format.{byte, word, nodes, layout, record16, bytes, encode}
@@ -32,10 +32,10 @@ use Rattle.records.specs.declared.Takes.{Takes}
 use Rattle.records.specs.Holds.{Holds}
 use Rattle.records.specs.Rewrites.{Has}
 use Rattle.records.proofs.Put.{has-left, has-right, has-take}
-use Rattle.matching.specs.Matching.{EndsAt}
+use Rattle.matching.specs.Matching.{ActionAt}
 use Rattle.matching.proofs.Parties.{receive-ends, invoke-ends}
 use Rattle.renaming.specs.Mapped.{mapNode, mapRecord, along}
-use Rattle.renaming.specs.Bound.{takesOne, imageOfAll, goes, boundRecord, bound}
+use Rattle.renaming.specs.Bound.{takesOne, imageOfAll, goes, recordBound, boundRecords}
 use Rattle.renaming.proofs.Mapped.{record-mapped}
 use Rattle.renaming.proofs.Occurring.{not-zero}
 use Rattle.matching.specs.Taking.{takesOf}
@@ -89,7 +89,7 @@ module _ (t₀ t₁ t₂ t₃ : Takes) (σ : Substitution) (same : (a : ℕ) →
       rw z (unfold record16 layout byte in refl)
 
   goes-node : (n : Node) → RightNode n → goes t₀ t₁ t₂ t₃ (record16 n) ≡ any (λ (p : ℕ × ℕ). nodeDelimits (p .0) n) σ
-  unfolding goes record16 layout byte nodeDelimits delimitsAtom delimits holds
+  unfolding goes record16 layout byte nodeDelimits delimitsAtom delimits foundWith
   goes-node (basic nil) r = sym (any-none σ)
   goes-node (basic (kill k)) r = sym (any-none σ)
   goes-node (basic (invoke p o ws)) r = sym (any-none σ)
@@ -113,15 +113,15 @@ module _ (t₀ t₁ t₂ t₃ : Takes) (σ : Substitution) (same : (a : ℕ) →
   unfolding bindNode
   kept-bound n r = rw (goes-node n r, record-same (record16 n), ← record-mapped (image σ) zero-same n) (cond-bytes (any (λ (p : ℕ × ℕ). nodeDelimits (p .0) n) σ) (mapNode (image σ) n))
 
-  node-bound : (b i : ℕ) (n : Node) → RightNode n → boundRecord t₀ t₁ t₂ t₃ b i (record16 n) ≡ bytes (bindNode σ (cond (eqb i b) (basic nil) n))
-  unfolding boundRecord
+  node-bound : (b i : ℕ) (n : Node) → RightNode n → recordBound t₀ t₁ t₂ t₃ b i (record16 n) ≡ bytes (bindNode σ (cond (eqb i b) (basic nil) n))
+  unfolding recordBound
   node-bound b i n r = go (eqb i b)
     where
       go : (x : Bool) → cond x (record16 (basic nil)) (cond (goes t₀ t₁ t₂ t₃ (record16 n)) [] (mapRecord (imageOfAll t₀ t₁ t₂ t₃) (record16 n))) ≡ bytes (bindNode σ (cond x (basic nil) n))
       go true = nil-bound
       go false = kept-bound n r
 
-  records-bound : (b : ℕ) (s : List ℕ) (i : ℕ) (ns : List Node) → RightNodes ns → Has s (16 * i) (bytes ns) → bound t₀ t₁ t₂ t₃ b s i (length ns) ≡ bytes (boundNodes σ (silenced b i ns))
+  records-bound : (b : ℕ) (s : List ℕ) (i : ℕ) (ns : List Node) → RightNodes ns → Has s (16 * i) (bytes ns) → boundRecords t₀ t₁ t₂ t₃ b s i (length ns) ≡ bytes (boundNodes σ (silenced b i ns))
   unfolding along flatMap silenced
   records-bound b s i [] r k = refl
   records-bound b s i (n ∷ ns) r k =
@@ -131,18 +131,18 @@ module _ (t₀ t₁ t₂ t₃ : Takes) (σ : Substitution) (same : (a : ℕ) →
       (ap₂ _++_ (node-bound b i n (r .0)) (records-bound b s (suc i) ns (r .1) (has-right (record16 n) (bytes ns) (16 * suc i) (omega arith) k))
       ∙ sym (append-bytes (bindNode σ (cond (eqb i b) (basic nil) n)) (boundNodes σ (silenced b (suc i) ns))))
 
--- The n records of s from place i on, as they are written: the invoke at place b is silenced, and what the receive at place a takes from it is bound.
+-- The n records of s from place i on, as they are written: the invoke at place b is silenced, and what the receive at place a takes from it is boundRecords.
 abbrev pub metRecords : (s : List ℕ) (a b i n : ℕ) → List ℕ
 metRecords s a b i n =
-    bound (takesOf (word s (16 * a + 6)) (word s (16 * b + 6))) (takesOf (word s (16 * a + 8)) (word s (16 * b + 8))) (takesOf (word s (16 * a + 10)) (word s (16 * b + 10)))
+    boundRecords (takesOf (word s (16 * a + 6)) (word s (16 * b + 6))) (takesOf (word s (16 * a + 8)) (word s (16 * b + 8))) (takesOf (word s (16 * a + 10)) (word s (16 * b + 10)))
     (takesOf (word s (16 * a + 12)) (word s (16 * b + 12))) b s i n
 
 -- The receive q at place a and the invoke m at place b match.
-module _ (s : List ℕ) (t : Term) (a b : ℕ) (q m : Ends) (σ : Substitution) (w : Within t) (h : Matched t a b q m σ) (k : Holds s t) where
-  receiver : EndsAt s a q
+module _ (s : List ℕ) (t : Term) (a b : ℕ) (q m : Action) (σ : Substitution) (w : Within t) (h : Matched t a b q m σ) (k : Holds s t) where
+  receiver : ActionAt s a q
   receiver = receive-ends s t a k (h .receiver) q (below (sub t a)) (h .receives)
 
-  sender : EndsAt s b m
+  sender : ActionAt s b m
   sender = invoke-ends s t b k (h .sender) m (h .invokes)
 
   matches : Matches (q .tuple) (m .tuple) σ
@@ -182,5 +182,5 @@ module _ (s : List ℕ) (t : Term) (a b : ℕ) (q m : Ends) (σ : Substitution) 
         let r : RightNodes part = all-take RightNode n (drop i (nodes t)) (all-take RightNode i (nodes t) (right-nodes t (k .right)) .1) .0 in
         let l = receiver .few in
         rw (part-silenced, receiver .slot0, receiver .slot1, receiver .slot2, receiver .slot3, sender .slot0, sender .slot1, sender .slot2, sender .slot3)
-        (subst (λ x. bound (slot 0) (slot 1) (slot 2) (slot 3) b s i x ≡ bytes (boundNodes σ (silenced b i part))) z
+        (subst (λ x. boundRecords (slot 0) (slot 1) (slot 2) (slot 3) b s i x ≡ bytes (boundNodes σ (silenced b i part))) z
         (records-bound (slot 0) (slot 1) (slot 2) (slot 3) σ (images-match t matches all-bind l) (λ x e. takers-match t matches all-bind l x) (image-other t σ all-bind 0 refl) b s i part r part-has))

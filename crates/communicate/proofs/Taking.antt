@@ -6,12 +6,12 @@ use Prim.Native.Nat.{ℕ, zero, suc, _≤_}
 use native.Mathlib.Omega.{arith}
 use lib.Dec.{eqb}
 use lib.ListN.{length, getD}
-use borrow.Author.Tests.{eqb-true, eq-eqb}
+use borrow.Author.Tests.{eqb-true}
 use Rattle.cows.specs.Basics.{any}
 use Rattle.cows.specs.Terms.{Term, variable}
 use Rattle.cows.specs.Allows.{Matches, empty, takes, equals}
 use Rattle.cows.specs.Moves.{Substitution, image}
-use Rattle.cows.proofs.Basics.{bool-case, cond-case₂, clash, not-so, same-test, or-none}
+use Rattle.cows.proofs.Basics.{bool-case, cond-case₂, clash, not-so, or-none}
 use Rattle.cows.proofs.Binding.{AllBind}
 use Rattle.records.specs.declared.Variable as variables
 use Rattle.records.specs.declared.Atom.{Atom}

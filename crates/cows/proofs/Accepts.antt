@@ -4,7 +4,7 @@ use mathlib.Core.List.{List}
 use Prim.Native.Nat.{ℕ}
 use Rattle.cows.specs.Basics.{accept}
 use Rattle.cows.specs.Terms.{Term}
-use Rattle.cows.specs.Format.{Bytes}
+use Rattle.cows.specs.Format.{AreBytes}
 use Rattle.cows.specs.Tables.{judge}
 use Rattle.cows.specs.Step.{readMove, judgeStep}
 use Rattle.cows.specs.Within.{Within}
@@ -15,7 +15,7 @@ use Rattle.cows.proofs.Allows.{successor-allows, allows-successor}
 use Rattle.cows.proofs.Step.{Accepted, judged-step, step-judged, accepted-step}
 use Rattle.cows.proofs.Preserving.{step-within}
 
-pub accepted-accepts : (table m : List ℕ) (room : ℕ) (s : Term) → Bytes table → judgeStep table m room ≡ accept s → Accepts table m room s
+pub accepted-accepts : (table m : List ℕ) (room : ℕ) (s : Term) → AreBytes table → judgeStep table m room ≡ accept s → Accepts table m room s
 accepted-accepts table m room s h e =
     let (t, et, a) = judged-step table m room s e in
     let w = judge-within table t h et in

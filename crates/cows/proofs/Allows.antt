@@ -1,5 +1,5 @@
--- The successor that the moves compute (specs/Moves) is the one that the rules allow (specs/Allows), on every term within the limits:
--- successor-allows and allows-successor; so the rules allow at most one successor of a move, allows-unique.
+-- The successor that the moves compute (specs/Moves) is the oneIf that the rules allow (specs/Allows), on every term within the limits:
+-- successor-allows and allows-successor; so the rules allow at most oneIf successor of a move, allows-unique.
 use mathlib.Core.Path.{_≡_, refl, sym, ap, subst, _∙_}
 use mathlib.Core.Bool.{true, false, not, _||_}
 use mathlib.Core.Option.{Option, none, some}
@@ -9,14 +9,14 @@ use native.Mathlib.Omega.{arith}
 use lib.Dec.{ltb, eqb}
 use lib.ListN.{length}
 use borrow.Author.Tests.{ltb-true, ltb-false, eq-eqb, eqb-true, ne-eqb, eqb-false, not-false}
-use Rattle.cows.specs.Basics.{any, every, holds, accept, _>>=_, _>>_, forbid, placeIf}
-use Rattle.cows.specs.Terms.{nil, kill, Prefix, receive, wait, protection, delimitation, replication, choice, parallel, Term, leaf, under, both, Ends, variable, label, size, kills, invokes, prefixed, receives, waits, delimits, delimitsAtom, replicates, below, uses, usesBasic, binders, atoms, invokeOf, receiveOf}
+use Rattle.cows.specs.Basics.{any, every, foundWith, accept, _>>=_, _>>_, forbid, placeIf, oneIf}
+use Rattle.cows.specs.Terms.{nil, kill, Prefix, receive, wait, protection, delimitation, replication, choice, parallel, Term, leaf, under, both, Action, variable, label, size, kills, invokes, prefixed, receives, waits, delimits, delimitsAtom, replicates, below, uses, usesBasic, binders, atoms, invokeOf, receiveOf}
 use Rattle.cows.specs.Kinds.{open-kinds}
 use Rattle.cows.specs.Places.{Frame, inside, leftOf, rightOf, plug, Way, fill, wayTo, sub, first, enclosed, frameChooses, passed}
-use Rattle.cows.specs.Within.{Right, one, counts, Within}
+use Rattle.cows.specs.Within.{Right, counts, Within}
 use Rattle.cows.specs.Active.{live, wanted, onKind}
 use Rattle.cows.specs.Moves.{Substitution, binds, haltBeside, haltInside, afterKill, killAt, fit, matched, inScope, heldBack, tighter, silence, continue, bind, communicateAt, timeoutAt, shorter, elapseBy, renaming, afterUnfold, unfoldAt, fitting, exchange, afterExtrude, extrudeAt, Move, Kill, Communicate, Timeout, Elapse, Unfold, Extrude, successor, freshCopy}
-use Rattle.cows.specs.Allows.{Stands, Live, Meets, Renames, Ended, Choice, Exchanged, Replaced, Instantiated, Elapsed, Parent, onLeft, onRight, protected, delimited, Allows, by-kill, by-communicate, by-timeout, by-elapse, by-unfold, by-extrude}
+use Rattle.cows.specs.Allows.{Stands, StandsLive, Meets, Renames, Ended, Choice, Exchanged, Replaced, Instantiated, Elapsed, Parent, onLeft, onRight, protected, delimited, Allows, by-kill, by-communicate, by-timeout, by-elapse, by-unfold, by-extrude}
 use Rattle.cows.proofs.Basics.{never, and-true, or-false, or-right, not-so, any-append, bind-accept, same-accept, forbid-accept, placeIf-none}
 use Rattle.cows.proofs.Renaming.{renaming-renames, renames-unique}
 use Rattle.cows.proofs.Atoms.{few-binders, few-atoms, binders-right}
@@ -31,22 +31,22 @@ use Rattle.cows.proofs.Instances.{Unique, instantiated-bind, Distinct, 
 
 -- a live prefix of the kind looked for
 wanted-under : {A : Type 0} (f : Prefix → Option A) (g : A → Prefix) → ((u : Prefix) (x : A) → f u ≡ some x → u ≡ g x) → (t : Term) (n : ℕ) (x : A) → wanted (prefixed f) t n ≡ accept x
-    → Live t n (under (g x) (below (sub t n)))
+    → StandsLive t n (under (g x) (below (sub t n)))
 wanted-under f g is t n x e = wanted-live (prefixed f) t n x _ (prefixed-is f g is (sub t n) x) e
 
 -- kill
-pub kill-fires : (t s : Term) (a : ℕ) → killAt t a ≡ accept s → (k : ℕ) × Live t a (leaf (kill k)) × (afterKill k t a ≡ s)
+pub kill-fires : (t s : Term) (a : ℕ) → killAt t a ≡ accept s → (k : ℕ) × StandsLive t a (leaf (kill k)) × (afterKill k t a ≡ s)
 unfolding killAt
 kill-fires t s a e =
     let (k, ek, es) = bind-accept (wanted kills t a) _ s e in
     (k, wanted-live kills t a k _ (kills-is (sub t a) k) ek, same-accept es)
 
--- there is but one [k]
+-- there is but oneIf [k]
 kill-once : (t s : Term) (a k : ℕ) (v w : Way) → Within t → sub t a ≡ s → wayTo t a ≡ v ++ (inside (delimitation k) ∷ w) → enclosed k v ≡ false
-unfolding delimitsAtom delimits holds
+unfolding delimitsAtom delimits foundWith
 kill-once t s a k v w h q e =
     let whole : t ≡ fill w (under (delimitation k) (fill v s)) = sym (fill-spot t a) ∙ (ap (fill (wayTo t a)) q ∙ fill-cut k v w (wayTo t a) e s) in
-    not-so (λ n. omega (arith, h .formed .unique k, ap (counts k) whole, counts-fill w (under (delimitation k) (fill v s)) k, ap one (eq-eqb k k refl), counts-enclosed v s k n))
+    not-so (λ n. omega (arith, h .formed .unique k, ap (counts k) whole, counts-fill w (under (delimitation k) (fill v s)) k, ap oneIf (eq-eqb k k refl), counts-enclosed v s k n))
 
 kill-after : (t : Term) (a k : ℕ) (v u w : Way) → wayTo t a ≡ v ++ (inside (delimitation k) ∷ w) → enclosed k v ≡ false → Ended v u
     → afterKill k t a ≡ fill w (under (delimitation k) (fill u (leaf nil)))
@@ -68,7 +68,7 @@ KillLeaves t a k s =
     (v : Way) × (u : Way) × (w : Way) × (wayTo t a ≡ v ++ (inside (delimitation k) ∷ w)) × (enclosed k v ≡ false) × Ended v u
     × (s ≡ fill w (under (delimitation k) (fill u (leaf nil))))
 
-pub kill-leaves : (t : Term) (a k : ℕ) → Within t → Live t a (leaf (kill k)) → KillLeaves t a k (afterKill k t a)
+pub kill-leaves : (t : Term) (a k : ℕ) → Within t → StandsLive t a (leaf (kill k)) → KillLeaves t a k (afterKill k t a)
 kill-leaves t a k h l =
     let (v, w, c, n) = nearest k (wayTo t a) (kill-enclosed t a k h (l .at)) in
     let d = halts-ended v (or-false (any frameChooses v) _ (rw (c, any-append) at (live-unchosen t a (leaf (kill k)) (h .formed .guarded) l (unfold open-kinds in refl))) .0) in
@@ -80,12 +80,12 @@ kill-allows t s a h e =
     let (v, u, w, c, n, d, z) = kill-leaves t a k h l in
     subst (Allows t (Kill a)) (sym z ∙ q) (by-kill a k v u w l c d)
 
-allows-kill : (t : Term) (a k : ℕ) → Live t a (leaf (kill k)) → killAt t a ≡ accept (afterKill k t a)
+allows-kill : (t : Term) (a k : ℕ) → StandsLive t a (leaf (kill k)) → killAt t a ≡ accept (afterKill k t a)
 unfolding killAt _>>=_ kills
 allows-kill t a k l = rw (live-wanted kills t a k (leaf (kill k)) refl l)
 
 -- communicate
-meets : (t : Term) (a b : ℕ) (r m : Ends) (σ : Substitution) → wanted (prefixed receives) t a ≡ accept r → wanted invokes t b ≡ accept m → fit r m ≡ binds σ
+meets : (t : Term) (a b : ℕ) (r m : Action) (σ : Substitution) → wanted (prefixed receives) t a ≡ accept r → wanted invokes t b ≡ accept m → fit r m ≡ binds σ
     → every (inScope t a b) σ ≡ true → first (heldBack a b) t ≡ none → first (tighter m (length σ)) t ≡ none → Meets t a b σ
 meets t a b r m σ er em eσ sc hb tg =
     let f = fit-fits r m σ eσ in
@@ -119,8 +119,8 @@ communicate-meets t s a b e =
 pub meets-communicate : (t : Term) (a b : ℕ) (σ : Substitution) → Meets t a b σ → communicateAt t a b ≡ accept (bind σ (continue (silence t b) a))
 unfolding communicateAt _>>=_ _>>_ forbid matched placeIf prefixed receives invokes
 meets-communicate t a b σ h =
-    let r : Ends = record { partner = h .partner; operation = h .operation; tuple = h .pattern } in
-    let m : Ends = record { partner = h .partner; operation = h .operation; tuple = h .sent } in
+    let r : Action = record { partner = h .partner; operation = h .operation; tuple = h .pattern } in
+    let m : Action = record { partner = h .partner; operation = h .operation; tuple = h .sent } in
     rw (
       live-wanted (prefixed receives) t a r (under (receiveOf r) (h .body)) refl (h .receiver),
       live-wanted invokes t b m (leaf (invokeOf m)) refl (h .sender),
@@ -166,7 +166,7 @@ continue-leaves : (t : Term) (a : ℕ) (u : Prefix) (r : Term) (c w : Way) → s
 unfolding continue below
 continue-leaves t a u r c w e q h = rw (e, q, choice-around c w h)
 
-timeout-leaves : (t : Term) (a : ℕ) (r : Term) → Live t a (under (wait 0) r) → Allows t (Timeout a) (continue t a)
+timeout-leaves : (t : Term) (a : ℕ) (r : Term) → StandsLive t a (under (wait 0) r) → Allows t (Timeout a) (continue t a)
 timeout-leaves t a r l =
     let (c, w, q, h) = choice-split (wayTo t a) in
     subst (Allows t (Timeout a)) (sym (continue-leaves t a (wait 0) r c w (l .at .stands) q h)) (by-timeout a r c w l q h)
@@ -179,16 +179,16 @@ timeout-allows t s a e =
     let q = eqb-true i 0 (not-false _ (placeIf-none _ a z)) in
     subst (Allows t (Timeout a)) (same-accept e₂) (timeout-leaves t a (below (sub t a)) (rw q at (wanted-under waits wait waits-is t a i ei)))
 
-allows-timeout : (t : Term) (a : ℕ) (r : Term) (c w : Way) → Live t a (under (wait 0) r) → wayTo t a ≡ c ++ w → Choice c w → timeoutAt t a ≡ accept (fill w r)
+allows-timeout : (t : Term) (a : ℕ) (r : Term) (c w : Way) → StandsLive t a (under (wait 0) r) → wayTo t a ≡ c ++ w → Choice c w → timeoutAt t a ≡ accept (fill w r)
 unfolding timeoutAt _>>=_ _>>_ forbid placeIf prefixed waits
 allows-timeout t a r c w l q h = rw (live-wanted (prefixed waits) t a 0 (under (wait 0) r) refl l) (ap accept (continue-leaves t a (wait 0) r c w (l .at .stands) q h))
 
 -- elapse
 abbrev Covered : Term → ℕ → Type 0
-Covered t d = (n i : ℕ) (s : Term) → Live t n (under (wait i) s) → d ≤ i
+Covered t d = (n i : ℕ) (s : Term) → StandsLive t n (under (wait i) s) → d ≤ i
 
 shorter-covered : (t : Term) (d : ℕ) → first (shorter d) t ≡ none → Covered t d
-unfolding shorter holds prefixed waits
+unfolding shorter foundWith prefixed waits
 shorter-covered t d e n i s l = ltb-false i d (rw (l .live) at (first-fails (shorter d) t e n (under (wait i) s) (l .at)))
 
 covered-shorter : (t : Term) (d : ℕ) → Covered t d → first (shorter d) t ≡ none
@@ -235,7 +235,7 @@ unfold-allows t s a w e =
     let c = map-replaced (renaming (atoms t) (binders (below (sub t a)))) (below (sub t a)) in
     subst (Allows t (Unfold a)) (sym (unfolded-is t _ _ a _ (l .at .stands) refl c) ∙ same-accept e₁) (by-unfold a _ _ _ l (copy-renames t _ a w (l .at .stands)) c)
 
-allows-unfold : (t : Term) (a : ℕ) (s c : Term) (σ : Substitution) → Within t → Live t a (under replication s) → Renames (atoms t) (binders s) σ → Replaced σ s c
+allows-unfold : (t : Term) (a : ℕ) (s c : Term) (σ : Substitution) → Within t → StandsLive t a (under replication s) → Renames (atoms t) (binders s) σ → Replaced σ s c
     → unfoldAt t a ≡ accept (fill (wayTo t a) (both parallel c (under replication s)))
 unfolding unfoldAt _>>=_ prefixed replicates
 allows-unfold t a s c σ w l r h =
@@ -263,7 +263,7 @@ parent-fitting w onRight = refl
 parent-fitting w protected = refl
 parent-fitting w delimited = refl
 
-fitting-allows : (t : Term) (a d : ℕ) → Live t a (under (delimitation d) (below (sub t a))) → label d ≡ false → fitting (wayTo t a) ≡ true → Allows t (Extrude a) (afterExtrude d t a)
+fitting-allows : (t : Term) (a d : ℕ) → StandsLive t a (under (delimitation d) (below (sub t a))) → label d ≡ false → fitting (wayTo t a) ≡ true → Allows t (Extrude a) (afterExtrude d t a)
 unfolding afterExtrude exchange
 fitting-allows t a d l h e =
     let (f, w, q, p) = fitting-parent (wayTo t a) e in
@@ -277,7 +277,7 @@ extrude-allows t s a e =
     let (h, f) = or-false (label d) (not (fitting (wayTo t a))) (placeIf-none _ a z) in
     subst (Allows t (Extrude a)) (same-accept e₂) (fitting-allows t a d (wanted-under delimits delimitation delimits-is t a d ed) h (not-false _ f))
 
-allows-extrude : (t : Term) (a d : ℕ) (s : Term) (f : Frame) (w : Way) → Live t a (under (delimitation d) s) → label d ≡ false → wayTo t a ≡ f ∷ w → Parent f
+allows-extrude : (t : Term) (a d : ℕ) (s : Term) (f : Frame) (w : Way) → StandsLive t a (under (delimitation d) s) → label d ≡ false → wayTo t a ≡ f ∷ w → Parent f
     → extrudeAt t a ≡ accept (fill w (under (delimitation d) (plug f s)))
 unfolding extrudeAt afterExtrude exchange _>>=_ _>>_ forbid placeIf prefixed delimits below
 allows-extrude t a d s f w l h q p =

@@ -11,7 +11,7 @@ use native.Mathlib.Numerals.{add-one}
 use lib.Dec.{ltb, eqb}
 use lib.ListN.{getD, replicate}
 use borrow.Author.Tests.{ltb-true, ltb-false, eqb-true, eq-eqb, eqb-false}
-use Rattle.cows.specs.Basics.{any, every, member, same, holds, found, only, placeIf, orElse, firstFrom, Result, refuse, accept, _>>=_, _>>_, forbid, need}
+use Rattle.cows.specs.Basics.{any, every, member, sameList, foundWith, found, only, placeIf, orElse, firstFrom, Result, refuse, accept, _>>=_, _>>_, forbid, need}
 
 -- a false test proves anything
 pub never : {A : Type 0} → false ≡ true → A
@@ -24,7 +24,7 @@ pub cond-case : {A : Type 0} (P : A → Type 0) (b : Bool) {x y : A} → (b ≡ 
 cond-case P true f g = f refl
 cond-case P false f g = g refl
 
--- both of two conds by the same test
+-- both of two conds by the sameList test
 pub cond-case₂ : {A B : Type 0} (P : A → B → Type 0) (b : Bool) {x y : A} {u v : B} → (b ≡ true → P x u) → (b ≡ false → P y v) → P (cond b x y) (cond b u v)
 cond-case₂ P true f g = f refl
 cond-case₂ P false f g = g refl
@@ -173,8 +173,8 @@ unfolding found
 found-some none e = never e
 found-some (some a) e = (a, refl)
 
-pub holds-some : {A : Type 0} (f : A → Bool) (o : Option A) → holds f o ≡ true → (a : A) × (o ≡ some a) × (f a ≡ true)
-unfolding holds
+pub holds-some : {A : Type 0} (f : A → Bool) (o : Option A) → foundWith f o ≡ true → (a : A) × (o ≡ some a) × (f a ≡ true)
+unfolding foundWith
 holds-some f none e = never e
 holds-some f (some a) e = (a, refl, e)
 
@@ -242,13 +242,13 @@ getD-zeros zero i = refl
 getD-zeros (suc n) zero = refl
 getD-zeros (suc n) (suc i) = getD-zeros n i
 
-pub same-eq : (xs ys : List ℕ) → same xs ys ≡ true → xs ≡ ys
-unfolding same
+pub same-eq : (xs ys : List ℕ) → sameList xs ys ≡ true → xs ≡ ys
+unfolding sameList
 same-eq [] [] e = refl
 same-eq [] (y ∷ ys) e = cc
 same-eq (x ∷ xs) [] e = cc
 same-eq (x ∷ xs) (y ∷ ys) e =
-    let (h, t) = and-true (eqb x y) (same xs ys) e in
+    let (h, t) = and-true (eqb x y) (sameList xs ys) e in
     rw (eqb-true x y h, same-eq xs ys t)
 
 pub eqb-swap : (a b : ℕ) → eqb a b ≡ false → eqb b a ≡ false

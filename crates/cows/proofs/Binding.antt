@@ -7,11 +7,11 @@ use Prim.Native.Nat.{ℕ, suc, _+_, _≤_}
 use native.Mathlib.Omega.{arith}
 use lib.Dec.{eqb}
 use borrow.Author.Tests.{eqb-true, eqb-false, eq-eqb, not-true}
-use Rattle.cows.specs.Basics.{any, every, member, holds, found, All}
-use Rattle.cows.specs.Terms.{nil, kill, invoke, Prefix, receive, wait, protection, delimitation, replication, choice, parallel, Term, leaf, under, both, Ends, value, variable, label, datum, size, invokes, prefixed, delimits, delimitsAtom, usesBasic, usesPrefix, binders}
+use Rattle.cows.specs.Basics.{any, every, member, foundWith, found, All, oneIf}
+use Rattle.cows.specs.Terms.{nil, kill, invoke, Prefix, receive, wait, protection, delimitation, replication, choice, parallel, Term, leaf, under, both, Action, value, variable, label, datum, size, invokes, prefixed, delimits, delimitsAtom, usesBasic, usesPrefix, binders}
 use Rattle.cows.specs.Kinds.{guard, open-kinds}
 use Rattle.cows.specs.Places.{inside, leftOf, rightOf, Way, wayTo, first, frameDelimits, enclosed}
-use Rattle.cows.specs.Within.{Right, Guarded, one, counts, restricted, nowhere, Formed}
+use Rattle.cows.specs.Within.{Right, Guarded, counts, restricted, nowhere, Formed}
 use Rattle.cows.specs.Allows.{Matches, empty, takes, equals}
 use Rattle.cows.specs.Moves.{Substitution, binds, fit, outside, inScope, image, instantiate, bind}
 use Rattle.cows.proofs.Basics.{never, cond-case, and-true, and-not, or-false, or-left, or-right, or-second, or-case, not-so, found-none, holds-some}
@@ -40,7 +40,7 @@ value-local a h l =
 instead-weakens : (x v : ℕ) (K L : ℕ → Bool) → Inside L K → Weakens (Instead x v (Need K)) (Instead x v (Need L))
 instead-weakens x v K L k a E F i h e = need-weakens K L k v E F i (h e)
 
--- a prefix delimits one atom
+-- a prefix delimits oneIf atom
 pub delimits-one : (a b : ℕ) (u : Prefix) → delimitsAtom a u ≡ true → delimitsAtom b u ≡ true → a ≡ b
 unfolding delimitsAtom
 delimits-one a b u h k =
@@ -57,7 +57,7 @@ pub record Binds (t : Term) (p : ℕ × ℕ) : Type 0 where
 abbrev pub AllBind : Term → Substitution → Type 0
 AllBind t σ = All (Binds t) σ
 
--- what a change of the term keeps of one pair, it keeps of all
+-- what a change of the term keeps of oneIf pair, it keeps of all
 all-bind : (t r : Term) → ((y w : ℕ) → variable y ≡ true → value w ≡ true → Used (Instead y w (Need (restricted t))) nowhere t → Used (Instead y w (Need (restricted r))) nowhere r)
     → (σ : Substitution) → AllBind t σ → AllBind r σ
 all-bind t r k [] h = tt
@@ -71,7 +71,7 @@ module _ (x v : ℕ) (vx : variable x ≡ true) (vv : value v ≡ true) where
   abbrev at : ℕ → ℕ
   at = image ((x, v) ∷ [])
 
-  -- what holds of v, and of each atom but x, holds of the images
+  -- what foundWith of v, and of each atom but x, foundWith of the images
   at-case : (P : ℕ → Type 0) (a : ℕ) → (eqb a x ≡ true → P v) → (eqb a x ≡ false → P a) → P (at a)
   unfolding image
   at-case P a f g = cond-case P (eqb a x) f g
@@ -100,7 +100,7 @@ module _ (x v : ℕ) (vx : variable x ≡ true) (vv : value v ≡ true) where
 
   -- guards
   guard-instantiate : (t : Term) → guard t ≡ true → guard (instantiate x v t) ≡ true
-  unfolding open-kinds instantiate delimitsAtom delimits holds
+  unfolding open-kinds instantiate delimitsAtom delimits foundWith
   guard-instantiate (leaf y) h = h
   guard-instantiate (under (receive p o ws) t) h = h
   guard-instantiate (under (wait n) t) h = h
@@ -123,8 +123,8 @@ module _ (x v : ℕ) (vx : variable x ≡ true) (vv : value v ≡ true) where
   unfolding instantiate
   counts-instantiate (leaf y) l a = omega arith
   counts-instantiate (under u t) l a =
-      cond-case (λ r. counts a r ≤ one (delimitsAtom a u) + counts a t) (delimitsAtom x u)
-      (λ e. omega (arith, counts-at x v t (omega (arith, ap one e)) a)) (λ e. omega (arith, counts-instantiate t (omega arith) a))
+      cond-case (λ r. counts a r ≤ oneIf (delimitsAtom a u) + counts a t) (delimitsAtom x u)
+      (λ e. omega (arith, counts-at x v t (omega (arith, ap oneIf e)) a)) (λ e. omega (arith, counts-instantiate t (omega arith) a))
   counts-instantiate (both j s t) l a = omega (arith, counts-instantiate s (omega arith) a, counts-instantiate t (omega arith) a)
 
   -- scopes: outside [x] nothing changes; inside it, all atoms delimited around a use but x stay so
@@ -247,19 +247,19 @@ values-matches (takes {v = v} {vs = vs} e m) d n =
     ((e, datum-value v d₁ n₁), values-matches m d₂ n₂)
 values-matches (equals {v = v} {vs = vs} e m) d n = values-matches m (and-true (datum v) (every datum vs) d .1) (or-false (variable v) (any variable vs) n .1)
 
-pub values-fit : (r m : Ends) (σ : Substitution) → every datum (m .tuple) ≡ true → fit r m ≡ binds σ → Values σ
+pub values-fit : (r m : Action) (σ : Substitution) → every datum (m .tuple) ≡ true → fit r m ≡ binds σ → Values σ
 unfolding any
 values-fit r m σ d e =
     let f = fit-fits r m σ e in
     values-matches (f .matches) d (or-false (variable (m .operation)) _ (or-false (variable (m .partner)) _ (f .closed) .1) .1)
 
 -- an invoke sends data
-pub invokes-data : (s : Term) (m : Ends) → invokes s ≡ some m → Right s → every datum (m .tuple) ≡ true
+pub invokes-data : (s : Term) (m : Action) → invokes s ≡ some m → Right s → every datum (m .tuple) ≡ true
 unfolding invokes
 invokes-data (leaf nil) m e r = cc
 invokes-data (leaf (kill k)) m e r = cc
 invokes-data (leaf (invoke p o ws)) m e r =
-    let q : _≡_ {A = Ends} (record { partner = p; operation = o; tuple = ws }) m = cc in
+    let q : _≡_ {A = Action} (record { partner = p; operation = o; tuple = ws }) m = cc in
     subst (λ n. every datum (n .tuple) ≡ true) q (r .2 .1)
 invokes-data (under u t) m e r = cc
 invokes-data (both j s t) m e r = cc

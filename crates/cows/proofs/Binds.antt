@@ -7,11 +7,11 @@ use native.Mathlib.Omega.{arith}
 use lib.Dec.{eqb}
 use lib.ListN.{length}
 use borrow.Author.Tests.{eqb-true, eq-eqb}
-use Rattle.cows.specs.Basics.{any, holds, All}
+use Rattle.cows.specs.Basics.{any, foundWith, All, oneIf}
 use Rattle.cows.specs.Terms.{Basic, nil, kill, invoke, Prefix, receive, wait, protection, delimitation, replication, Term, leaf, under, both, value, variable, label, size, depth, delimits, delimitsAtom, usesBasic, usesPrefix}
 use Rattle.cows.specs.Kinds.{Node, basic, prefix, join}
 use Rattle.cows.specs.Format.{nodes}
-use Rattle.cows.specs.Within.{nowhere, one, counts}
+use Rattle.cows.specs.Within.{nowhere, counts}
 use Rattle.cows.specs.Moves.{Substitution, mapBasic, mapPrefix, mapNode, mapAtoms, image, instantiate, bind}
 use Rattle.cows.specs.Records.{nodeDelimits, bindNode, boundNodes}
 use Rattle.cows.proofs.Basics.{clash, cond-case, or-false, or-left, not-so, eqb-swap}
@@ -30,7 +30,7 @@ depth-mapped f (leaf x) = refl
 depth-mapped f (under u t) = ap suc (depth-mapped f t)
 depth-mapped f (both j s t) = rw (depth-mapped f s, depth-mapped f t)
 
--- two lists of records, one behind the other
+-- two lists of records, oneIf behind the other
 pub bound-append : (σ : Substitution) (ms ns : List Node) → boundNodes σ (ms ++ ns) ≡ boundNodes σ ms ++ boundNodes σ ns
 bound-append σ = flatMap-append (bindNode σ)
 
@@ -50,7 +50,7 @@ module _ (f : ℕ → ℕ) where
   basic-same (invoke p o ws) h = rw (h .0, h .1 .0, list-same ws (h .1 .1))
 
   prefix-same : (u : Prefix) → All Same (usesPrefix u) → ((d : ℕ) → delimitsAtom d u ≡ true → Same d) → mapPrefix f u ≡ u
-  unfolding mapPrefix usesPrefix delimitsAtom delimits holds
+  unfolding mapPrefix usesPrefix delimitsAtom delimits foundWith
   prefix-same (receive p o ws) h k = rw (h .0, h .1 .0, list-same ws (h .1 .1))
   prefix-same (wait n) h k = refl
   prefix-same protection h k = refl
@@ -103,7 +103,7 @@ module _ (x v : ℕ) where
     where
       go : (b : Bool) → delimitsAtom x u ≡ b → (delimitsAtom x u ≡ false → E x ≡ false → nodes (instantiate x v t) ≡ boundNodes ((x, v) ∷ []) (nodes t))
           → nodes (cond b (mapAtoms at t) (under u (instantiate x v t))) ≡ bindNode ((x, v) ∷ []) (prefix u) ++ boundNodes ((x, v) ∷ []) (nodes t)
-      go true e k = rw (node-gone (prefix u) e) (sym (bound-inside t (omega (arith, ap one e))))
+      go true e k = rw (node-gone (prefix u) e) (sym (bound-inside t (omega (arith, ap oneIf e))))
       go false e k = rw (node-kept (prefix u) e, prefix-same at u (all-map _ _ (use-other vx E o) (usesPrefix u) (h .0)) (delimits-other u e), k e o)
   instantiate-around vx E o (both j s t) h l =
       rw (node-kept (join j) refl, bound-append ((x, v) ∷ []) (nodes s) (nodes t), instantiate-around vx E o s (h .0) (omega arith), instantiate-around vx E o t (h .1) (omega arith))
@@ -116,8 +116,8 @@ module _ (x v : ℕ) where
   unfolding instantiate size
   instantiate-size (leaf y) l = refl
   instantiate-size (under u t) l =
-      cond-case (λ r. size r + (one (delimitsAtom x u) + counts x t) ≡ suc (size t)) (delimitsAtom x u)
-      (λ e. omega (arith, ap one e, size-map at t)) (λ e. omega (arith, ap one e, instantiate-size t (omega arith)))
+      cond-case (λ r. size r + (oneIf (delimitsAtom x u) + counts x t) ≡ suc (size t)) (delimitsAtom x u)
+      (λ e. omega (arith, ap oneIf e, size-map at t)) (λ e. omega (arith, ap oneIf e, instantiate-size t (omega arith)))
   instantiate-size (both j s t) l = omega (arith, instantiate-size s (omega arith), instantiate-size t (omega arith))
 
   pub instantiate-depth : (t : Term) → depth (instantiate x v t) ≤ depth t
@@ -132,8 +132,8 @@ module _ (x v : ℕ) where
   unfolding instantiate
   counts-other vx vv y o (leaf b) l = refl
   counts-other vx vv y o (under u t) l =
-      cond-case (λ r. counts y r ≡ one (delimitsAtom y u) + counts y t) (delimitsAtom x u)
-      (λ e. omega (arith, counts-at x v t (omega (arith, ap one e)) y, ap one (not-so (λ k. clash (eq-eqb y x (delimits-one y x u k e)) o))))
+      cond-case (λ r. counts y r ≡ oneIf (delimitsAtom y u) + counts y t) (delimitsAtom x u)
+      (λ e. omega (arith, counts-at x v t (omega (arith, ap oneIf e)) y, ap oneIf (not-so (λ k. clash (eq-eqb y x (delimits-one y x u k e)) o))))
       (λ e. omega (arith, counts-other vx vv y o t (omega arith)))
   counts-other vx vv y o (both j s t) l = omega (arith, counts-other vx vv y o s (omega arith), counts-other vx vv y o t (omega arith))
 
@@ -157,7 +157,7 @@ module _ (f g h : ℕ → ℕ) (k : (a : ℕ) → f (g a) ≡ h a) where
 
 -- a record delimits what it did before, but x
 delimits-kept : (x v : ℕ) (n : Node) → nodeDelimits x n ≡ false → (d : ℕ) → nodeDelimits d (mapNode (image ((x, v) ∷ [])) n) ≡ nodeDelimits d n
-unfolding nodeDelimits mapNode mapPrefix delimitsAtom delimits holds
+unfolding nodeDelimits mapNode mapPrefix delimitsAtom delimits foundWith
 delimits-kept x v (basic y) e d = refl
 delimits-kept x v (prefix (receive p o ws)) e d = refl
 delimits-kept x v (prefix (wait n)) e d = refl

@@ -10,8 +10,8 @@ use lib.ListN.{length, getElem?, length-map}
 use Rattle.cows.specs.Basics.{placeIf, Result, refuse, accept, _>>=_, _>>_, forbid, need}
 use Rattle.cows.specs.Terms.{Term, size}
 use Rattle.cows.specs.Kinds.{kind}
-use Rattle.cows.specs.Places.{Spot, spot, first}
-use Rattle.cows.specs.Format.{byte, word, node, rightRecord, records, decode}
+use Rattle.cows.specs.Places.{Spot, spotAt, first}
+use Rattle.cows.specs.Format.{byte, word, readNode, rightRecord, records, decode}
 use Rattle.cows.specs.Tables.{endOf, wrongEnd, children, misshapen, judgeTerm, judge}
 use Rattle.cows.specs.Active.{wanted}
 use Rattle.cows.specs.Moves.{Matching, binds, differs, matched, Move, Kill, Communicate, Timeout, Elapse, Unfold, Extrude, killAt, communicateAt, timeoutAt, elapseBy, unfoldAt, extrudeAt, successor}
@@ -94,7 +94,7 @@ module _ (b : ℕ) where
   module _ (t : Term) (room : size t ≤ b) where
     first-below : (f : ℕ → Spot → Bool) (p : ℕ) → first f t ≡ some p → p < b
     unfolding first
-    first-below f p e = omega (arith, firstFrom-below (λ n. f n (spot t n)) 0 (size t) p e)
+    first-below f p e = omega (arith, firstFrom-below (λ n. f n (spotAt t n)) 0 (size t) p e)
 
     below-term : Below b (judgeTerm t)
     unfolding judgeTerm
@@ -140,10 +140,10 @@ module _ (b : ℕ) where
         below-forbid 1 _ _ (omega arith) (place-below _ 0 b (omega arith))
         (λ e₁. let (l, z) = right-length s (placeIf-none _ 0 e₁) in
         let r : length (records s) ≤ 2048 = omega (arith, length-cut 16 s) in
-        let n : length (map node (records s)) ≤ 2048 = omega (arith, length-map (records s) node) in
+        let n : length (map readNode (records s)) ≤ 2048 = omega (arith, length-map (records s) readNode) in
         below-forbid 2 _ _ (omega arith) (λ p e. omega (arith, failing-below rightRecord 0 (records s) p e))
-        (λ e₂. below-forbid 3 _ _ (omega arith) (λ p e. omega (arith, shape-below _ (endOf children 1 0 (map node (records s))) (λ k q. omega (arith, end-bounds children 1 0 (map node (records s)) k q)) p e))
-        (λ e₃. below-term (decode (map node (records s))) (omega (arith, length-nodes (decode (map node (records s))), ap length (nodes-decode (map node (records s)) e₃))))))
+        (λ e₂. below-forbid 3 _ _ (omega arith) (λ p e. omega (arith, shape-below _ (endOf children 1 0 (map readNode (records s))) (λ k q. omega (arith, end-bounds children 1 0 (map readNode (records s)) k q)) p e))
+        (λ e₃. below-term (decode (map readNode (records s))) (omega (arith, length-nodes (decode (map readNode (records s))), ap length (nodes-decode (map readNode (records s)) e₃))))))
 
     pub below-judgeStep : (table m : List ℕ) (room : ℕ) → word m 2 < b → word m 4 < b → ((t : Term) → judge table ≡ accept t → size t ≤ b) → Below b (judgeStep table m room)
     unfolding judgeStep

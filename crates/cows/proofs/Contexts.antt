@@ -8,15 +8,15 @@ use native.Mathlib.Omega.{arith}
 use lib.Dec.{ltb}
 use lib.ListN.{length, length-append}
 use borrow.Author.Tests.{eq-eqb}
-use Rattle.cows.specs.Basics.{any, every, holds}
+use Rattle.cows.specs.Basics.{any, every, foundWith}
 use Rattle.cows.specs.Terms.{Basic, nil, Prefix, receive, wait, protection, delimitation, replication, Join, choice, parallel, Term, leaf, under, both, size, delimits, delimitsAtom, below}
 use Rattle.cows.specs.Kinds.{guard, prefix, join, kind, liveKind, open-kinds}
-use Rattle.cows.specs.Places.{Frame, inside, leftOf, rightOf, plug, Way, fill, Spot, descend, spot, wayTo, sub, frameDelimits, enclosed, frameChooses, passed}
+use Rattle.cows.specs.Places.{Frame, inside, leftOf, rightOf, plug, Way, fill, Spot, descend, spotAt, wayTo, sub, frameDelimits, enclosed, frameChooses, passed}
 use Rattle.cows.specs.Format.{nodes}
 use Rattle.cows.specs.Active.{live, onKind}
 use Rattle.cows.specs.Within.{Guarded, counts}
 use Rattle.cows.specs.Moves.{haltBeside, haltInside, silence, aroundChoice, continue}
-use Rattle.cows.specs.Allows.{Live, Ended, at-kill, halts-right, halts-left, passes, Choices, no-choice, left-choice, right-choice, Whole, Choice, Exchanged, receive-left, receive-right}
+use Rattle.cows.specs.Allows.{StandsLive, Ended, at-kill, halts-right, halts-left, passes, Choices, no-choice, left-choice, right-choice, Whole, Choice, Exchanged, receive-left, receive-right}
 use Rattle.cows.proofs.Basics.{never, clash, cond-case, or-false, and-none, or-second, every-append, any-append}
 use Rattle.cows.specs.Records.{At, opens, ahead}
 use Rattle.cows.proofs.Places.{size-pos, fill-spot, fill-append, descend-way, descend-first, spot-under, spot-left, spot-right}
@@ -44,7 +44,7 @@ ended-halts (halts-left h e) = cc (halted-halt h, ended-halts e)
 ended-halts (passes e) = cc (ended-halts e)
 
 pub halt-cut : (k : ℕ) (v w : Way) → enclosed k v ≡ false → haltInside k (v ++ (inside (delimitation k) ∷ w)) ≡ map haltBeside v ++ (inside (delimitation k) ∷ w)
-unfolding haltInside enclosed any frameDelimits delimitsAtom delimits holds
+unfolding haltInside enclosed any frameDelimits delimitsAtom delimits foundWith
 halt-cut k [] w e = rw (eq-eqb k k refl)
 halt-cut k (f ∷ v) w e =
     let (p, q) = or-false (frameDelimits k f) (enclosed k v) e in
@@ -100,7 +100,7 @@ unchosen (leftOf parallel t ∷ w) s g l h = unchosen w (both parallel s t) refl
 unchosen (rightOf choice t ∷ w) s g l h = clash (guarded-inner w (both choice t s) h .0 .1) g
 unchosen (rightOf parallel t ∷ w) s g l h = unchosen w (both parallel t s) refl l h
 
-pub live-unchosen : (t : Term) (a : ℕ) (s : Term) → Guarded t → Live t a s → guard s ≡ false → any frameChooses (wayTo t a) ≡ false
+pub live-unchosen : (t : Term) (a : ℕ) (s : Term) → Guarded t → StandsLive t a s → guard s ≡ false → any frameChooses (wayTo t a) ≡ false
 live-unchosen t a s h l g = unchosen (wayTo t a) s g (l .live) (subst Guarded (sym (ap (fill (wayTo t a)) (sym (l .at .stands)) ∙ fill-spot t a)) h)
 
 -- the whole choice around a guard
@@ -175,7 +175,7 @@ choice-swap c (x ∷ v) f g w e h = record { choices = h .choices; whole = first
 -- The place at the end of a way that is filled: as many records stand ahead of it as the way says.
 pub at-fill : (w : Way) (s : Term) → At (fill w s) (length (ahead w)) w s
 unfolding fill plug ahead opens
-at-fill [] s = (size-pos s, unfold sub spot in ap (λ (z : Spot). z .here) (descend-first [] s), unfold wayTo spot in ap (λ (z : Spot). z .way) (descend-first [] s))
+at-fill [] s = (size-pos s, unfold sub spotAt in ap (λ (z : Spot). z .here) (descend-first [] s), unfold wayTo spotAt in ap (λ (z : Spot). z .way) (descend-first [] s))
 at-fill (inside u ∷ w) s =
     let t = fill w (under u s) in
     let n = length (ahead w) in
@@ -353,7 +353,7 @@ pub record Met (t : Term) (a b : ℕ) (r : Term) (s : Term) : Type 0 where
   pub guard-there : (g : Term) → sub t a ≡ g → sub (silence t b) a ≡ g
   pub encloses : (d : ℕ) → enclosed d (wayTo t a) ≡ true → 1 ≤ counts d s
 
-module _ (t : Term) (a b : ℕ) (g : Prefix) (r : Term) (i : Basic) (la : Live t a (under g r)) (lb : Live t b (leaf i)) where
+module _ (t : Term) (a b : ℕ) (g : Prefix) (r : Term) (i : Basic) (la : StandsLive t a (under g r)) (lb : StandsLive t b (leaf i)) where
   pub exchanged-met : {s : Term} → Exchanged t a b r s → Met t a b r s
   unfolding plug below
   exchanged-met (receive-left c v u w x y wa h wb) = record {
@@ -372,7 +372,7 @@ module _ (t : Term) (a b : ℕ) (g : Prefix) (r : Term) (i : Basic) (la : Live t
     free = live-unchosen t b (leaf i) guarded lb sends
 
     pub parties-exchanged : (s : Term) × Exchanged t a b r s
-    unfolding sub wayTo spot
+    unfolding sub wayTo spotAt
     parties-exchanged = go (parting g r i stops [] t a b (la .at .stands) (lb .at .stands) (lb .live))
       where
         go : Parting (wayTo t a) (wayTo t b) → (s : Term) × Exchanged t a b r s

@@ -12,7 +12,7 @@ use lib.Seq.{take-at, drop-at, drop-nil, drop-drop}
 use borrow.Author.Tests.{not-false}
 use Rattle.cows.specs.Basics.{All, placeIf, orElse}
 use Rattle.cows.specs.Cut.{pieces, cut, firstFailing}
-use Rattle.cows.specs.Format.{Bytes}
+use Rattle.cows.specs.Format.{AreBytes}
 use Rattle.cows.proofs.Basics.{same-some, orElse-none, placeIf-none}
 
 -- All of two lists, and of a part.
@@ -149,14 +149,14 @@ module _ {A : Type 0} (write : A → List ℕ) (Right : A → Type 0) where
   write-passes test f [] h = tt
   write-passes test f (x ∷ xs) h = (f x (h .0), write-passes test f xs (h .1))
 
-  pub write-bytes : ((x : A) → Right x → Bytes (write x)) → (xs : List A) → All Right xs → Bytes (flatMap write xs)
+  pub write-bytes : ((x : A) → Right x → AreBytes (write x)) → (xs : List A) → All Right xs → AreBytes (flatMap write xs)
   unfolding flatMap
   write-bytes f [] h = tt
   write-bytes f (x ∷ xs) h = all-append (λ n. n < 256) (write x) (flatMap write xs) (f x (h .0)) (write-bytes f xs (h .1))
 
   -- and what is read off pieces of w bytes that pass is right, and writes them again
-  module _ (w : ℕ) (read : List ℕ → A) (test : List ℕ → Bool) (passes : (b : List ℕ) → length b ≡ w → Bytes b → test b ≡ true → (write (read b) ≡ b) × Right (read b)) where
-    pieces-right : (n : ℕ) (b : List ℕ) → length b ≡ w * n → Bytes b → All (λ x. test x ≡ true) (pieces w n b)
+  module _ (w : ℕ) (read : List ℕ → A) (test : List ℕ → Bool) (passes : (b : List ℕ) → length b ≡ w → AreBytes b → test b ≡ true → (write (read b) ≡ b) × Right (read b)) where
+    pieces-right : (n : ℕ) (b : List ℕ) → length b ≡ w * n → AreBytes b → All (λ x. test x ≡ true) (pieces w n b)
         → (flatMap write (map read (pieces w n b)) ≡ b) × All Right (map read (pieces w n b))
     unfolding pieces flatMap
     pieces-right zero [] h k e = (refl, tt)
@@ -168,6 +168,6 @@ module _ {A : Type 0} (write : A → List ℕ) (Right : A → Type 0) where
         let (q, l) = pieces-right n (drop w b) (length-drop w b ∙ omega arith) k₂ (e .1) in
         (rw (r, q) (take-append-drop w b), (p, l))
 
-    pub cut-right : (b : List ℕ) → length b % w ≡ 0 → Bytes b → firstFailing test 0 (cut w b) ≡ none → (flatMap write (map read (cut w b)) ≡ b) × All Right (map read (cut w b))
+    pub cut-right : (b : List ℕ) → length b % w ≡ 0 → AreBytes b → firstFailing test 0 (cut w b) ≡ none → (flatMap write (map read (cut w b)) ≡ b) × All Right (map read (cut w b))
     unfolding cut
     cut-right b z k e = pieces-right (length b / w) b (omega (arith, div-add-mod (length b) w)) k (failing-none test 0 (pieces w (length b / w) b) e)

@@ -9,7 +9,7 @@ use lib.ListN.{length, getD, take, drop}
 use lib.Seq.{take-at, drop-at, drop-drop, getD-take, getD-drop}
 use Rattle.cows.specs.Terms.{nil, kill, invoke, receive, wait, protection, delimitation, replication, choice, parallel, Term, leaf, under, both, size, below}
 use Rattle.cows.specs.Kinds.{Node, root, kindOf}
-use Rattle.cows.specs.Places.{Spot, spot, sub}
+use Rattle.cows.specs.Places.{Spot, spotAt, sub}
 use Rattle.cows.specs.Format.{bytes2, byte, word, nodes, layout, record16, bytes, encode}
 use Rattle.cows.proofs.Places.{inherited-spot}
 use Rattle.cows.proofs.Format.{length-nodes}
@@ -23,7 +23,7 @@ NodesAt t n z = (ns : List Node) × (drop n (nodes t) ≡ nodes (z .here) ++ ns)
 pub drop-more : (t : Term) (n k : ℕ) (ms : List Node) → drop n (nodes t) ≡ ms → drop (n + k) (nodes t) ≡ drop k ms
 drop-more t n k ms e = sym (drop-drop k n (nodes t)) ∙ ap (drop k) e
 
-pub nodes-spot : (t : Term) (n : ℕ) → n < size t → NodesAt t n (spot t n)
+pub nodes-spot : (t : Term) (n : ℕ) → n < size t → NodesAt t n (spotAt t n)
 unfolding nodes
 nodes-spot t =
     inherited-spot (NodesAt t) (
@@ -53,7 +53,7 @@ pub table-at : (t : Term) (j : ℕ) → j < size t → (b : List ℕ) × (drop (
 unfolding encode sub
 table-at t j l =
     let (ns, e) = nodes-spot t j l in
-    (bytes ns, drop-bytes (nodes t) j ∙ (ap bytes e ∙ append-bytes (nodes (spot t j .here)) ns))
+    (bytes ns, drop-bytes (nodes t) j ∙ (ap bytes e ∙ append-bytes (nodes (spotAt t j .here)) ns))
 
 pub record-at : (t : Term) (j : ℕ) → j < size t → take 16 (drop (16 * j) (encode t)) ≡ record16 (root (sub t j))
 record-at t j l =

@@ -8,7 +8,7 @@ use native.Mathlib.Omega.{arith}
 use lib.ListN.{length, getD, length-append}
 use Rattle.cows.specs.Terms.{nil, Term, leaf, under, both, size}
 use Rattle.cows.specs.Kinds.{Node, basic, prefix, join}
-use Rattle.cows.specs.Format.{Bytes, nodes, record16, bytes, encode, node, records, push, build, decode}
+use Rattle.cows.specs.Format.{AreBytes, nodes, record16, bytes, encode, readNode, records, push, build, decode}
 use Rattle.cows.specs.Tables.{endOf, children, wrongEnd, misshapen}
 use Rattle.cows.specs.Within.{Right}
 use Rattle.cows.specs.Basics.{All, placeIf}
@@ -111,17 +111,17 @@ unfolding encode
 length-encode t = length-bytes (nodes t) ∙ ap (λ m. 16 * m) (length-nodes t)
 
 -- the records of a right term, read off its bytes
-pub nodes-encode : (t : Term) → Right t → map node (records (encode t)) ≡ nodes t
+pub nodes-encode : (t : Term) → Right t → map readNode (records (encode t)) ≡ nodes t
 unfolding encode
-nodes-encode t h = ap (map node) (records-bytes (nodes t)) ∙ map-read record16 RightNode node node-record16 (nodes t) (right-nodes t h)
+nodes-encode t h = ap (map readNode) (records-bytes (nodes t)) ∙ map-read record16 RightNode readNode node-record16 (nodes t) (right-nodes t h)
 
-pub decode-encode : (t : Term) → Right t → decode (map node (records (encode t))) ≡ t
+pub decode-encode : (t : Term) → Right t → decode (map readNode (records (encode t))) ≡ t
 decode-encode t h = ap decode (nodes-encode t h) ∙ decode-nodes t
 
 pub encode-injective : (s t : Term) → Right s → Right t → encode s ≡ encode t → s ≡ t
-encode-injective s t h k e = sym (decode-encode s h) ∙ (ap (λ b. decode (map node (records b))) e ∙ decode-encode t k)
+encode-injective s t h k e = sym (decode-encode s h) ∙ (ap (λ b. decode (map readNode (records b))) e ∙ decode-encode t k)
 
 -- made of bytes
-pub encode-bytes : (t : Term) → Right t → Bytes (encode t)
+pub encode-bytes : (t : Term) → Right t → AreBytes (encode t)
 unfolding encode
 encode-bytes t h = write-bytes record16 RightNode record-bytes (nodes t) (right-nodes t h)

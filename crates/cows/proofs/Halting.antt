@@ -3,7 +3,7 @@ use mathlib.Core.Path.{_≡_, refl, sym, subst, _∙_}
 use mathlib.Core.List.{List, [], _∷_, _++_}
 use Rattle.cows.specs.Terms.{nil, kill, invoke, receive, wait, protection, delimitation, replication, choice, parallel, Term, leaf, under, both, size}
 use Rattle.cows.specs.Kinds.{Node, basic, prefix, join, root}
-use Rattle.cows.specs.Places.{Frame, inside, leftOf, rightOf, Way, Spot, spot, wayTo, sub, passed}
+use Rattle.cows.specs.Places.{Frame, inside, leftOf, rightOf, Way, Spot, spotAt, wayTo, sub, passed}
 use Rattle.cows.specs.Format.{nodes}
 use Rattle.cows.specs.Moves.{haltUnder, haltBoth, halt}
 use Rattle.cows.specs.Allows.{Through, through-parallel, through-delimitation, through-replication, Halts, halts-nil, halts-kill, halts-invoke, halts-choice, halts-receive, halts-wait, Reached, at-root, goes-through, Spared, keeps, keeps-protection, keeps-inside, leaves-nil, leaves-nothing, Halted}
@@ -171,7 +171,7 @@ halt-halted t =
     record {
       left = λ n. leaves (zone (wayTo t n)) (root (sub t n));
       each = λ n l. spared-stretch (stretch (wayTo t n)) (root (sub t n));
-      records = unfold left-at wayTo sub spot zone in sym (over-reached [] refl t);
+      records = unfold left-at wayTo sub spotAt zone in sym (over-reached [] refl t);
     }
 
 pub halted-halt : {t s : Term} → Halted t s → s ≡ halt t

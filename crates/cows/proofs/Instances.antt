@@ -8,11 +8,11 @@ use Prim.Native.Nat.{ℕ, _+_, _≤_}
 use native.Mathlib.Omega.{arith}
 use lib.Dec.{eqb}
 use borrow.Author.Tests.{eqb-false, eq-eqb, ne-eqb, not-true}
-use Rattle.cows.specs.Basics.{any, member, holds, All}
+use Rattle.cows.specs.Basics.{any, member, foundWith, All, oneIf}
 use Rattle.cows.specs.Terms.{delimitation, Term, leaf, under, both, variable, delimits, delimitsAtom}
 use Rattle.cows.specs.Kinds.{distinct}
 use Rattle.cows.specs.Places.{Frame, inside, leftOf, rightOf, plug, Way, fill, wayTo, enclosed}
-use Rattle.cows.specs.Within.{one, counts}
+use Rattle.cows.specs.Within.{counts}
 use Rattle.cows.specs.Moves.{Substitution, mapAtoms, image, instantiate, bind}
 use Rattle.cows.specs.Allows.{Matches, empty, takes, equals, AllReach, Instantiated, all-bound, goes}
 use Rattle.cows.proofs.Basics.{and-true, or-false}
@@ -52,21 +52,21 @@ module _ (x v : ℕ) where
   fill-counts : (a n : ℕ) (w : Way) (s r : Term) → counts a r ≡ counts a s + n → counts a (fill w r) ≡ counts a (fill w s) + n
   fill-counts a n w s r e = fill-ind (λ s r. counts a r ≡ counts a s + n) (λ f s r h. counts-plug f s r a n h) w s r e
 
-  -- one delimitation goes
+  -- oneIf delimitation goes
   module _ (w : Way) (r : Term) (once : counts x (fill w (under (delimitation x) r)) ≤ 1) where
-    self : one (delimitsAtom x (delimitation x)) ≡ 1
-    unfolding delimitsAtom delimits holds
+    self : oneIf (delimitsAtom x (delimitation x)) ≡ 1
+    unfolding delimitsAtom delimits foundWith
     self = rw (eq-eqb x x refl)
 
     no-more-inside : counts x r ≤ 0
     no-more-inside = omega (arith, self, counts-fill w (under (delimitation x) r) x)
 
     pub instantiate-goes : instantiate x v (fill w (under (delimitation x) r)) ≡ fill w (mapAtoms at r)
-    instantiate-goes = fill-instantiate w (under (delimitation x) r) (mapAtoms at r) (unfold instantiate delimitsAtom delimits holds in rw (eq-eqb x x refl)) (omega (arith, self)) once
+    instantiate-goes = fill-instantiate w (under (delimitation x) r) (mapAtoms at r) (unfold instantiate delimitsAtom delimits foundWith in rw (eq-eqb x x refl)) (omega (arith, self)) once
 
-    pub counts-goes : (a : ℕ) → counts a (fill w (under (delimitation x) r)) ≡ counts a (fill w (mapAtoms at r)) + one (eqb a x)
-    unfolding delimitsAtom delimits holds
-    counts-goes a = fill-counts a (one (eqb a x)) w (mapAtoms at r) (under (delimitation x) r) (omega (arith, counts-at x v r no-more-inside a))
+    pub counts-goes : (a : ℕ) → counts a (fill w (under (delimitation x) r)) ≡ counts a (fill w (mapAtoms at r)) + oneIf (eqb a x)
+    unfolding delimitsAtom delimits foundWith
+    counts-goes a = fill-counts a (oneIf (eqb a x)) w (mapAtoms at r) (under (delimitation x) r) (omega (arith, counts-at x v r no-more-inside a))
 
     pub unique-goes : Unique (fill w (under (delimitation x) r)) → Unique (fill w (mapAtoms at r))
     unique-goes h a = omega (arith, h a, counts-goes a)
@@ -91,9 +91,9 @@ abbrev pub Keyed : Substitution → Term → Type 0
 Keyed [] t = Unit {0}
 Keyed (p ∷ σ) t = (1 ≤ counts (p .0) t) × Keyed σ t
 
-keyed-on : (x : ℕ) (t r : Term) → ((a : ℕ) → counts a t ≡ counts a r + one (eqb a x)) → (σ : Substitution) → Other x σ → Keyed σ t → Keyed σ r
+keyed-on : (x : ℕ) (t r : Term) → ((a : ℕ) → counts a t ≡ counts a r + oneIf (eqb a x)) → (σ : Substitution) → Other x σ → Keyed σ t → Keyed σ r
 keyed-on x t r h [] o k = tt
-keyed-on x t r h (p ∷ σ) o k = (omega (arith, h (p .0), ap one (ne-eqb (p .0) x (o .0)), k .0), keyed-on x t r h σ (o .1) (k .1))
+keyed-on x t r h (p ∷ σ) o k = (omega (arith, h (p .0), ap oneIf (ne-eqb (p .0) x (o .0)), k .0), keyed-on x t r h σ (o .1) (k .1))
 
 pub bind-instantiated : (σ : Substitution) (t : Term) → Unique t → Distinct σ → Keyed σ t → Instantiated σ t (bind σ t)
 unfolding bind

@@ -5,20 +5,20 @@ use Prim.Native.Nat.{ℕ, suc, _*_}
 use lib.ListN.{length}
 use Rattle.cows.specs.Format.{bytes2}
 use Rattle.cows.specs.Step.{Reply, readMove}
-use Rattle.cows.specs.Run.{Run, turn, judgement, run, kept, replies, replyBytes, reply6}
+use Rattle.cows.specs.Run.{RunState, turn, judgement, run, kept, replies, replyBytes, reply6}
 use Rattle.cows.proofs.Cut.{flatMap-append, length-write}
 
-pub run-more : (r : Run) (ms : List (List ℕ)) (m : List ℕ) → run r (ms ++ (m ∷ [])) ≡ turn (run r ms) (readMove m)
+pub run-more : (r : RunState) (ms : List (List ℕ)) (m : List ℕ) → run r (ms ++ (m ∷ [])) ≡ turn (run r ms) (readMove m)
 unfolding run
 run-more r [] m = refl
 run-more r (x ∷ ms) m = run-more (turn r (readMove x)) ms m
 
-pub replies-more : (r : Run) (ms : List (List ℕ)) (m : List ℕ) → replies r (ms ++ (m ∷ [])) ≡ replies r ms ++ (kept (run r ms) (judgement (run r ms) (readMove m)) ∷ [])
+pub replies-more : (r : RunState) (ms : List (List ℕ)) (m : List ℕ) → replies r (ms ++ (m ∷ [])) ≡ replies r ms ++ (kept (run r ms) (judgement (run r ms) (readMove m)) ∷ [])
 unfolding run replies
 replies-more r [] m = refl
 replies-more r (x ∷ ms) m = ap (λ l. kept r (judgement r (readMove x)) ∷ l) (replies-more (turn r (readMove x)) ms m)
 
-pub length-replies : (r : Run) (ms : List (List ℕ)) → length (replies r ms) ≡ length ms
+pub length-replies : (r : RunState) (ms : List (List ℕ)) → length (replies r ms) ≡ length ms
 unfolding replies
 length-replies r [] = refl
 length-replies r (m ∷ ms) = ap suc (length-replies (turn r (readMove m)) ms)

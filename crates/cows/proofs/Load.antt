@@ -5,12 +5,12 @@ use mathlib.Core.Option.{Option, some}
 use mathlib.Core.List.{[], _∷_}
 use Prim.Native.Nat.{ℕ, suc, _+_, _≤_}
 use native.Mathlib.Omega.{arith}
-use Rattle.cows.specs.Basics.{holds}
-use Rattle.cows.specs.Terms.{nil, Prefix, receive, wait, protection, delimitation, replication, choice, parallel, Term, leaf, under, both, Ends, kills, invokes, prefixed, receives, waits, delimits, delimitsAtom, below, invokeOf}
+use Rattle.cows.specs.Basics.{foundWith}
+use Rattle.cows.specs.Terms.{nil, Prefix, receive, wait, protection, delimitation, replication, choice, parallel, Term, leaf, under, both, Action, kills, invokes, prefixed, receives, waits, delimits, delimitsAtom, below, invokeOf}
 use Rattle.cows.specs.Kinds.{basic, prefix, join, kind, liveKind, weightOf, open-kinds}
 use Rattle.cows.specs.Places.{Frame, inside, leftOf, rightOf, plug, Way, fill, wayTo, sub, frameDelimits, frameChooses}
 use Rattle.cows.specs.Moves.{halt, haltUnder, haltBoth, haltBeside, haltInside, afterKill, Substitution, silence, aroundChoice, continue, mapNode, mapAtoms, image, instantiate, bind, elapse, copy, afterUnfold, exchange, afterExtrude, freshCopy}
-use Rattle.cows.specs.Load.{load, shieldedUnder, shieldedBoth, shielded, endedBeside, ended, arm, dropped}
+use Rattle.cows.specs.Load.{load, shieldedUnder, shieldedBoth, shielded, endedBeside, endedInside, arm, dropped}
 use Rattle.cows.proofs.Basics.{cond-case, cond-case₂}
 use Rattle.cows.proofs.Rows.{mapped-kind, lowered-kind}
 use Rattle.cows.proofs.Places.{fill-spot}
@@ -80,7 +80,7 @@ weighs-kill : (s : Term) (k : ℕ) → kills s ≡ some k → load s ≡ 1
 unfolding load open-kinds
 weighs-kill s k e = ap load (kills-is s k e)
 
-weighs-invoke : (s : Term) (m : Ends) → invokes s ≡ some m → load s ≡ 1
+weighs-invoke : (s : Term) (m : Action) → invokes s ≡ some m → load s ≡ 1
 unfolding load open-kinds
 weighs-invoke s m e = ap load (invokes-is s m e)
 
@@ -119,14 +119,14 @@ load-beside (leftOf parallel t) = omega (arith, load-halt t, shielded-le t)
 load-beside (rightOf choice s) = omega arith
 load-beside (rightOf parallel s) = omega (arith, load-halt s, shielded-le s)
 
-load-inside : (k : ℕ) (w : Way) → loadWay w ≡ loadWay (haltInside k w) + ended k w
-unfolding loadWay haltInside ended
+load-inside : (k : ℕ) (w : Way) → loadWay w ≡ loadWay (haltInside k w) + endedInside k w
+unfolding loadWay haltInside endedInside
 load-inside k [] = refl
 load-inside k (f ∷ w) =
     cond-case₂ (λ v n. loadFrame f + loadWay w ≡ loadWay v + n) (frameDelimits k f)
     (λ e. unfold loadWay in omega arith) (λ e. unfold loadWay in omega (arith, load-beside f, load-inside k w))
 
-pub load-kill : (t : Term) (a k : ℕ) → kills (sub t a) ≡ some k → load t ≡ load (afterKill k t a) + 1 + ended k (wayTo t a)
+pub load-kill : (t : Term) (a k : ℕ) → kills (sub t a) ≡ some k → load t ≡ load (afterKill k t a) + 1 + endedInside k (wayTo t a)
 unfolding afterKill load open-kinds
 load-kill t a k e =
     omega (arith, load-spot t a, weighs-kill (sub t a) k e, load-inside k (wayTo t a), load-fill (haltInside k (wayTo t a)) (leaf nil))
@@ -147,12 +147,12 @@ load-continue f g t a x e =
     omega (arith, load-spot t a, weighs-guard f g (sub t a) x e, load-around (wayTo t a), load-fill (aroundChoice (wayTo t a)) (below (sub t a)))
 
 -- Communicate: before = after + 2 + what the arms not taken held.
-load-silence : (t : Term) (b : ℕ) (m : Ends) → invokes (sub t b) ≡ some m → load t ≡ load (silence t b) + 1
+load-silence : (t : Term) (b : ℕ) (m : Action) → invokes (sub t b) ≡ some m → load t ≡ load (silence t b) + 1
 unfolding silence load open-kinds
 load-silence t b m e = omega (arith, load-spot t b, weighs-invoke (sub t b) m e, load-fill (wayTo t b) (leaf nil))
 
 -- a prefix stands where it stood before the invoke went
-pub prefix-silence : {A : Type 0} (f : Prefix → Option A) (t : Term) (a b : ℕ) (m : Ends) → invokes (sub t b) ≡ some m → prefixed f (sub (silence t b) a) ≡ prefixed f (sub t a)
+pub prefix-silence : {A : Type 0} (f : Prefix → Option A) (t : Term) (a b : ℕ) (m : Action) → invokes (sub t b) ≡ some m → prefixed f (sub (silence t b) a) ≡ prefixed f (sub t a)
 prefix-silence f t a b m e = silence-prefix f t b (invokeOf m) (invokes-is (sub t b) m e) a
 
 load-mapAtoms : (f : ℕ → ℕ) (t : Term) → load (mapAtoms f t) ≡ load t
@@ -162,7 +162,7 @@ load-mapAtoms f (under u t) = cc (mapped-kind f (prefix u), load-mapAtoms f t)
 load-mapAtoms f (both j s t) = rw (load-mapAtoms f s, load-mapAtoms f t)
 
 weight-delimits : (d : ℕ) (u : Prefix) → delimitsAtom d u ≡ true → weightOf (kind (prefix u)) ≡ 0
-unfolding delimitsAtom delimits holds open-kinds
+unfolding delimitsAtom delimits foundWith open-kinds
 weight-delimits d (receive p o ws) e = cc
 weight-delimits d (wait n) e = cc
 weight-delimits d protection e = refl
@@ -183,7 +183,7 @@ unfolding bind
 load-bind [] t = refl
 load-bind (p ∷ ps) t = load-bind ps _ ∙ load-instantiate (p .0) (p .1) t
 
-pub load-communicate : (σ : Substitution) (t : Term) (a b : ℕ) (r m : Ends) → prefixed receives (sub t a) ≡ some r → invokes (sub t b) ≡ some m
+pub load-communicate : (σ : Substitution) (t : Term) (a b : ℕ) (r m : Action) → prefixed receives (sub t a) ≡ some r → invokes (sub t b) ≡ some m
     → load t ≡ load (bind σ (continue (silence t b) a)) + 2 + dropped (wayTo (silence t b) a)
 load-communicate σ t a b r m er em =
     rw load-bind

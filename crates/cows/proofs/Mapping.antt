@@ -7,10 +7,10 @@ use native.Mathlib.Omega.{arith}
 use lib.Dec.{eqb}
 use lib.ListN.{length-map}
 use borrow.Author.Tests.{eqb-true, eq-eqb}
-use Rattle.cows.specs.Basics.{any, every, member, holds, All}
+use Rattle.cows.specs.Basics.{any, every, member, foundWith, All, oneIf}
 use Rattle.cows.specs.Terms.{Basic, nil, kill, invoke, Prefix, receive, wait, protection, delimitation, replication, choice, parallel, Term, leaf, under, both, value, variable, label, datum, atom, delimits, delimitsAtom, usesBasic, usesPrefix}
 use Rattle.cows.specs.Kinds.{guard, distinct, kindOf, root, basic, prefix, guardKind}
-use Rattle.cows.specs.Within.{RightTuple, RightBasic, RightPrefix, Right, Guarded, one, counts}
+use Rattle.cows.specs.Within.{RightTuple, RightBasic, RightPrefix, Right, Guarded, counts}
 use Rattle.cows.specs.Moves.{mapBasic, mapPrefix, mapAtoms, image, mapNode}
 use Rattle.cows.proofs.Basics.{never, cond-case, and-true, true-and, not-mono, or-left, or-both, or-case}
 use Rattle.cows.proofs.Scopes.{Rule, inner, Used}
@@ -46,14 +46,14 @@ uses-prefix f (delimitation d) = refl
 uses-prefix f replication = refl
 
 delimits-image : (f : ℕ → ℕ) (u : Prefix) (a : ℕ) → delimitsAtom a u ≡ true → delimitsAtom (f a) (mapPrefix f u) ≡ true
-unfolding delimitsAtom delimits holds mapPrefix
+unfolding delimitsAtom delimits foundWith mapPrefix
 delimits-image f (receive p o ws) a h = h
 delimits-image f (wait n) a h = h
 delimits-image f protection a h = h
 delimits-image f (delimitation d) a h = eq-eqb (f a) (f d) (ap f (eqb-true a d h))
 delimits-image f replication a h = h
 
--- Of the atoms of which M holds: where one is in E, its image is in F.
+-- Of the atoms of which M foundWith: where oneIf is in E, its image is in F.
 abbrev pub Carries : (ℕ → ℕ) → (ℕ → Type 0) → (ℕ → Bool) → (ℕ → Bool) → Type 0
 Carries f M E F = (a : ℕ) → M a → E a ≡ true → F (f a) ≡ true
 
@@ -73,7 +73,7 @@ used-mapped f M P Q k E F c (both j s t) h = (used-mapped f M P Q k E F c s (h .
 
 -- Delimitations: b is delimited as often as a was, if just the delimitations of a become ones of b.
 delimits-mapped : (f : ℕ → ℕ) (a b : ℕ) (u : Prefix) → ((d : ℕ) → delimitsAtom d u ≡ true → eqb b (f d) ≡ eqb a d) → delimitsAtom b (mapPrefix f u) ≡ delimitsAtom a u
-unfolding delimitsAtom delimits holds mapPrefix
+unfolding delimitsAtom delimits foundWith mapPrefix
 delimits-mapped f a b (receive p o ws) h = refl
 delimits-mapped f a b (wait n) h = refl
 delimits-mapped f a b protection h = refl
@@ -84,7 +84,7 @@ pub counts-mapped : (f : ℕ → ℕ) (a b : ℕ) (t : Term) → ((d : ℕ) → 
 unfolding mapAtoms
 counts-mapped f a b (leaf x) h = refl
 counts-mapped f a b (under u t) h =
-    omega (arith, ap one (delimits-mapped f a b u (λ d e. h d (omega (arith, ap one e)))), counts-mapped f a b t (λ d l. h d (omega arith)))
+    omega (arith, ap oneIf (delimits-mapped f a b u (λ d e. h d (omega (arith, ap oneIf e)))), counts-mapped f a b t (λ d l. h d (omega arith)))
 counts-mapped f a b (both j s t) h = omega (arith, counts-mapped f a b s (λ d l. h d (omega arith)), counts-mapped f a b t (λ d l. h d (omega arith)))
 
 -- where x is not delimited, another atom for it changes no delimitation
@@ -94,9 +94,9 @@ counts-at x v t z a =
     counts-mapped (image ((x, v) ∷ [])) a a t
     (λ d l. cond-case (λ c. eqb a c ≡ eqb a d) (eqb d x) (λ e. absurd (omega (arith, ap (λ c. counts c t) (eqb-true d x e)))) (λ e. refl))
 
--- every atom delimited afterwards is the image of one delimited before
+-- every atom delimited afterwards is the image of oneIf delimited before
 delimits-source : (f : ℕ → ℕ) (b : ℕ) (u : Prefix) → delimitsAtom b (mapPrefix f u) ≡ true → (d : ℕ) × (delimitsAtom d u ≡ true) × (b ≡ f d)
-unfolding delimitsAtom delimits holds mapPrefix
+unfolding delimitsAtom delimits foundWith mapPrefix
 delimits-source f b (receive p o ws) h = never h
 delimits-source f b (wait n) h = never h
 delimits-source f b protection h = never h
@@ -112,15 +112,15 @@ counts-source f b (leaf x) h = absurd (omega arith)
 counts-source f b (under u t) h = go (delimitsAtom b (mapPrefix f u)) refl (counts-source f b t)
   where
     go : (p : Bool) → delimitsAtom b (mapPrefix f u) ≡ p → (1 ≤ counts b (mapAtoms f t) → Source f b t) → Source f b (under u t)
-    go true e k = let (d, q, i) = delimits-source f b u e in (d, omega (arith, ap one q), i)
-    go false e k = let (d, q, i) = k (omega (arith, ap one e)) in (d, omega arith, i)
+    go true e k = let (d, q, i) = delimits-source f b u e in (d, omega (arith, ap oneIf q), i)
+    go false e k = let (d, q, i) = k (omega (arith, ap oneIf e)) in (d, omega arith, i)
 counts-source f b (both j s t) h = go (counts b (mapAtoms f s)) refl (counts-source f b s) (counts-source f b t)
   where
     go : (n : ℕ) → counts b (mapAtoms f s) ≡ n → (1 ≤ counts b (mapAtoms f s) → Source f b s) → (1 ≤ counts b (mapAtoms f t) → Source f b t) → Source f b (both j s t)
     go zero e k l = let (d, q, i) = l (omega arith) in (d, omega arith, i)
     go (suc n) e k l = let (d, q, i) = k (omega arith) in (d, omega arith, i)
 
--- A map that keeps the table of kinds: values and labels stay such, variables stay data, and among the atoms of which M holds none becomes the same variable as another.
+-- A map that keeps the table of kinds: values and labels stay such, variables stay data, and among the atoms of which M foundWith none becomes the same variable as another.
 pub record Fits (f : ℕ → ℕ) (M : ℕ → Type 0) : Type 0 where
   pub values : (a : ℕ) → value a ≡ true → value (f a) ≡ true
   pub variables : (a : ℕ) → variable a ≡ true → datum (f a) ≡ true

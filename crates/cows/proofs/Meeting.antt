@@ -8,11 +8,11 @@ use native.Mathlib.Omega.{arith}
 use lib.Dec.{ltb, eqb}
 use lib.ListN.{length}
 use borrow.Author.Tests.{ltb-true, ltb-false, lt-ltb, eqb-true, eq-eqb, not-true, not-false}
-use Rattle.cows.specs.Basics.{any, every, member, holds, found, accept}
-use Rattle.cows.specs.Terms.{kill, receive, delimitation, Term, leaf, under, Ends, variable, size, kills, prefixed, receives, delimits, below, binders, receiveOf}
+use Rattle.cows.specs.Basics.{any, every, member, foundWith, found, accept}
+use Rattle.cows.specs.Terms.{kill, receive, delimitation, Term, leaf, under, Action, variable, size, kills, prefixed, receives, delimits, below, binders, receiveOf}
 use Rattle.cows.specs.Places.{Spot, wayTo, sub, first, encloses, enclosed}
 use Rattle.cows.specs.Active.{ready}
-use Rattle.cows.specs.Moves.{Substitution, Matching, Mismatch, unsetVariable, otherEndpoint, otherCount, otherValue, binds, differs, provided, besides, match, closedEnds, fit, matched, outside, inScope, readyKill, heldBack, fewer, tighter}
+use Rattle.cows.specs.Moves.{Substitution, Matching, Mismatch, unsetVariable, otherEndpoint, otherCount, otherValue, binds, differs, provided, besides, match, closedAction, fit, matched, outside, inScope, readyKill, heldBack, fewer, tighter}
 use Rattle.cows.specs.Allows.{Stands, Matches, empty, takes, equals, Reaches, AllReach, Unheld, Tightest}
 use Rattle.cows.proofs.Basics.{never, clash, bool-case, and-true, true-and, or-left, or-right, or-second, or-case, found-none, none-found, holds-some, same-accept}
 use Rattle.cows.proofs.Stands.{kills-is, receives-is, delimits-is, prefixed-stands, first-fails, fails-first, first-found, Delimited, member-delimited, delimited-member}
@@ -62,23 +62,23 @@ pub matches-unique : {ws vs : List ℕ} {σ τ : Substitution} → Matches ws vs
 matches-unique m k = same-binds (sym (matches-match m 0) ∙ matches-match k 0)
 
 -- the receive r fits the invoke m
-pub record Fits (r m : Ends) (σ : Substitution) : Type 0 where
+pub record Fits (r m : Action) (σ : Substitution) : Type 0 where
   pub closed : any variable (m .partner ∷ m .operation ∷ m .tuple) ≡ false
   pub partner : r .partner ≡ m .partner
   pub operation : r .operation ≡ m .operation
   pub matches : Matches (r .tuple) (m .tuple) σ
 
-pub fit-fits : (r m : Ends) (σ : Substitution) → fit r m ≡ binds σ → Fits r m σ
-unfolding fit closedEnds
+pub fit-fits : (r m : Action) (σ : Substitution) → fit r m ≡ binds σ → Fits r m σ
+unfolding fit closedAction
 fit-fits r m σ e =
-    let (c, e₁) = provided-binds (closedEnds m) unsetVariable _ σ e in
+    let (c, e₁) = provided-binds (closedAction m) unsetVariable _ σ e in
     let (h, e₂) = provided-binds (eqb (r .partner) (m .partner) && eqb (r .operation) (m .operation)) otherEndpoint _ σ e₁ in
     let (l, e₃) = provided-binds (eqb (length (r .tuple)) (length (m .tuple))) otherCount _ σ e₂ in
     let (p, o) = and-true (eqb (r .partner) (m .partner)) (eqb (r .operation) (m .operation)) h in
     record { closed = not-true _ c; partner = eqb-true _ _ p; operation = eqb-true _ _ o; matches = match-matches 0 _ _ σ (eqb-true _ _ l) e₃ }
 
-pub fits-fit : (r m : Ends) (σ : Substitution) → Fits r m σ → fit r m ≡ binds σ
-unfolding fit closedEnds provided
+pub fits-fit : (r m : Action) (σ : Substitution) → Fits r m σ → fit r m ≡ binds σ
+unfolding fit closedAction provided
 fits-fit r m σ f = rw (f .closed, eq-eqb _ _ (f .partner), eq-eqb _ _ (f .operation), eq-eqb _ _ (matches-lengths (f .matches))) (matches-match (f .matches) 0)
 
 pub matched-binds : (a : ℕ) (m : Matching) (σ : Substitution) → matched a m ≡ accept σ → m ≡ binds σ
@@ -91,7 +91,7 @@ abbrev Nested : Term → ℕ → ℕ → Type 0
 Nested t v x = (m n : ℕ) (r s : Term) → Stands t m (under (delimitation v) r) → Stands t n (under (delimitation x) s) → enclosed v (wayTo t n) ≡ true
 
 outside-nested : (t : Term) (v x : ℕ) → (not (member v (binders t)) || not (found (first (outside v x) t))) ≡ true → Nested t v x
-unfolding outside holds prefixed delimits
+unfolding outside foundWith prefixed delimits
 outside-nested t v x e m n r s h k =
     let e₁ = or-second (ap not (delimited-member v t m r h)) e in
     let e₂ = found-none (first (outside v x) t) (not-true _ e₁) in
@@ -106,7 +106,7 @@ nested-outside t v x h =
   where
     none-outside : Delimited v t → not (found (first (outside v x) t)) ≡ true
     none-outside (m, r, k) = ap not (none-found _ (fails-first (outside v x) t (λ n p e.
-        let (e₁, e₂) = and-true (holds (eqb x) (prefixed delimits (sub t n))) (not (enclosed v (wayTo t n))) e in
+        let (e₁, e₂) = and-true (foundWith (eqb x) (prefixed delimits (sub t n))) (not (enclosed v (wayTo t n))) e in
         let (d, st, q) = prefixed-stands delimits delimitation delimits-is (eqb x) t n p e₁ in
         clash (h m n r _ k (subst (λ c. Stands t n (under (delimitation c) (below (sub t n)))) (sym (eqb-true x d q)) st)) (not-true _ e₂))))
 
@@ -130,12 +130,12 @@ reaches-inScope t a b [] h = refl
 reaches-inScope t a b (p ∷ σ) h =
     true-and (true-and (true-and (h .0 .receiver) (h .0 .sender)) (nested-outside t (p .1) (p .0) (h .0 .nested))) (reaches-inScope t a b σ (h .1))
 
--- 14: no [k] around either party holds a ready kill of k
+-- 14: no [k] around either party foundWith a ready kill of k
 held : Spot → Bool
-held z = holds (λ k. found (first (readyKill k) (z .here))) (prefixed delimits (z .here))
+held z = foundWith (λ k. found (first (readyKill k) (z .here))) (prefixed delimits (z .here))
 
 fails-unheld : (t : Term) (f : ℕ → Spot → Bool) (c : ℕ) → ((n : ℕ) (z : Spot) → encloses n (z .here) c ≡ true → held z ≡ true → f n z ≡ true) → first f t ≡ none → Unheld t c
-unfolding held encloses holds prefixed delimits readyKill kills
+unfolding held encloses foundWith prefixed delimits readyKill kills
 fails-unheld t f c h e n k s st l u m rd =
     clash
     (h n (record { way = wayTo t n; here = under (delimitation k) s })
@@ -175,15 +175,15 @@ unfolding fewer
 fewer-binds l (binds σ) e = (σ, refl, ltb-true (length σ) l e)
 fewer-binds l (differs d) e = never e
 
-pub tighter-tightest : (t : Term) (m : Ends) (l : ℕ) → any variable (m .partner ∷ m .operation ∷ m .tuple) ≡ false → first (tighter m l) t ≡ none
+pub tighter-tightest : (t : Term) (m : Action) (l : ℕ) → any variable (m .partner ∷ m .operation ∷ m .tuple) ≡ false → first (tighter m l) t ≡ none
     → Tightest t (m .partner) (m .operation) (m .tuple) l
-unfolding tighter holds prefixed receives fewer
+unfolding tighter foundWith prefixed receives fewer
 tighter-tightest t m l c e n ws s τ rd mt =
     ltb-false (length τ) l
     (rw (rd .ready, fits-fit _ m τ (record { closed = c; partner = refl; operation = refl; matches = mt })) at
     (first-fails (tighter m l) t e n (under (receive (m .partner) (m .operation) ws) s) (rd .at)))
 
-pub tightest-tighter : (t : Term) (m : Ends) (l : ℕ) → Tightest t (m .partner) (m .operation) (m .tuple) l → first (tighter m l) t ≡ none
+pub tightest-tighter : (t : Term) (m : Action) (l : ℕ) → Tightest t (m .partner) (m .operation) (m .tuple) l → first (tighter m l) t ≡ none
 unfolding tighter
 tightest-tighter t m l h = fails-first (tighter m l) t (λ n p e.
     let (rd, e₁) = and-true (ready (wayTo t n)) _ e in

@@ -6,7 +6,7 @@ use mathlib.Core.List.{[], _∷_}
 use Prim.Native.Nat.{ℕ, _-_, _≤_}
 use native.Mathlib.Omega.{arith}
 use lib.Dec.{eqb}
-use Rattle.cows.specs.Basics.{holds}
+use Rattle.cows.specs.Basics.{foundWith}
 use Rattle.cows.specs.Terms.{nil, Prefix, receive, wait, protection, delimitation, replication, choice, parallel, Term, leaf, under, both, prefixed, delimits, delimitsAtom, below, usesBasic, usesPrefix}
 use Rattle.cows.specs.Kinds.{guard, prefix, kind, liveKind, open-kinds}
 use Rattle.cows.specs.Places.{Frame, inside, leftOf, rightOf, plug, Way, fill, wayTo, sub, frameDelimits, frameChooses}
@@ -26,7 +26,7 @@ pub data Lowered : Prefix → Prefix → Type 0 where
   lowered : {m n : ℕ} → n ≤ m → Lowered (wait m) (wait n)
 
 -- Part g t r: r is what is left of t. Subterms have become nil, intervals are lowered, prefixes that delimit nothing and other sides of choices are gone,
--- and a delimitation has changed places with its parent. If g holds and t is a guard, so is r.
+-- and a delimitation has changed places with its parent. If g foundWith and t is a guard, so is r.
 pub data Part : Bool → Term → Term → Type 0 where
   whole : {t : Term} → Part true t t
   cut : {t : Term} → Part true t (leaf nil)
@@ -78,14 +78,14 @@ outward-used P grows d f s E h = go f h
     go (rightOf j t) h = (used-mono P P grows E _ wider t (h .0), h .1 .1)
 
 pub part-used : {g : Bool} {t r : Term} → Part g t r → (P : Rule) → Weakens P P → (E : ℕ → Bool) → Used P E t → Used P E r
-unfolding usesBasic usesPrefix delimitsAtom delimits holds
+unfolding usesBasic usesPrefix delimitsAtom delimits foundWith
 part-used whole P w E h = h
 part-used cut P w E h = tt
 part-used (down {u = u} same p) P w E h = (h .0, part-used p P w (inner u E) (h .1))
 part-used (down (lowered l) p) P w E h = (h .0, part-used p P w E (h .1))
 part-used (beside p q) P w E h = (part-used p P w E (h .0), part-used q P w E (h .1))
 part-used (either p q) P w E h = (part-used p P w E (h .0), part-used q P w E (h .1))
-part-used (behind {t = t} e p) P w E h = part-used p P w E (subst (λ o. Used P (λ a. holds (eqb a) o || E a) t) e (h .1))
+part-used (behind {t = t} e p) P w E h = part-used p P w E (subst (λ o. Used P (λ a. foundWith (eqb a) o || E a) t) e (h .1))
 part-used (choseLeft p) P w E h = part-used p P w E (h .0)
 part-used (choseRight p) P w E h = part-used p P w E (h .1)
 part-used (outward d f s e) P w E h = (tt, outward-used P w d f s E h)
@@ -98,7 +98,7 @@ outward-counts d (leftOf j t) s a = omega arith
 outward-counts d (rightOf j t) s a = omega arith
 
 pub part-counts : {g : Bool} {t r : Term} → Part g t r → (a : ℕ) → counts a r ≤ counts a t
-unfolding delimitsAtom delimits holds
+unfolding delimitsAtom delimits foundWith
 part-counts whole a = omega arith
 part-counts cut a = omega arith
 part-counts (down same p) a = omega (arith, part-counts p a)

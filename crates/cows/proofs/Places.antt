@@ -11,7 +11,7 @@ use native.Mathlib.Numerals.{add-one}
 use lib.Dec.{ltb}
 use borrow.Author.Tests.{lt-ltb, le-ltb, ltb-true, ltb-false}
 use Rattle.cows.specs.Terms.{Prefix, Join, Term, leaf, under, both, size}
-use Rattle.cows.specs.Places.{Frame, inside, leftOf, rightOf, plug, Way, fill, Spot, descend, spot, wayTo, sub, first}
+use Rattle.cows.specs.Places.{Frame, inside, leftOf, rightOf, plug, Way, fill, Spot, descend, spotAt, wayTo, sub, first}
 use Rattle.cows.specs.Records.{At}
 use Rattle.cows.proofs.Basics.{cond-case, cond-case₂, firstFrom-none, none-firstFrom}
 
@@ -33,7 +33,7 @@ fill-descend w (both j s t) (suc n) =
     (λ e. fill-descend (leftOf j t ∷ w) s n) (λ e. fill-descend (rightOf j s ∷ w) t (n - size s))
 
 pub fill-spot : (t : Term) (n : ℕ) → fill (wayTo t n) (sub t n) ≡ t
-unfolding wayTo sub spot fill
+unfolding wayTo sub spotAt fill
 fill-spot t n = fill-descend [] t n
 
 pub fill-append : (v w : Way) (s : Term) → fill (v ++ w) s ≡ fill w (fill v s)
@@ -131,11 +131,11 @@ abbrev pub Fails : (ℕ → Spot → Bool) → ℕ → Spot → Type 0
 Fails f n z = f n z ≡ false
 
 pub first-none : (f : ℕ → Spot → Bool) (t : Term) → first f t ≡ none → Everywhere (Fails f) [] 0 t
-unfolding first spot
+unfolding first spotAt
 first-none f t e n l = rw zero-add (rw zero-add at (firstFrom-none (λ m. f m (descend [] t m)) 0 (size t) e n l))
 
 pub none-first : (f : ℕ → Spot → Bool) (t : Term) → Everywhere (Fails f) [] 0 t → first f t ≡ none
-unfolding first spot
+unfolding first spotAt
 none-first f t h = none-firstFrom (λ m. f m (descend [] t m)) 0 (size t) (λ i l. rw zero-add (rw zero-add at (h i l)))
 
 -- what the children of a record inherit from it holds at every place of a term, if it holds at the first
@@ -153,38 +153,38 @@ inherited P i w o (both j s t) h =
     let (l, r) = i .1 o w j s t h in
     all-both P w o j s t h (inherited P i (leftOf j t ∷ w) (suc o) s l) (inherited P i (rightOf j s ∷ w) (suc (o + size s)) t r)
 
-pub inherited-spot : (P : ℕ → Spot → Type 0) → Inherited P → (t : Term) → P 0 (record { way = []; here = t }) → (n : ℕ) → n < size t → P n (spot t n)
-unfolding spot
+pub inherited-spot : (P : ℕ → Spot → Type 0) → Inherited P → (t : Term) → P 0 (record { way = []; here = t }) → (n : ℕ) → n < size t → P n (spotAt t n)
+unfolding spotAt
 inherited-spot P i t h n l = rw zero-add at (inherited P i [] 0 t h n l)
 
 -- The part of t at a place fits into t, and its places, counted on, are places of t.
 abbrev pub PartOf : Term → ℕ → Spot → Type 0
-PartOf t n z = (n + size (z .here) ≤ size t) × ((i : ℕ) → i < size (z .here) → spot t (n + i) ≡ descend (z .way) (z .here) i)
+PartOf t n z = (n + size (z .here) ≤ size t) × ((i : ℕ) → i < size (z .here) → spotAt t (n + i) ≡ descend (z .way) (z .here) i)
 
 pub part-inherited : (t : Term) → Inherited (PartOf t)
 unfolding descend size
 part-inherited t = (
-  λ o w u s h. (omega arith, λ i l. ap (spot t) (let z : suc o + i ≡ o + suc i = omega arith in z) ∙ h .1 (suc i) (omega arith)),
+  λ o w u s h. (omega arith, λ i l. ap (spotAt t) (let z : suc o + i ≡ o + suc i = omega arith in z) ∙ h .1 (suc i) (omega arith)),
   λ o w j s r h. (
-    (omega arith, λ i l. ap (spot t) (let z : suc o + i ≡ o + suc i = omega arith in z) ∙ (h .1 (suc i) (omega arith) ∙ descend-left w j s r i l)),
+    (omega arith, λ i l. ap (spotAt t) (let z : suc o + i ≡ o + suc i = omega arith in z) ∙ (h .1 (suc i) (omega arith) ∙ descend-left w j s r i l)),
     (
       omega arith,
-      λ i l. ap (spot t) (let z : suc (o + size s) + i ≡ o + suc (size s + i) = omega arith in z) ∙ (h .1 (suc (size s + i)) (omega arith) ∙ descend-right w j s r i),
+      λ i l. ap (spotAt t) (let z : suc (o + size s) + i ≡ o + suc (size s + i) = omega arith in z) ∙ (h .1 (suc (size s + i)) (omega arith) ∙ descend-right w j s r i),
     ),
   ),
 )
 
 pub part-first : (t : Term) → PartOf t 0 (record { way = []; here = t })
-unfolding spot
+unfolding spotAt
 part-first t = (omega arith, λ i l. ap (descend [] t) (zero-add i))
 
-pub spot-part : (t : Term) (n : ℕ) → n < size t → PartOf t n (spot t n)
+pub spot-part : (t : Term) (n : ℕ) → n < size t → PartOf t n (spotAt t n)
 spot-part t = inherited-spot (PartOf t) (part-inherited t) t (part-first t)
 
 pub part-here : (t : Term) (n : ℕ) (z : Spot) → PartOf t n z → sub t n ≡ z .here
 unfolding sub
 part-here t n z h =
-    ap (λ (y : Spot). y .here) (ap (spot t) (let e : n ≡ n + 0 = omega arith in e) ∙ (h .1 0 (size-pos (z .here)) ∙ descend-first (z .way) (z .here)))
+    ap (λ (y : Spot). y .here) (ap (spotAt t) (let e : n ≡ n + 0 = omega arith in e) ∙ (h .1 0 (size-pos (z .here)) ∙ descend-first (z .way) (z .here)))
 
 pub spot-fits : (t : Term) (j : ℕ) → j < size t → j + size (sub t j) ≤ size t
 unfolding sub
@@ -194,7 +194,7 @@ pub at-part : (t : Term) (n i : ℕ) (s : Term) (w : Way) (c : Term) → n < siz
 unfolding sub wayTo
 at-part t n i s w c l e k d =
     let (f, p) = spot-part t n l in
-    let q : spot t (n + i) ≡ record { way = w; here = c } = p i (rw e k) ∙ rw e d in
+    let q : spotAt t (n + i) ≡ record { way = w; here = c } = p i (rw e k) ∙ rw e d in
     (omega (arith, ap size e), ap (λ (z : Spot). z .here) q, ap (λ (z : Spot). z .way) q)
 
 pub spot-under : (t : Term) (j : ℕ) (u : Prefix) (c : Term) → j < size t → sub t j ≡ under u c → At t (suc j) (inside u ∷ wayTo t j) c

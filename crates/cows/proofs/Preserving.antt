@@ -7,7 +7,7 @@ use lib.Dec.{eqb}
 use lib.ListN.{length}
 use borrow.Author.Tests.{not-false}
 use Rattle.cows.specs.Basics.{every, placeIf, accept, _>>_, forbid}
-use Rattle.cows.specs.Terms.{Prefix, receive, wait, protection, delimitation, replication, Term, leaf, under, both, Ends, label, size, kills, invokes, prefixed, receives, waits, delimits, replicates, invokeOf}
+use Rattle.cows.specs.Terms.{Prefix, receive, wait, protection, delimitation, replication, Term, leaf, under, both, Action, label, size, kills, invokes, prefixed, receives, waits, delimits, replicates, invokeOf}
 use Rattle.cows.specs.Places.{wayTo, sub, first}
 use Rattle.cows.specs.Active.{wanted}
 use Rattle.cows.specs.Within.{Right, Formed, Within}
@@ -70,7 +70,7 @@ sound-unfold t s a e small h =
     subst Sound (same-accept e₁) (sound-afterUnfold t a (prefixed-is replicates (λ i. replication) replicates-is (sub t a) x (wanted-is (prefixed replicates) t a x ex)) small h)
 
 -- A communication: the invoke is silenced, the receive continues, and the pattern's variables are bound. Before they are, the term is sound, and each may take its value in it.
-pub meeting-binds : (t : Term) (a b : ℕ) (r m : Ends) (σ : Substitution) → prefixed receives (sub t a) ≡ some r → invokes (sub t b) ≡ some m → fit r m ≡ binds σ
+pub meeting-binds : (t : Term) (a b : ℕ) (r m : Action) (σ : Substitution) → prefixed receives (sub t a) ≡ some r → invokes (sub t b) ≡ some m → fit r m ≡ binds σ
     → every (inScope t a b) σ ≡ true → Sound t → Sound (continue (silence t b) a) × AllBind (continue (silence t b) a) σ
 unfolding receives
 meeting-binds t a b r m σ er em ef es h =
@@ -79,7 +79,7 @@ meeting-binds t a b r m σ er em ef es h =
     let pairs = all-in-scope t a b (h .1) σ (values-fit r m σ (invokes-data (sub t b) m em (right-at t b (h .0))) ef) es in
     (part-sound q (part-sound p h), part-bind q σ (part-bind p σ pairs))
 
-pub scopes-passed : (t : Term) (a b : ℕ) (m : Ends) (σ : Substitution) (x s : Term)
+pub scopes-passed : (t : Term) (a b : ℕ) (m : Action) (σ : Substitution) (x s : Term)
     → (forbid 13 (placeIf (not (every (inScope t a b) σ)) a) >> (forbid 14 (first (heldBack a b) t) >> (forbid 15 (first (tighter m (length σ)) t) >> accept x))) ≡ accept s
     → (every (inScope t a b) σ ≡ true) × (x ≡ s)
 scopes-passed t a b m σ x s e =

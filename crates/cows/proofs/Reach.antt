@@ -8,9 +8,9 @@ use native.Mathlib.Omega.{arith}
 use native.Mathlib.Nat.{zero-add}
 use lib.Dec.{ltb, eqb}
 use borrow.Author.Tests.{ltb-true, lt-ltb, le-ltb, eqb-true, eq-eqb}
-use Rattle.cows.specs.Basics.{any, member, holds}
+use Rattle.cows.specs.Basics.{any, member, foundWith}
 use Rattle.cows.specs.Terms.{delimitation, Term, under, size, prefixed, delimits, delimitsAtom, delimitsAt, below, binders}
-use Rattle.cows.specs.Places.{inside, Way, Spot, descend, spot, wayTo, sub, frameDelimits, enclosed}
+use Rattle.cows.specs.Places.{inside, Way, Spot, descend, spotAt, wayTo, sub, frameDelimits, enclosed}
 use Rattle.cows.specs.Tables.{delimitedBefore}
 use Rattle.cows.specs.Records.{reachOf}
 use Rattle.cows.proofs.Basics.{clash, cond-case, bool-case, lt-case, or-left, or-right, or-case, not-so, same-test, found-none, none-found, holds-some, firstFrom-none, none-firstFrom, any-append}
@@ -23,7 +23,7 @@ delimitsAt-is a s h =
     prefixed-is delimits delimitation delimits-is s d e ∙ ap (λ i. under (delimitation i) (below s)) (sym (eqb-true a d k))
 
 pub is-delimitsAt : (a : ℕ) (s c : Term) → s ≡ under (delimitation a) c → delimitsAt a s ≡ true
-unfolding holds prefixed delimits
+unfolding foundWith prefixed delimits
 is-delimitsAt a s c e = rw (e, eq-eqb a a refl)
 
 -- a delimitation of a at a place below j ends behind e
@@ -71,10 +71,10 @@ module _ (t : Term) (a : ℕ) where
           (pr, λ c e k. reaches-on o (suc (o + size s)) e (omega arith) (h c e (omega arith))),
         ),
       )
-      t (part-first t, λ c. clash c refl) j l .1 h j (omega (arith, size-pos (spot t j .here)))
+      t (part-first t, λ c. clash c refl) j l .1 h j (omega (arith, size-pos (spotAt t j .here)))
 
   pub inside-enclosed : (w : Way) (c : Term) (i : ℕ) → enclosed a (descend (inside (delimitation a) ∷ w) c i .way) ≡ true
-  unfolding enclosed any frameDelimits delimitsAtom delimits holds
+  unfolding enclosed any frameDelimits delimitsAtom delimits foundWith
   inside-enclosed w c i =
       rw (descend-way [] (inside (delimitation a) ∷ w) c i, any-append (frameDelimits a) (descend [] c i .way) (inside (delimitation a) ∷ w))
       (or-right (any (frameDelimits a) (descend [] c i .way)) _ (or-left (eqb a a) _ (eq-eqb a a refl)))
@@ -82,7 +82,7 @@ module _ (t : Term) (a : ℕ) where
   pub reaches-enclosed : (j : ℕ) → j < size t → Reaches t a j j → enclosed a (wayTo t j) ≡ true
   unfolding wayTo sub descend
   reaches-enclosed j l (q, m, d, k) =
-      let e : spot t j ≡ descend (wayTo t q) (sub t q) (suc (j - suc q)) = ap (spot t) (let z : j ≡ q + suc (j - suc q) = omega arith in z) ∙ spot-part t q (omega arith) .1 (suc (j - suc q)) (omega arith) in
+      let e : spotAt t j ≡ descend (wayTo t q) (sub t q) (suc (j - suc q)) = ap (spotAt t) (let z : j ≡ q + suc (j - suc q) = omega arith in z) ∙ spot-part t q (omega arith) .1 (suc (j - suc q)) (omega arith) in
       ap (λ (z : Spot). enclosed a (z .way)) e
       ∙ (ap (λ s. enclosed a (descend (wayTo t q) s (suc (j - suc q)) .way)) (delimitsAt-is a (sub t q) d) ∙ inside-enclosed (wayTo t q) (below (sub t q)) (j - suc q))
 

@@ -1,4 +1,4 @@
--- Laws of one record (specs/Format): its 16 bytes are right exactly if they are a right node's, and then each is read off the other.
+-- Laws of one record (specs/Format): its 16 bytes are right exactly if they are a right readNode's, and then each is read off the other.
 use mathlib.Core.Path.{_≡_, refl, sym, ap, _∙_}
 use mathlib.Core.Bool.{true, _&&_}
 use mathlib.Core.List.{List, [], _∷_, _++_, map}
@@ -11,7 +11,7 @@ use borrow.Author.Tests.{eqb-true, leb-true, ltb-true, le-leb, lt-ltb}
 use Rattle.cows.specs.Basics.{every}
 use Rattle.cows.specs.Terms.{nil, kill, invoke, receive, wait, protection, delimitation, replication, choice, parallel, label, datum, atom}
 use Rattle.cows.specs.Kinds.{Node, basic, prefix, join, unused, interval, distinct, data4, pattern4, empty4, Contents, kinds, rowOf}
-use Rattle.cows.specs.Format.{Bytes, bytes2, byte, word, layout, record16, slots, rightContents, rightRecord, tuple, node}
+use Rattle.cows.specs.Format.{AreBytes, bytes2, byte, word, layout, record16, slots, rightContents, rightRecord, tuple, readNode}
 use Rattle.cows.specs.Within.{RightTuple, RightBasic, RightPrefix}
 use Rattle.cows.proofs.Basics.{and-true, true-and, or-left}
 use Rattle.cows.proofs.Sets.{set-case, value-range, variable-range, label-range}
@@ -82,8 +82,8 @@ right-pattern4 : (ws : List ℕ) → RightTuple ws → distinct ws ≡ true → 
 unfolding pattern4
 right-pattern4 ws h k = true-and (right-data4 ws h) (rw (take-pad ws (h .0)) k)
 
--- Bytes and the 16-bit numbers that they say.
-byte-small : (b : List ℕ) (i : ℕ) → Bytes b → byte b i < 256
+-- AreBytes and the 16-bit numbers that they say.
+byte-small : (b : List ℕ) (i : ℕ) → AreBytes b → byte b i < 256
 unfolding byte
 byte-small [] i h = omega arith
 byte-small (x ∷ b) zero h = h .0
@@ -111,7 +111,7 @@ words : ℕ → ℕ → List ℕ → List ℕ
 words zero i b = []
 words (suc n) i b = bytes2 (word b i) ++ words n (suc (suc i)) b
 
-words-drop : (n i : ℕ) (b : List ℕ) → length b ≡ 2 * n + i → Bytes b → words n i b ≡ drop i b
+words-drop : (n i : ℕ) (b : List ℕ) → length b ≡ 2 * n + i → AreBytes b → words n i b ≡ drop i b
 unfolding words word
 words-drop zero i b h k = sym (drop-of-length-le b {i = i} (omega arith))
 words-drop (suc n) i b h k =
@@ -122,7 +122,7 @@ words-drop (suc n) i b h k =
 raw : ℕ → List ℕ → List ℕ
 raw k b = k ∷ byte b 1 ∷ words 7 2 b
 
-raw-bytes : (b : List ℕ) → length b ≡ 16 → Bytes b → raw (byte b 0) b ≡ b
+raw-bytes : (b : List ℕ) → length b ≡ 16 → AreBytes b → raw (byte b 0) b ≡ b
 unfolding raw
 raw-bytes b h k = rw (words-drop 7 2 b h k) (drop-two b 0 (omega arith))
 
@@ -166,8 +166,8 @@ unfolding pattern4 tuple
 pattern-data b h = and-true (data4 (byte b 1) (slots b)) _ h
 
 -- A right record is what is read off it, written again; and what is read off it is right.
-right-kind : (b : List ℕ) (k : ℕ) → byte b 0 ≡ k → k < 10 → Fits (rowOf k .holds) b → (record16 (node b) ≡ raw k b) × RightNode (node b)
-unfolding kinds rowOf node record16 interval unused empty4
+right-kind : (b : List ℕ) (k : ℕ) → byte b 0 ≡ k → k < 10 → Fits (rowOf k .holds) b → (record16 (readNode b) ≡ raw k b) × RightNode (readNode b)
+unfolding kinds rowOf readNode record16 interval unused empty4
 right-kind b zero e l h = rw e (plain b 0 (h .0) (h .1) (h .2) (h .3), tt)
 right-kind b (suc zero) e l h = rw e (bare b 1 (word b 2) 0 refl (h .1) (h .2) (unused-zero (word b 14) (h .3)), h .0)
 right-kind b (suc (suc zero)) e l h = let (r, t) = tupled b 2 (h .2) (h .3) in rw e (r, (h .0, h .1, t))
@@ -180,14 +180,14 @@ right-kind b (suc (suc (suc (suc (suc (suc (suc (suc zero)))))))) e l h = rw e (
 right-kind b (suc (suc (suc (suc (suc (suc (suc (suc (suc zero))))))))) e l h = rw e (plain b 9 (h .0) (h .1) (h .2) (h .3), tt)
 right-kind b (suc (suc (suc (suc (suc (suc (suc (suc (suc (suc k)))))))))) e l h = absurd (omega arith)
 
-pub right-record : (b : List ℕ) → length b ≡ 16 → Bytes b → rightRecord b ≡ true → (record16 (node b) ≡ b) × RightNode (node b)
+pub right-record : (b : List ℕ) → length b ≡ 16 → AreBytes b → rightRecord b ≡ true → (record16 (readNode b) ≡ b) × RightNode (readNode b)
 unfolding rightRecord kinds
 right-record b l k h =
     let (m, f) = and-true (ltb (byte b 0) (length kinds)) _ h in
     let (r, n) = right-kind b (byte b 0) refl (ltb-true (byte b 0) (length kinds) m) (fits (rowOf (byte b 0) .holds) b f) in
     (r ∙ raw-bytes b l k, n)
 
--- The other way: a right node's bytes are a right record, and the node is read off them.
+-- The other way: a right readNode's bytes are a right record, and the readNode is read off them.
 layout-right : (k a c i : ℕ) (ws : List ℕ) → ltb k (length kinds) ≡ true → rowOf k .holds .first a ≡ true → rowOf k .holds .second c ≡ true → rowOf k .holds .tuple (length ws) (pad ws) ≡ true → rowOf k .holds .interval i ≡ true
     → rightRecord (layout k a c ws i) ≡ true
 unfolding rightRecord rightContents layout bytes2 word byte slots
@@ -206,8 +206,8 @@ record-right (prefix replication) h = layout-right 9 0 0 0 [] refl refl refl ref
 record-right (join choice) h = layout-right 5 0 0 0 [] refl refl refl refl refl
 record-right (join parallel) h = layout-right 6 0 0 0 [] refl refl refl refl refl
 
-pub node-record16 : (n : Node) → RightNode n → node (record16 n) ≡ n
-unfolding node record16 layout bytes2 byte word slots tuple
+pub node-record16 : (n : Node) → RightNode n → readNode (record16 n) ≡ n
+unfolding readNode record16 layout bytes2 byte word slots tuple
 node-record16 (basic nil) h = refl
 node-record16 (basic (kill k)) h = rw (word-bytes2 k)
 node-record16 (basic (invoke p o ws)) h = simp (word-bytes2, take-pad ws (h .2 .0))
@@ -219,7 +219,7 @@ node-record16 (prefix replication) h = refl
 node-record16 (join choice) h = refl
 node-record16 (join parallel) h = refl
 
--- A right node's bytes are bytes.
+-- A right readNode's bytes are bytes.
 pub small-atom : (a : ℕ) → atom a ≡ true → a < 65536
 small-atom a h = set-case (a < 65536) a h (λ e. omega (arith, value-range a e)) (λ e. omega (arith, variable-range a e)) (λ e. omega (arith, label-range a e))
 
@@ -233,15 +233,15 @@ small-slot [] h i = omega arith
 small-slot (w ∷ ws) h zero = small-datum w (and-true (datum w) _ h .0)
 small-slot (w ∷ ws) h (suc i) = small-slot ws (and-true (datum w) _ h .1) i
 
-layout-bytes : (k a c i : ℕ) (ws : List ℕ) → (k < 256) × (a < 65536) × (c < 65536) × (i < 65536) → RightTuple ws → Bytes (layout k a c ws i)
+layout-bytes : (k a c i : ℕ) (ws : List ℕ) → (k < 256) × (a < 65536) × (c < 65536) × (i < 65536) → RightTuple ws → AreBytes (layout k a c ws i)
 unfolding layout bytes2
 layout-bytes k a c i ws l h = omega (arith, small-slot ws (h .1) 0, small-slot ws (h .1) 1, small-slot ws (h .1) 2, small-slot ws (h .1) 3)
 
-bare-bytes : (k a i : ℕ) → (k < 256) × (a < 65536) × (i < 65536) → Bytes (layout k a 0 [] i)
+bare-bytes : (k a i : ℕ) → (k < 256) × (a < 65536) × (i < 65536) → AreBytes (layout k a 0 [] i)
 unfolding every
 bare-bytes k a i l = layout-bytes k a 0 i [] (omega arith) (omega arith, refl)
 
-pub record-bytes : (n : Node) → RightNode n → Bytes (record16 n)
+pub record-bytes : (n : Node) → RightNode n → AreBytes (record16 n)
 unfolding record16
 record-bytes (basic nil) h = bare-bytes 0 0 0 (omega arith)
 record-bytes (basic (kill k)) h = bare-bytes 1 k 0 (omega (arith, label-range k h))

@@ -12,11 +12,11 @@ use borrow.Author.Tests.{eqb-true, eqb-false, eq-eqb, ne-eqb}
 use Rattle.cows.specs.Basics.{every}
 use Rattle.cows.specs.Terms.{nil, kill, invoke, receive, wait, protection, delimitation, replication, Term, leaf, under, both, size, Join, choice, parallel}
 use Rattle.cows.specs.Kinds.{Node, basic, prefix, join, root, kind, liveKind, open-kinds}
-use Rattle.cows.specs.Places.{inside, leftOf, rightOf, Way, Spot, descend, spot, wayTo, sub, passed}
+use Rattle.cows.specs.Places.{inside, leftOf, rightOf, Way, Spot, descend, spotAt, wayTo, sub, passed}
 use Rattle.cows.specs.Format.{nodes, decode}
 use Rattle.cows.specs.Active.{live, onKind}
 use Rattle.cows.specs.Moves.{Substitution, mapBasic, mapPrefix, mapNode, mapAtoms, image, lower, elapse}
-use Rattle.cows.specs.Allows.{Live, Becomes, itself, by-pair, by-others, AllBecome, no-more, and-more, Rewritten, as-nil, as-kill, as-invoke, as-receive, as-wait, as-protection, as-delimitation, as-replication, as-join, Replaced, Elapsed}
+use Rattle.cows.specs.Allows.{StandsLive, Becomes, itself, by-pair, by-others, AllBecome, no-more, and-more, Rewritten, as-nil, as-kill, as-invoke, as-receive, as-wait, as-protection, as-delimitation, as-replication, as-join, Replaced, Elapsed}
 use Rattle.cows.proofs.Basics.{clash, cond-case, cond-case₂, true-and}
 use Rattle.cows.proofs.Places.{fill-spot, descend-here}
 use Rattle.cows.proofs.Format.{length-nodes, decode-nodes}
@@ -109,7 +109,7 @@ root-map f v w (both j s t) (suc n) =
     (λ e. root-map f (leftOf j (mapAtoms f t) ∷ v) (leftOf j t ∷ w) s n) (λ e. root-map f (rightOf j (mapAtoms f s) ∷ v) (rightOf j s ∷ w) t (n - size s)))
 
 root-mapped : (f : ℕ → ℕ) (t : Term) (n : ℕ) → root (sub (mapAtoms f t) n) ≡ mapNode f (root (sub t n))
-unfolding sub spot
+unfolding sub spotAt
 root-mapped f t n = root-map f [] [] t n
 
 pub map-replaced : (σ : Substitution) (t : Term) → Replaced σ t (mapAtoms (image σ) t)
@@ -158,15 +158,15 @@ root-elapse d v w h (both j s t) (suc n) =
     (λ e. root-elapse d (rightOf j (elapse d s) ∷ v) (rightOf j s ∷ w) (join-live j s w h .1) t (n - size s)))
 
 root-elapsed : (d : ℕ) (t : Term) (n : ℕ) → root (sub (elapse d t) n) ≡ timed d (live (wayTo t n)) (root (sub t n))
-unfolding sub spot wayTo
+unfolding sub spotAt wayTo
 root-elapsed d t n = root-elapse d [] [] (unfold live every in refl) t n
 
 -- at a place stands a live wait, or a record that time does not change
 module _ (P : Type 0) (d : ℕ) (t : Term) (n : ℕ) (l : n < size t) where
   abbrev None : Type 0
-  None = (i : ℕ) (r : Term) → Live t n (under (wait i) r) → ⊥
+  None = (i : ℕ) (r : Term) → StandsLive t n (under (wait i) r) → ⊥
 
-  wait-or-not : ((i : ℕ) (r : Term) → Live t n (under (wait i) r) → P) → (None → timed d (live (wayTo t n)) (root (sub t n)) ≡ root (sub t n) → P) → P
+  wait-or-not : ((i : ℕ) (r : Term) → StandsLive t n (under (wait i) r) → P) → (None → timed d (live (wayTo t n)) (root (sub t n)) ≡ root (sub t n) → P) → P
   unfolding timed root lowerNode lower
   wait-or-not f g = go (live (wayTo t n)) refl (sub t n) refl
     where
@@ -183,7 +183,7 @@ module _ (P : Type 0) (d : ℕ) (t : Term) (n : ℕ) (l : n < size t) where
       go true q (under replication r) e = g (other _ e (λ i r z. cc)) (rw (q, e))
       go true q (both j r s) e = g (other _ e (λ i r z. cc)) (rw (q, e))
 
-falls-live : (d : ℕ) (t : Term) (n i : ℕ) (r : Term) → Live t n (under (wait i) r) → root (sub (elapse d t) n) ≡ prefix (wait (i - d))
+falls-live : (d : ℕ) (t : Term) (n i : ℕ) (r : Term) → StandsLive t n (under (wait i) r) → root (sub (elapse d t) n) ≡ prefix (wait (i - d))
 unfolding timed root lowerNode lower
 falls-live d t n i r l = rw (root-elapsed d t n, l .live, l .at .stands)
 

@@ -10,12 +10,12 @@ use native.Mathlib.Nat.{zero-add}
 use lib.Dec.{ltb, eqb}
 use lib.ListN.{length}
 use borrow.Author.Tests.{le-ltb, ltb-true, ltb-false, eqb-true, eq-eqb, not-false}
-use Rattle.cows.specs.Basics.{any, holds, found, firstFrom}
+use Rattle.cows.specs.Basics.{any, foundWith, found, firstFrom, oneIf}
 use Rattle.cows.specs.Terms.{choice, parallel, Term, leaf, under, both, size, depth, prefixed, delimits, delimitsAtom, delimitsAt, usesBasic, usesPrefix, uses, bindable}
 use Rattle.cows.specs.Kinds.{guard}
-use Rattle.cows.specs.Places.{inside, leftOf, rightOf, Way, Spot, descend, spot, sub, first, frameDelimits, enclosed, frameChooses}
+use Rattle.cows.specs.Places.{inside, leftOf, rightOf, Way, Spot, descend, spotAt, sub, first, frameDelimits, enclosed, frameChooses}
 use Rattle.cows.specs.Tables.{tooDeep, inChoice, noGuard, unbound, delimitedBefore, again, escaped, clash}
-use Rattle.cows.specs.Within.{Guarded, Bound, Scoped, one, counts, restricted, Formed}
+use Rattle.cows.specs.Within.{Guarded, Bound, Scoped, counts, restricted, Formed}
 use Rattle.cows.proofs.Basics.{never, bool-case, or-false, not-so, found-none, firstFrom-none, none-firstFrom}
 use Rattle.cows.proofs.Places.{Everywhere, Fails, at-first, at-under, at-left, at-right, all-leaf, all-under, all-both, first-none, none-first}
 
@@ -106,7 +106,7 @@ unfolding any
 any-bound K E [] h = tt
 any-bound K E (a ∷ l) h = let (p, q) = or-false (K a && not (E a)) _ h in ((λ e. not-false (E a) (ap (λ c. c && not (E a)) (sym e) ∙ p)), any-bound K E l q)
 
--- the test for a use, not enclosed, of an atom of which K holds
+-- the test for a use, not enclosed, of an atom of which K foundWith
 module _ (K : ℕ → Bool) where
   abbrev stray : ℕ → Spot → Bool
   stray n z = any (λ a. K a && not (enclosed a (z .way))) (uses (z .here))
@@ -126,7 +126,7 @@ module _ (K : ℕ → Bool) where
 -- 7: no atom is delimited twice. How many of the numbers below n pass a test ..
 tally : (ℕ → Bool) → ℕ → ℕ
 tally f zero = 0
-tally f (suc n) = one (f n) + tally f n
+tally f (suc n) = oneIf (f n) + tally f n
 
 -- (a number below n + 1 is n or below n)
 below-suc : (P : ℕ → Type 0) (n : ℕ) → P n → ((i : ℕ) → i < n → P i) → (i : ℕ) → i < suc n → P i
@@ -141,7 +141,7 @@ tally-none f (suc n) h = rw (h n (omega arith), tally-none f n (λ i l. h i (ome
 none-tally : (f : ℕ → Bool) (n : ℕ) → tally f n ≡ 0 → (i : ℕ) → i < n → f i ≡ false
 unfolding tally
 none-tally f zero h i l = absurd (omega arith)
-none-tally f (suc n) h i l = below-suc (λ i. f i ≡ false) n (not-so (λ e. omega (arith, ap one e))) (none-tally f n (omega arith)) i l
+none-tally f (suc n) h i l = below-suc (λ i. f i ≡ false) n (not-so (λ e. omega (arith, ap oneIf e))) (none-tally f n (omega arith)) i l
 
 found-tally : (f : ℕ → Bool) (n : ℕ) → found (firstFrom f 0 n) ≡ false → tally f n ≡ 0
 found-tally f n e = tally-none f n (λ i l. rw zero-add at (firstFrom-none f 0 n (found-none (firstFrom f 0 n) e) i l))
@@ -156,58 +156,58 @@ unfolding tally
 tally-once f zero h = omega arith
 tally-once f (suc n) h = go (f n) refl (tally-once f n (λ i l. h i (omega arith)))
   where
-    go : (b : Bool) → f n ≡ b → tally f n ≤ 1 → one b + tally f n ≤ 1
+    go : (b : Bool) → f n ≡ b → tally f n ≤ 1 → oneIf b + tally f n ≤ 1
     go true e k = omega (arith, h n (omega arith) e)
     go false e k = omega arith
 
 once-tally : (f : ℕ → Bool) (n : ℕ) → tally f n ≤ 1 → (i : ℕ) → i < n → f i ≡ true → tally f i ≡ 0
 unfolding tally
 once-tally f zero h i l e = absurd (omega arith)
-once-tally f (suc n) h i l e = below-suc (λ i. f i ≡ true → tally f i ≡ 0) n (λ e. omega (arith, ap one e)) (once-tally f n (omega arith)) i l e
+once-tally f (suc n) h i l e = below-suc (λ i. f i ≡ true → tally f i ≡ 0) n (λ e. omega (arith, ap oneIf e)) (once-tally f n (omega arith)) i l e
 
 -- the places of a term that delimit d are as many as its delimitations of d
 tally-counts : (f : ℕ → Bool) (d : ℕ) (w : Way) (o : ℕ) (t : Term) → Every (λ n z. f n ≡ delimitsAt d (z .here)) w o t → tally f (o + size t) ≡ tally f o + counts d t
-unfolding tally size prefixed holds delimitsAtom
-tally-counts f d w o (leaf x) h = let z : o + 1 ≡ suc o = omega arith in rw z (omega (arith, ap one h))
+unfolding tally size prefixed foundWith delimitsAtom
+tally-counts f d w o (leaf x) h = let z : o + 1 ≡ suc o = omega arith in rw z (omega (arith, ap oneIf h))
 tally-counts f d w o (under u t) h =
     let z : o + suc (size t) ≡ suc o + size t = omega arith in
-    rw z (omega (arith, tally-counts f d (inside u ∷ w) (suc o) t (h .1), ap one (h .0)))
+    rw z (omega (arith, tally-counts f d (inside u ∷ w) (suc o) t (h .1), ap oneIf (h .0)))
 tally-counts f d w o (both j s t) h =
     let z : o + suc (size s + size t) ≡ suc (o + size s) + size t = omega arith in
     let y : suc o + size s ≡ suc (o + size s) = omega arith in
-    rw z (omega (arith, rw y at (tally-counts f d (leftOf j t ∷ w) (suc o) s (h .1)), tally-counts f d (rightOf j s ∷ w) (suc (o + size s)) t (h .2), ap one (h .0)))
+    rw z (omega (arith, rw y at (tally-counts f d (leftOf j t ∷ w) (suc o) s (h .1)), tally-counts f d (rightOf j s ∷ w) (suc (o + size s)) t (h .2), ap oneIf (h .0)))
 
 -- the place n of t delimits d
 abbrev marks : Term → ℕ → ℕ → Bool
 marks t d n = delimitsAt d (sub t n)
 
 tally-marks : (t : Term) (d : ℕ) → tally (marks t d) (size t) ≡ counts d t
-unfolding tally sub spot
+unfolding tally sub spotAt
 tally-marks t d =
     simp zero-add at
     (tally-counts (marks t d) d [] 0 t (everywhere-every (λ n z. marks t d n ≡ delimitsAt d (z .here)) [] 0 t (λ n l. ap (marks t d) (zero-add n))))
 
 -- a test of the value that may be missing, by the number that it is
-holds-one : (p : ℕ → Bool) (a : ℕ) (o : Option ℕ) → holds p o ≡ false → holds (eqb a) o ≡ true → p a ≡ false
-unfolding holds
+holds-one : (p : ℕ → Bool) (a : ℕ) (o : Option ℕ) → foundWith p o ≡ false → foundWith (eqb a) o ≡ true → p a ≡ false
+unfolding foundWith
 holds-one p a none h e = never e
 holds-one p a (some d) h e = rw (eqb-true a d e) h
 
-one-holds : (p : ℕ → Bool) (o : Option ℕ) → ((a : ℕ) → holds (eqb a) o ≡ true → p a ≡ false) → holds p o ≡ false
-unfolding holds
+one-holds : (p : ℕ → Bool) (o : Option ℕ) → ((a : ℕ) → foundWith (eqb a) o ≡ true → p a ≡ false) → foundWith p o ≡ false
+unfolding foundWith
 one-holds p none h = refl
 one-holds p (some d) h = h d (eq-eqb d d refl)
 
 -- no place delimits an atom again exactly if each atom is delimited at most once
 again-unique : (t : Term) → Everywhere (Fails (again t)) [] 0 t → (a : ℕ) → counts a t ≤ 1
-unfolding again delimitedBefore sub spot
+unfolding again delimitedBefore sub spotAt
 again-unique t h a =
     rw (tally-marks t a) at
     (tally-once (marks t a) (size t)
     (λ i l e. found-tally (marks t a) i (holds-one (delimitedBefore t i) a (prefixed delimits (sub t i)) (rw zero-add at (h i l)) e)))
 
 unique-again : (t : Term) → ((a : ℕ) → counts a t ≤ 1) → Everywhere (Fails (again t)) [] 0 t
-unfolding again delimitedBefore sub spot
+unfolding again delimitedBefore sub spotAt
 unique-again t h n l =
     rw zero-add
     (one-holds (delimitedBefore t n) (prefixed delimits (sub t n))

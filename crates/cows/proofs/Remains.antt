@@ -12,10 +12,10 @@ use lib.Dec.{ltb, eqb}
 use lib.ListN.{length, getD, take, drop, set, length-append, length-drop}
 use lib.Seq.{take-at, take-all, getD-take, getD-drop, length-take-le, set-split, getD-set-same, getD-set-other}
 use borrow.Author.Tests.{eqb-true, eqb-false, eq-eqb, lt-ltb, le-ltb}
-use Rattle.cows.specs.Basics.{any, member, holds, accept}
-use Rattle.cows.specs.Terms.{Basic, nil, Prefix, delimitation, choice, Term, leaf, under, both, Ends, size, prefixed, receives, invokes, delimitsAtom, delimits, below}
+use Rattle.cows.specs.Basics.{any, member, foundWith, accept}
+use Rattle.cows.specs.Terms.{Basic, nil, Prefix, delimitation, choice, Term, leaf, under, both, Action, size, prefixed, receives, invokes, delimitsAtom, delimits, below}
 use Rattle.cows.specs.Kinds.{Node, basic, prefix, join, root, kind, liveKind, open-kinds}
-use Rattle.cows.specs.Places.{Frame, leftOf, rightOf, inside, plug, Way, fill, Spot, descend, spot, wayTo, sub, frameChooses}
+use Rattle.cows.specs.Places.{Frame, leftOf, rightOf, inside, plug, Way, fill, Spot, descend, spotAt, wayTo, sub, frameChooses}
 use Rattle.cows.specs.Format.{nodes}
 use Rattle.cows.specs.Active.{live}
 use Rattle.cows.specs.Within.{Within}
@@ -39,7 +39,7 @@ use Rattle.cows.proofs.Binding.{AllBind}
 use Rattle.cows.proofs.Preserving.{meeting-binds}
 use Rattle.cows.proofs.Allows.{communicate-meets, meets-communicate}
 
--- The whole choice around the guard at place a: where it begins, what it is, and that it holds the guard.
+-- The whole choice around the guard at place a: where it begins, what it is, and that it foundWith the guard.
 ahead-append : (v w : Way) → length (ahead (v ++ w)) ≡ length (ahead w) + length (ahead v)
 unfolding ahead
 ahead-append [] w = omega arith
@@ -155,8 +155,8 @@ module _ (t : Term) (a b : ℕ) (g : Prefix) (r : Term) (x : Basic) (l : a < siz
       let o = around-at t a l in
       let c = length (ahead (aroundChoice (wayTo t a))) in
       let s : sub t c ≡ fill (o .inner) (under g r) = o .at .1 ∙ ap (fill (o .inner)) ea in
-      let e : spot t b ≡ descend (wayTo t c) (fill (o .inner) (under g r)) (b - c) =
-      ap (spot t) (let z : b ≡ c + (b - c) = omega arith in z) ∙ (spot-part t c (o .at .0) .1 (b - c) (omega arith) ∙ ap (λ q. descend (wayTo t c) q (b - c)) s) in
+      let e : spotAt t b ≡ descend (wayTo t c) (fill (o .inner) (under g r)) (b - c) =
+      ap (spotAt t) (let z : b ≡ c + (b - c) = omega arith in z) ∙ (spot-part t c (o .at .0) .1 (b - c) (omega arith) ∙ ap (λ q. descend (wayTo t c) q (b - c)) s) in
       choices-free x (wayTo t c) (o .choice .choices) (under g r) (under-free x (wayTo t c) g r stops) (b - c)
       (ap (λ (z : Spot). z .here) (sym e) ∙ eb) (ap (λ (z : Spot). live (z .way)) (sym e) ∙ lb) (ap (λ (z : Spot). any frameChooses (z .way)) (sym e) ∙ free)
 
@@ -200,7 +200,7 @@ binder-is [] n e = never e
 binder-is (p ∷ σ) n e = or-case _ (nodeDelimits (p .0) n) (binder σ n) e (λ h. (p .0, node-delimits (p .0) n h)) (binder-is σ n)
 
 binder-member : (σ : Substitution) (n : Node) (d : ℕ) → n ≡ prefix (delimitation d) → binder σ n ≡ member d (keys σ)
-unfolding binder nodeDelimits delimitsAtom delimits holds
+unfolding binder nodeDelimits delimitsAtom delimits foundWith
 binder-member σ n d e = ap (binder σ) e ∙ key-member d σ
 
 bound-node : (σ : Substitution) (n : Node) → BoundRecord σ n (bindNode σ n)
@@ -372,8 +372,8 @@ module _ (t : Term) (a b : ℕ) (g : Prefix) (r : Term) (x : Basic) (σ : Substi
 met-binds : (t : Term) (a b : ℕ) (σ : Substitution) → Within t → Meets t a b σ → (let s = continue (silence t b) a in Sound s × AllBind s σ)
 unfolding prefixed receives invokes
 met-binds t a b σ w h =
-    let r : Ends = record { partner = h .partner; operation = h .operation; tuple = h .pattern } in
-    let m : Ends = record { partner = h .partner; operation = h .operation; tuple = h .sent } in
+    let r : Action = record { partner = h .partner; operation = h .operation; tuple = h .pattern } in
+    let m : Action = record { partner = h .partner; operation = h .operation; tuple = h .sent } in
     meeting-binds t a b r m σ (ap (prefixed receives) (h .receiver .at .stands)) (ap invokes (h .sender .at .stands))
     (fits-fit r m σ (record { closed = h .closed; partner = refl; operation = refl; matches = h .matches })) (reaches-inScope t a b σ (h .scoped)) (w .right, w .formed)
 

@@ -1,4 +1,4 @@
--- The atoms chosen for a copy (specs/Moves, fresh and renaming): not taken, of the same set, the smallest such, and different from each other.
+-- The atoms chosen for a copy (specs/Moves, fresh and renaming): not taken, of the same set, the firstFree such, and different from each other.
 use mathlib.Core.Path.{_≡_, refl, sym, ap, subst, _∙_}
 use mathlib.Core.Bool.{Bool, true, false, cond, _||_}
 use mathlib.Core.List.{List, [], _∷_}
@@ -7,10 +7,9 @@ use native.Mathlib.Omega.{arith}
 use lib.Dec.{eqb}
 use lib.ListN.{length}
 use borrow.Author.Tests.{eqb-true, eqb-false, eq-eqb, ne-eqb}
-use Rattle.cows.specs.Basics.{any, every, member}
+use Rattle.cows.specs.Basics.{any, every, member, oneIf}
 use Rattle.cows.specs.Terms.{atom}
-use Rattle.cows.specs.Within.{one}
-use Rattle.cows.specs.Moves.{Substitution, image, smallest, least, fresh, renaming}
+use Rattle.cows.specs.Moves.{Substitution, image, firstFree, least, fresh, renaming}
 use Rattle.cows.specs.Allows.{SameSet, Smallest, Renames, finished, renames}
 use Rattle.cows.proofs.Basics.{never, cond-case, lt-case, and-true, or-false, or-right, or-second, eqb-swap}
 use Rattle.cows.proofs.Sets.{in-values, in-variables, in-labels, alike-sets, value-range, variable-range, label-range, set-case}
@@ -18,11 +17,11 @@ use Rattle.cows.proofs.Sets.{in-values, in-variables, in-labels, alike-
 -- how many of n, n + 1, .. (k of them) are taken
 hits : ℕ → ℕ → List ℕ → ℕ
 hits n zero taken = 0
-hits n (suc k) taken = one (member n taken) + hits (suc n) k taken
+hits n (suc k) taken = oneIf (member n taken) + hits (suc n) k taken
 
 hit : ℕ → ℕ → ℕ → ℕ
 hit n zero u = 0
-hit n (suc k) u = one (eqb n u) + hit (suc n) k u
+hit n (suc k) u = oneIf (eqb n u) + hit (suc n) k u
 
 hit-above : (n k u : ℕ) → u < n → hit n k u ≡ 0
 unfolding hit
@@ -34,11 +33,11 @@ unfolding hit
 hit-once n zero u = omega arith
 hit-once n (suc k) u = go (eqb n u) refl (hit-once (suc n) k u)
   where
-    go : (b : Bool) → eqb n u ≡ b → hit (suc n) k u ≤ 1 → one b + hit (suc n) k u ≤ 1
+    go : (b : Bool) → eqb n u ≡ b → hit (suc n) k u ≤ 1 → oneIf b + hit (suc n) k u ≤ 1
     go true e h = omega (arith, hit-above (suc n) k u (omega (arith, eqb-true n u e)))
     go false e h = omega arith
 
-one-or : (p q : Bool) → one (p || q) ≤ one p + one q
+one-or : (p q : Bool) → oneIf (p || q) ≤ oneIf p + oneIf q
 one-or true true = omega arith
 one-or true false = omega arith
 one-or false q = omega arith
@@ -54,16 +53,16 @@ hits-le n zero [] = omega arith
 hits-le n (suc k) [] = omega (arith, hits-le (suc n) k [])
 hits-le n k (u ∷ us) = omega (arith, hits-cons n k u us, hit-once n k u, hits-le n k us)
 
-smallest-free : (k n : ℕ) (taken : List ℕ) → hits n k taken < k → member (smallest k n taken) taken ≡ false
-unfolding smallest hits
+smallest-free : (k n : ℕ) (taken : List ℕ) → hits n k taken < k → member (firstFree k n taken) taken ≡ false
+unfolding firstFree hits
 smallest-free zero n taken h = absurd (omega arith)
 smallest-free (suc k) n taken h =
     cond-case (λ r. member r taken ≡ false) (member n taken)
-    (λ e. smallest-free k (suc n) taken (omega (arith, ap one e)))
+    (λ e. smallest-free k (suc n) taken (omega (arith, ap oneIf e)))
     (λ e. e)
 
-smallest-range : (k n : ℕ) (taken : List ℕ) → (n ≤ smallest k n taken) × (smallest k n taken ≤ n + k)
-unfolding smallest
+smallest-range : (k n : ℕ) (taken : List ℕ) → (n ≤ firstFree k n taken) × (firstFree k n taken ≤ n + k)
+unfolding firstFree
 smallest-range zero n taken = (omega arith, omega arith)
 smallest-range (suc k) n taken =
     cond-case (λ r. (n ≤ r) × (r ≤ n + suc k)) (member n taken)
@@ -74,13 +73,13 @@ fresh-free : (taken : List ℕ) (d : ℕ) → member (fresh taken d) taken ≡ f
 unfolding fresh
 fresh-free taken d = smallest-free (suc (length taken)) (least d) taken (omega (arith, hits-le (least d) (suc (length taken)) taken))
 
--- and the smallest such
-pub smallest-least : (k n : ℕ) (taken : List ℕ) (m : ℕ) → n ≤ m → m < smallest k n taken → member m taken ≡ true
-unfolding smallest
+-- and the firstFree such
+pub smallest-least : (k n : ℕ) (taken : List ℕ) (m : ℕ) → n ≤ m → m < firstFree k n taken → member m taken ≡ true
+unfolding firstFree
 smallest-least zero n taken m h l = absurd (omega arith)
 smallest-least (suc k) n taken m h l = go (member n taken) refl l (smallest-least k (suc n) taken m)
   where
-    go : (b : Bool) → member n taken ≡ b → m < cond b (smallest k (suc n) taken) n → (suc n ≤ m → m < smallest k (suc n) taken → member m taken ≡ true) → member m taken ≡ true
+    go : (b : Bool) → member n taken ≡ b → m < cond b (firstFree k (suc n) taken) n → (suc n ≤ m → m < firstFree k (suc n) taken → member m taken ≡ true) → member m taken ≡ true
     go true e l f = at (eqb n m) refl
       where
         at : (q : Bool) → eqb n m ≡ q → member m taken ≡ true
@@ -110,7 +109,7 @@ image-other taken (d ∷ ds) a h =
     let (h₁, h₂) = or-false (eqb a d) (any (eqb a) ds) h in
     rw h₁ (image-other (fresh taken d ∷ taken) ds a h₂)
 
--- those listed become smallest ones
+-- those listed become firstFree ones
 pub image-free : (taken ds : List ℕ) (a : ℕ) → member a ds ≡ true → member (image (renaming taken ds) a) taken ≡ false
 unfolding image renaming member any
 image-free taken [] a h = never h
@@ -136,7 +135,7 @@ member-cons : (a b : ℕ) (l : List ℕ) → member a l ≡ true → member a (b
 unfolding member any
 member-cons a b l h = or-right (eqb a b) (any (eqb a) l) h
 
--- an atom in use is not renamed to one just fresh
+-- an atom in use is not renamed to oneIf just fresh
 image-not : (taken ds : List ℕ) (f b : ℕ) → member f taken ≡ false → member b taken ≡ true → eqb f (image (renaming (f ∷ taken) ds) b) ≡ false
 unfolding member any
 image-not taken ds f b hf hb = go (member b ds) refl

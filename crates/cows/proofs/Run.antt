@@ -13,7 +13,7 @@ use Rattle.cows.specs.Format.{encode}
 use Rattle.cows.specs.Tables.{judge}
 use Rattle.cows.specs.Within.{Within}
 use Rattle.cows.specs.Step.{readMove, stepTerm, judgeStep}
-use Rattle.cows.specs.Run.{Tally, counted, noTally, sum, adds, Run, start, judgement, enter, turn, run, lostBy, losses}
+use Rattle.cows.specs.Run.{Tally, counted, noTally, sum, adds, RunState, start, judgement, enter, turn, run, lostBy, losses}
 use Rattle.cows.proofs.Basics.{bind-accept, accept-bind, forbid-accept, same-accept, same-some}
 use Rattle.cows.proofs.Stands.{wanted-is}
 use Rattle.cows.proofs.Tables.{within-judge}
@@ -74,7 +74,7 @@ load-law t s (Unfold a) e = law-unfold t s a e
 load-law t s (Extrude a) e = law-extrude t s a e
 
 -- The balance of a run that began with the load x, after moves that lost l.
-abbrev pub Balanced : ℕ → ℕ → Run → Type 0
+abbrev pub Balanced : ℕ → ℕ → RunState → Type 0
 Balanced x l r = x + r .tally .copied ≡ 2 * r .tally .communications + r .tally .kills + r .tally .timeouts + load (r .table) + l
 
 balanced-count : (x l : ℕ) (c : Tally) (t s : Term) (m : Move) → successor t m ≡ accept s → Balanced x l (record { table = t; tally = c }) → Balanced x (l + lost t m) (record { table = s; tally = sum c (adds (copies t m) m) })
@@ -89,7 +89,7 @@ balanced-count x l c t s m e h = go m (load-law t s m e)
     go (Unfold a) k = omega arith
     go (Extrude a) k = omega arith
 
-balanced-turn : (x l : ℕ) (r : Run) (m : Option Move) → Balanced x l r → Balanced x (l + lostBy (r .table) m (judgement r m)) (turn r m)
+balanced-turn : (x l : ℕ) (r : RunState) (m : Option Move) → Balanced x l r → Balanced x (l + lostBy (r .table) m (judgement r m)) (turn r m)
 unfolding turn judgement enter lostBy
 balanced-turn x l r m h = go m refl (stepTerm (r .table) m 32768) refl
   where
@@ -100,7 +100,7 @@ balanced-turn x l r m h = go m refl (stepTerm (r .table) m 32768) refl
         let a = step-accepted (r .table) s m 32768 eq in
         balanced-count x l (r .tally) (r .table) s move (subst (λ v. successor (r .table) v ≡ accept s) (same-some (sym (a .reads) ∙ eo)) (a .moves)) h
 
-balanced-run : (x l : ℕ) (r : Run) (ms : List (List ℕ)) → Balanced x l r → Balanced x (l + losses r ms) (run r ms)
+balanced-run : (x l : ℕ) (r : RunState) (ms : List (List ℕ)) → Balanced x l r → Balanced x (l + losses r ms) (run r ms)
 unfolding run losses
 balanced-run x l r [] h = omega arith
 balanced-run x l r (m ∷ ms) h = omega (arith, balanced-run x _ (turn r (readMove m)) ms (balanced-turn x l r (readMove m) h))
@@ -115,12 +115,12 @@ pub run-bound : (t : Term) (ms : List (List ℕ)) → let r = run (start t) ms i
 run-bound t ms = omega (arith, run-balance t ms)
 
 -- The run's judgement of a move is the step's on the bytes of the table that it keeps.
-pub judgement-step : (r : Run) (m : List ℕ) → Within (r .table) → judgement r (readMove m) ≡ judgeStep (encode (r .table)) m 32768
+pub judgement-step : (r : RunState) (m : List ℕ) → Within (r .table) → judgement r (readMove m) ≡ judgeStep (encode (r .table)) m 32768
 unfolding judgement judgeStep
 judgement-step r m w = sym (accept-bind (judge (encode (r .table))) (λ t. stepTerm t (readMove m) 32768) (r .table) (within-judge (r .table) w))
 
 -- Every table that a run keeps is within the limits, if the start table is.
-turn-within : (r : Run) (m : Option Move) → Within (r .table) → Within (turn r m .table)
+turn-within : (r : RunState) (m : Option Move) → Within (r .table) → Within (turn r m .table)
 unfolding turn judgement enter
 turn-within r m w = go m (stepTerm (r .table) m 32768) refl
   where
@@ -129,7 +129,7 @@ turn-within r m w = go m (stepTerm (r .table) m 32768) refl
     go none (accept s) e = w
     go (some move) (accept s) e = step-within (r .table) s m 32768 w e
 
-pub run-within : (r : Run) (ms : List (List ℕ)) → Within (r .table) → Within (run r ms .table)
+pub run-within : (r : RunState) (ms : List (List ℕ)) → Within (r .table) → Within (run r ms .table)
 unfolding run
 run-within r [] w = w
 run-within r (m ∷ ms) w = run-within (turn r (readMove m)) ms (turn-within r (readMove m) w)

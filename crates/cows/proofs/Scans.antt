@@ -9,7 +9,7 @@ use lib.Dec.{ltb}
 use Rattle.cows.specs.Basics.{every}
 use Rattle.cows.specs.Terms.{Term, leaf, under, both, size}
 use Rattle.cows.specs.Kinds.{prefix, join, root, kind, kindOf, liveKind}
-use Rattle.cows.specs.Places.{Frame, inside, leftOf, rightOf, passed, Way, Spot, descend, spot, wayTo, sub}
+use Rattle.cows.specs.Places.{Frame, inside, leftOf, rightOf, passed, Way, Spot, descend, spotAt, wayTo, sub}
 use Rattle.cows.specs.Active.{onKind, live, ready}
 use Rattle.cows.proofs.Basics.{cond-case, and-true, true-and, every-append, and-none}
 use Rattle.cows.proofs.Rows.{live-ready-kind}
@@ -69,7 +69,7 @@ module _ (P : ℕ → Bool) where
     -- below a record that lets nothing through, no place is active
     pub shut-below : P (kindOf (sub t i)) ≡ false → (m : ℕ) → i < m → m < i + size (sub t i) → active (wayTo t m) ≡ false
     unfolding wayTo sub descend passed kindOf root size
-    shut-below p m a b = ap (λ (z : Spot). active (z .way)) (ap (spot t) (let z : m ≡ i + suc k = omega arith in z) ∙ spot-part t i l .1 (suc k) (omega arith)) ∙ go (sub t i) p (omega arith)
+    shut-below p m a b = ap (λ (z : Spot). active (z .way)) (ap (spotAt t) (let z : m ≡ i + suc k = omega arith in z) ∙ spot-part t i l .1 (suc k) (omega arith)) ∙ go (sub t i) p (omega arith)
       where
         k : ℕ
         k = m - suc i

@@ -1,4 +1,4 @@
--- Laws of specs/Within: what holds of every atom that a term uses, with the atoms delimited around the use; guards, scopes and kinds along a way; and how often an atom is delimited.
+-- Laws of specs/Within: what foundWith of every atom that a term uses, with the atoms delimited around the use; guards, scopes and kinds along a way; and how often an atom is delimited.
 use mathlib.Core.Path.{_≡_, refl, sym, ap, ap₂, _∙_}
 use mathlib.Core.Bool.{Bool, true, false, _||_}
 use mathlib.Core.Option.{Option, none, some}
@@ -8,11 +8,11 @@ use native.Mathlib.Omega.{arith}
 use native.Mathlib.Nat.{zero-add}
 use lib.Dec.{ltb, eqb}
 use borrow.Author.Tests.{lt-ltb, ltb-true}
-use Rattle.cows.specs.Basics.{any, member, holds, All}
+use Rattle.cows.specs.Basics.{any, member, foundWith, All, oneIf}
 use Rattle.cows.specs.Terms.{Prefix, choice, parallel, Term, leaf, under, both, value, variable, label, delimits, delimitsAtom, usesBasic, usesPrefix, optional, binders}
 use Rattle.cows.specs.Kinds.{guard, guardKind}
 use Rattle.cows.specs.Places.{Frame, inside, leftOf, rightOf, plug, Way, fill, frameDelimits, enclosed}
-use Rattle.cows.specs.Within.{Scoped, Right, Guarded, nowhere, one, counts, restricted}
+use Rattle.cows.specs.Within.{Scoped, Right, Guarded, nowhere, counts, restricted}
 use Rattle.cows.proofs.Places.{fill-ind}
 use Rattle.cows.proofs.Basics.{and-true, true-and, or-both, or-case, or-none, member-append}
 use Rattle.cows.proofs.Rows.{plug-kind}
@@ -35,7 +35,7 @@ Used P E (both j s t) = Used P E s × Used P E t
 abbrev pub local : ℕ → Bool
 local a = variable a || label a
 
--- The rule of Scoped: an atom of which K holds is delimited.
+-- The rule of Scoped: an atom of which K foundWith is delimited.
 abbrev pub Need : (ℕ → Bool) → Rule
 Need K a E = K a ≡ true → E a ≡ true
 
@@ -49,7 +49,7 @@ used-scoped K E (leaf x) h = h
 used-scoped K E (under u t) h = (h .0, used-scoped K (inner u E) t (h .1))
 used-scoped K E (both j s t) h = (used-scoped K E s (h .0), used-scoped K E t (h .1))
 
--- one set of atoms inside another; a rule that asks less, with more atoms around
+-- oneIf set of atoms inside another; a rule that asks less, with more atoms around
 abbrev pub Inside : (ℕ → Bool) → (ℕ → Bool) → Type 0
 Inside E F = (a : ℕ) → E a ≡ true → F a ≡ true
 
@@ -144,16 +144,16 @@ right-fill (f ∷ w) s h =
     (q, λ r k. up (plug f r) (on r k))
 
 -- A term delimits the atoms that it counts.
-member-optional : (a : ℕ) (o : Option ℕ) → member a (optional o) ≡ holds (eqb a) o
-unfolding member any optional holds
+member-optional : (a : ℕ) (o : Option ℕ) → member a (optional o) ≡ foundWith (eqb a) o
+unfolding member any optional foundWith
 member-optional a none = refl
 member-optional a (some d) = or-none (eqb a d)
 
-pub one-false : (b : Bool) → one b ≤ 0 → b ≡ false
+pub one-false : (b : Bool) → oneIf b ≤ 0 → b ≡ false
 one-false true h = absurd (omega arith)
 one-false false h = refl
 
-one-positive : (b : Bool) → b ≡ ltb 0 (one b)
+one-positive : (b : Bool) → b ≡ ltb 0 (oneIf b)
 one-positive true = refl
 one-positive false = refl
 
@@ -167,7 +167,7 @@ member-binders a (leaf x) = refl
 member-binders a (under u t) =
     member-append a (optional (delimits u)) (binders t)
     ∙ (ap₂ _||_ (member-optional a (delimits u) ∙ one-positive (delimitsAtom a u)) (member-binders a t)
-    ∙ sum-positive (one (delimitsAtom a u)) (counts a t))
+    ∙ sum-positive (oneIf (delimitsAtom a u)) (counts a t))
 member-binders a (both j s t) =
     member-append a (binders s) (binders t) ∙ (ap₂ _||_ (member-binders a s) (member-binders a t) ∙ sum-positive (counts a s) (counts a t))
 
@@ -189,7 +189,7 @@ counts-plug (inside u) s r a n h = omega arith
 counts-plug (leftOf j t) s r a n h = omega arith
 counts-plug (rightOf j t) s r a n h = omega arith
 
-counts-frame : (f : Frame) (s : Term) (a : ℕ) → one (frameDelimits a f) + counts a s ≤ counts a (plug f s)
+counts-frame : (f : Frame) (s : Term) (a : ℕ) → oneIf (frameDelimits a f) + counts a s ≤ counts a (plug f s)
 unfolding plug frameDelimits
 counts-frame (inside u) s a = omega arith
 counts-frame (leftOf j t) s a = omega arith
@@ -200,11 +200,11 @@ unfolding fill
 counts-fill [] s a = omega arith
 counts-fill (f ∷ w) s a = omega (arith, counts-frame f s a, counts-fill w (plug f s) a)
 
--- a delimitation on the way is one more
+-- a delimitation on the way is oneIf more
 pub counts-enclosed : (w : Way) (s : Term) (a : ℕ) → enclosed a w ≡ true → 1 + counts a s ≤ counts a (fill w s)
 unfolding fill enclosed any
-counts-enclosed [] s a h = absurd (omega (arith, ap one h))
+counts-enclosed [] s a h = absurd (omega (arith, ap oneIf h))
 counts-enclosed (f ∷ w) s a h =
     or-case _ (frameDelimits a f) (enclosed a w) h
-    (λ e. omega (arith, ap one e, counts-frame f s a, counts-fill w (plug f s) a))
+    (λ e. omega (arith, ap oneIf e, counts-frame f s a, counts-fill w (plug f s) a))
     (λ e. omega (arith, counts-frame f s a, counts-enclosed w (plug f s) a e))

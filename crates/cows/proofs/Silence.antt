@@ -9,7 +9,7 @@ use lib.ListN.{length, take, drop, length-append}
 use Rattle.cows.specs.Basics.{any}
 use Rattle.cows.specs.Terms.{Basic, nil, Prefix, Join, choice, parallel, Term, leaf, under, both, size, prefixed}
 use Rattle.cows.specs.Kinds.{basic}
-use Rattle.cows.specs.Places.{Frame, inside, leftOf, rightOf, plug, Way, Spot, descend, spot, wayTo, sub, frameDelimits, enclosed, frameChooses}
+use Rattle.cows.specs.Places.{Frame, inside, leftOf, rightOf, plug, Way, Spot, descend, spotAt, wayTo, sub, frameDelimits, enclosed, frameChooses}
 use Rattle.cows.specs.Format.{nodes}
 use Rattle.cows.specs.Moves.{silence, aroundChoice}
 use Rattle.cows.proofs.Basics.{cond-case₂}
@@ -60,7 +60,7 @@ pub silence-size : (t : Term) (b : ℕ) (x : Basic) → sub t b ≡ leaf x → s
 silence-size t b x e = sym (relieved-size (relieved-silence t b x e))
 
 pub silence-prefix : {A : Type 0} (f : Prefix → Option A) (t : Term) (b : ℕ) (x : Basic) → sub t b ≡ leaf x → (a : ℕ) → prefixed f (sub (silence t b) a) ≡ prefixed f (sub t a)
-unfolding sub spot
+unfolding sub spotAt
 silence-prefix f t b x e a = relieved-prefix f (relieved-silence t b x e) [] [] a
 
 -- silenced, a record is nil, and no other changes
@@ -92,7 +92,7 @@ relieved-at (across {q = q} h i) k (suc n) =
     (λ e. relieved-at h (next left k) n) (λ e. relieved-at i (next (right (relieved-size h)) k) (n - size q)))
 
 pub alike-at : (t : Term) (b : ℕ) (x : Basic) → sub t b ≡ leaf x → (n : ℕ) → Alike (wayTo t n) (wayTo (silence t b) n) × Relieved (sub t n) (sub (silence t b) n)
-unfolding wayTo sub spot
+unfolding wayTo sub spotAt
 alike-at t b x e n = relieved-at (relieved-silence t b x e) top n
 
 -- what alike ways have in common: the number of records ahead, the ways around a choice, and what they delimit

@@ -1,4 +1,4 @@
--- What stands at a place: a property that children inherit holds at every place; a record wanted at a place is one that is live there and of the
+-- What stands at a place: a property that children inherit foundWith at every place; a record wanted at a place is one that is live there and of the
 -- kind; a search that finds nothing has failed at each record; the delimitations of a term; a used atom is enclosed on the way to its use.
 use mathlib.Core.Path.{_≡_, refl, sym, ap, subst, _∙_}
 use mathlib.Core.Bool.{Bool, true, false, _&&_}
@@ -9,12 +9,12 @@ use native.Mathlib.Omega.{arith}
 use native.Mathlib.Nat.{zero-add}
 use lib.Dec.{ltb, eqb}
 use borrow.Author.Tests.{ltb-true, lt-ltb, eqb-true, eq-eqb}
-use Rattle.cows.specs.Basics.{any, member, holds, found, accept}
-use Rattle.cows.specs.Terms.{nil, kill, invoke, Prefix, receive, wait, protection, delimitation, replication, Join, Term, leaf, under, both, Ends, size, kills, invokes, prefixed, receives, waits, delimits, delimitsAtom, replicates, below, uses, optional, binders, invokeOf, receiveOf}
-use Rattle.cows.specs.Places.{inside, leftOf, rightOf, Way, Spot, descend, spot, wayTo, sub, first, frameDelimits, enclosed}
+use Rattle.cows.specs.Basics.{any, member, foundWith, found, accept}
+use Rattle.cows.specs.Terms.{nil, kill, invoke, Prefix, receive, wait, protection, delimitation, replication, Join, Term, leaf, under, both, Action, size, kills, invokes, prefixed, receives, waits, delimits, delimitsAtom, replicates, below, uses, optional, binders, invokeOf, receiveOf}
+use Rattle.cows.specs.Places.{inside, leftOf, rightOf, Way, Spot, descend, spotAt, wayTo, sub, first, frameDelimits, enclosed}
 use Rattle.cows.specs.Within.{Right, Bound, Scoped, nowhere}
 use Rattle.cows.specs.Active.{live, wanted}
-use Rattle.cows.specs.Allows.{Stands, Live}
+use Rattle.cows.specs.Allows.{Stands, StandsLive}
 use Rattle.cows.proofs.Basics.{never, cond-case, and-true, true-and, or-left, or-right, or-case, not-so, same-some, need-accept, need-some, only-some, some-only, found-none, holds-some, member-append}
 use Rattle.cows.proofs.Places.{descend-here, descend-left, descend-right, first-none, none-first}
 
@@ -32,7 +32,7 @@ descend-ind P f g w (both j s t) (suc n) h =
 
 pub sub-ind : (P : Term → Type 0) → ((u : Prefix) (t : Term) → P (under u t) → P t) → ((j : Join) (s t : Term) → P (both j s t) → P s × P t)
     → (t : Term) (n : ℕ) → P t → P (sub t n)
-unfolding sub spot
+unfolding sub spotAt
 sub-ind P f g t n h = descend-ind P f g [] t n h
 
 pub right-at : (t : Term) (n : ℕ) → Right t → Right (sub t n)
@@ -47,7 +47,7 @@ kills-is (leaf (invoke p o ws)) k e = cc
 kills-is (under u t) k e = cc
 kills-is (both j s t) k e = cc
 
-pub invokes-is : (s : Term) (m : Ends) → invokes s ≡ some m → s ≡ leaf (invokeOf m)
+pub invokes-is : (s : Term) (m : Action) → invokes s ≡ some m → s ≡ leaf (invokeOf m)
 unfolding invokes
 invokes-is (leaf nil) m e = cc
 invokes-is (leaf (kill i)) m e = cc
@@ -55,7 +55,7 @@ invokes-is (leaf (invoke p o ws)) m e = ap (λ i. leaf (invokeOf i)) (same-some 
 invokes-is (under u t) m e = cc
 invokes-is (both j s t) m e = cc
 
-pub receives-is : (u : Prefix) (r : Ends) → receives u ≡ some r → u ≡ receiveOf r
+pub receives-is : (u : Prefix) (r : Action) → receives u ≡ some r → u ≡ receiveOf r
 unfolding receives
 receives-is (receive p o ws) r e = ap receiveOf (same-some e)
 receives-is (wait n) r e = cc
@@ -105,14 +105,14 @@ pub wanted-is : {A : Type 0} (look : Term → Option A) (t : Term) (n : ℕ) (x 
 unfolding wanted
 wanted-is look t n x e = only-some (ltb n (size t) && live (wayTo t n)) (look (sub t n)) x (need-accept 11 n _ x e) .1
 
-pub wanted-live : {A : Type 0} (look : Term → Option A) (t : Term) (n : ℕ) (x : A) (s : Term) → (look (sub t n) ≡ some x → sub t n ≡ s) → wanted look t n ≡ accept x → Live t n s
+pub wanted-live : {A : Type 0} (look : Term → Option A) (t : Term) (n : ℕ) (x : A) (s : Term) → (look (sub t n) ≡ some x → sub t n ≡ s) → wanted look t n ≡ accept x → StandsLive t n s
 unfolding wanted
 wanted-live look t n x s is e =
     let (h, k) = only-some (ltb n (size t) && live (wayTo t n)) (look (sub t n)) x (need-accept 11 n _ x e) in
     let (p, l) = and-true (ltb n (size t)) (live (wayTo t n)) h in
     record { at = record { placed = ltb-true n (size t) p; stands = is k }; live = l }
 
-pub live-wanted : {A : Type 0} (look : Term → Option A) (t : Term) (n : ℕ) (x : A) (s : Term) → look s ≡ some x → Live t n s → wanted look t n ≡ accept x
+pub live-wanted : {A : Type 0} (look : Term → Option A) (t : Term) (n : ℕ) (x : A) (s : Term) → look s ≡ some x → StandsLive t n s → wanted look t n ≡ accept x
 unfolding wanted
 live-wanted look t n x s e l =
     need-some 11 n _ x (some-only _ (look (sub t n)) x (true-and (lt-ltb n (size t) (l .at .placed)) (l .live)) (ap look (l .at .stands) ∙ e))
@@ -122,12 +122,12 @@ abbrev pub Test : Type 0
 Test = ℕ → Spot → Bool
 
 pub first-fails : (f : Test) (t : Term) → first f t ≡ none → (n : ℕ) (s : Term) → Stands t n s → f n (record { way = wayTo t n; here = s }) ≡ false
-unfolding wayTo sub spot
+unfolding wayTo sub spotAt
 first-fails f t e n s h =
     subst (λ r. f n (record { way = wayTo t n; here = r }) ≡ false) (h .stands) (rw zero-add at (first-none f t e n (h .placed)))
 
 pub fails-first : (f : Test) (t : Term) → ((n : ℕ) → n < size t → f n (record { way = wayTo t n; here = sub t n }) ≡ true → ⊥) → first f t ≡ none
-unfolding wayTo sub spot
+unfolding wayTo sub spotAt
 fails-first f t h = none-first f t (λ n l. rw zero-add (not-so (h n l)))
 
 pub first-found : (f : Test) (t : Term) (n : ℕ) (s : Term) → Stands t n s → f n (record { way = wayTo t n; here = s }) ≡ true → found (first f t) ≡ true
@@ -139,25 +139,25 @@ first-found f t n s h e = go (found (first f t)) refl
 
 -- a prefix that passes a test is of the kind looked for
 pub prefixed-stands : {A : Type 0} (f : Prefix → Option A) (g : A → Prefix) → ((u : Prefix) (x : A) → f u ≡ some x → u ≡ g x) → (φ : A → Bool) (t : Term) (n : ℕ) → n < size t
-    → holds φ (prefixed f (sub t n)) ≡ true → (x : A) × Stands t n (under (g x) (below (sub t n))) × (φ x ≡ true)
+    → foundWith φ (prefixed f (sub t n)) ≡ true → (x : A) × Stands t n (under (g x) (below (sub t n))) × (φ x ≡ true)
 prefixed-stands f g is φ t n p h =
     let (x, e, k) = holds-some φ (prefixed f (sub t n)) h in
     (x, record { placed = p; stands = prefixed-is f g is (sub t n) x e }, k)
 
 -- the places of the children
 stands-under : (u : Prefix) (t : Term) (n : ℕ) (r : Term) → Stands t n r → Stands (under u t) (suc n) r
-unfolding sub spot descend size
+unfolding sub spotAt descend size
 stands-under u t n r h = record { placed = omega (arith, h .placed); stands = descend-here (inside u ∷ []) [] t n ∙ h .stands }
 
 stands-left : (j : Join) (s t : Term) (n : ℕ) (r : Term) → Stands s n r → Stands (both j s t) (suc n) r
-unfolding sub spot size
+unfolding sub spotAt size
 stands-left j s t n r h = record {
   placed = omega (arith, h .placed);
   stands = ap (λ (z : Spot). z .here) (descend-left [] j s t n (h .placed)) ∙ (descend-here (leftOf j t ∷ []) [] s n ∙ h .stands);
 }
 
 stands-right : (j : Join) (s t : Term) (n : ℕ) (r : Term) → Stands t n r → Stands (both j s t) (suc (size s + n)) r
-unfolding sub spot size
+unfolding sub spotAt size
 stands-right j s t n r h = record {
   placed = omega (arith, h .placed);
   stands = ap (λ (z : Spot). z .here) (descend-right [] j s t n) ∙ (descend-here (rightOf j s ∷ []) [] t n ∙ h .stands);
@@ -177,7 +177,7 @@ unfolding binders
 member-delimited v (leaf x) h = never (unfold member any in h)
 member-delimited v (under u t) h =
     or-case (Delimited v (under u t)) (member v (optional (delimits u))) (member v (binders t)) (rw member-append at h)
-    (λ e. (0, t, record { placed = unfold size in omega arith; stands = unfold sub spot descend in ap (λ p. under p t) (delimits-is u v (optional-is v (delimits u) e)) }))
+    (λ e. (0, t, record { placed = unfold size in omega arith; stands = unfold sub spotAt descend in ap (λ p. under p t) (delimits-is u v (optional-is v (delimits u) e)) }))
     (λ e. let (m, r, k) = member-delimited v t e in (suc m, r, stands-under u t m _ k))
 member-delimited v (both j s t) h =
     or-case (Delimited v (both j s t)) (member v (binders s)) (member v (binders t)) (rw member-append at h)
@@ -207,5 +207,5 @@ scoped-descend K w (both j s t) (suc n) h =
     (λ e. scoped-descend K (leftOf j t ∷ w) s n (h .0)) (λ e. scoped-descend K (rightOf j s ∷ w) t (n - size s) (h .1))
 
 pub scoped-at : (K : ℕ → Bool) (t : Term) (n : ℕ) → Scoped K nowhere t → Bound K (λ a. enclosed a (wayTo t n)) (uses (sub t n))
-unfolding wayTo sub spot enclosed any
+unfolding wayTo sub spotAt enclosed any
 scoped-at K t n h = scoped-descend K [] t n h

@@ -16,14 +16,14 @@ use Rattle.cows.specs.Terms.{Term, size, depth}
 use Rattle.cows.specs.Format.{encode, records}
 use Rattle.cows.specs.Tables.{judge}
 use Rattle.cows.specs.Moves.{Move, successor}
-use Rattle.cows.specs.Step.{readMove, proposed, overLimits, fitted, stepTerm, judgeStep, reply, written, stepReply, stepOutput}
+use Rattle.cows.specs.Step.{readMove, proposed, overLimits, fitted, stepTerm, judgeStep, replyTo, written, stepReply, stepOutput}
 use Rattle.cows.proofs.Basics.{or-false, bind-accept, accept-bind, same-accept, need-accept, forbid-accept, placeIf-none}
 use Rattle.cows.proofs.Format.{length-encode}
 use Rattle.cows.proofs.Bounds.{judgeStep-from-one}
 
 -- What a caller sees: the answer is 0 exactly if the step was accepted. A refusal leaves the output as it was.
-step-refused : (r : Result Term) (out : List ℕ) → reply r .answer ≢ 0 → written r out ≡ out
-unfolding reply written
+step-refused : (r : Result Term) (out : List ℕ) → replyTo r .answer ≢ 0 → written r out ≡ out
+unfolding replyTo written
 step-refused (refuse n p) out h = refl
 step-refused (accept s) out h = absurd (h refl)
 
@@ -33,10 +33,10 @@ refusal-silent table m out h = step-refused (judgeStep table m (length out)) out
 
 pub answer-accepts : (table m out : List ℕ) → (stepReply table m out .answer ≡ 0) ↔ ((s : Term) × (judgeStep table m (length out) ≡ accept s))
 unfolding stepReply
-answer-accepts table m out = (go (judgeStep table m (length out)) (judgeStep-from-one table m (length out)), λ p. rw (p .1) (unfold reply in refl))
+answer-accepts table m out = (go (judgeStep table m (length out)) (judgeStep-from-one table m (length out)), λ p. rw (p .1) (unfold replyTo in refl))
   where
-    go : (r : Result Term) → ((n p : ℕ) → r ≡ refuse n p → 1 ≤ n) → reply r .answer ≡ 0 → (s : Term) × (r ≡ accept s)
-    go (refuse n p) h e = absurd (unfold reply in omega (arith, h n p refl))
+    go : (r : Result Term) → ((n p : ℕ) → r ≡ refuse n p → 1 ≤ n) → replyTo r .answer ≡ 0 → (s : Term) × (r ≡ accept s)
+    go (refuse n p) h e = absurd (unfold replyTo in omega (arith, h n p refl))
     go (accept s) h e = (s, refl)
 
 -- What an accepted step has passed: a move was read, the rules gave the successor, and it keeps the limits and fits.
@@ -89,10 +89,10 @@ written-behind s out i h =
     ∙ (getD-append-add (encode s) (drop (16 * size s) out) (i - 16 * size s) 0 ∙ (getD-drop (16 * size s) out (i - 16 * size s) 0 ∙ ap (λ n. getD out n 0) f))
 
 pub output-behind : (table m out : List ℕ) (i : ℕ) → 16 * stepReply table m out .records ≤ i → getD (stepOutput table m out) i 0 ≡ getD out i 0
-unfolding stepReply stepOutput written reply
+unfolding stepReply stepOutput written replyTo
 output-behind table m out i h = go (judgeStep table m (length out)) h
   where
-    go : (r : Result Term) → 16 * reply r .records ≤ i → getD (written r out) i 0 ≡ getD out i 0
+    go : (r : Result Term) → 16 * replyTo r .records ≤ i → getD (written r out) i 0 ≡ getD out i 0
     go (refuse n p) h = refl
     go (accept s) h = written-behind s out i h
 

@@ -12,7 +12,7 @@ use Rattle.cows.specs.Basics.{accept, placeIf, _>>_, forbid}
 use Rattle.cows.specs.Terms.{Term, size, depth}
 use Rattle.cows.specs.Kinds.{Node}
 use Rattle.cows.specs.Places.{first}
-use Rattle.cows.specs.Format.{Bytes, nodes, record16, bytes, encode, rightRecord, node, records, decode}
+use Rattle.cows.specs.Format.{AreBytes, nodes, record16, bytes, encode, rightRecord, readNode, records, decode}
 use Rattle.cows.specs.Tables.{wrongLength, firstWrong, misshapen, tooDeep, noGuard, unbound, clash, judgeTerm, judge}
 use Rattle.cows.specs.Within.{Right, Formed, Within}
 use Rattle.cows.proofs.Basics.{or-false, placeIf-none, forbid-accept, same-accept}
@@ -61,27 +61,27 @@ unfolding encode
 shaped ns e h = let n = nodes-decode ns e in (ap bytes n, nodes-right (decode ns) (rw n h))
 
 -- right records of the right shape are the table of the term that they are read as
-pub records-hold : (b : List ℕ) → Bytes b → length b % 16 ≡ 0 → firstWrong 0 (records b) ≡ none → misshapen (map node (records b)) ≡ none
-    → (encode (decode (map node (records b))) ≡ b) × Right (decode (map node (records b)))
+pub records-hold : (b : List ℕ) → AreBytes b → length b % 16 ≡ 0 → firstWrong 0 (records b) ≡ none → misshapen (map readNode (records b)) ≡ none
+    → (encode (decode (map readNode (records b))) ≡ b) × Right (decode (map readNode (records b)))
 records-hold b k z e₂ e₃ =
-    let (w, r) = cut-right record16 RightNode 16 node rightRecord right-record b z k e₂ in
-    let (y, g) = shaped (map node (records b)) e₃ r in
+    let (w, r) = cut-right record16 RightNode 16 readNode rightRecord right-record b z k e₂ in
+    let (y, g) = shaped (map readNode (records b)) e₃ r in
     (y ∙ w, g)
 
-judged : (b : List ℕ) (t : Term) → Bytes b → judge b ≡ accept t → (length b ≤ 32768) × ((encode t ≡ b) × Right t) × (Formed t × (depth t ≤ 256))
+judged : (b : List ℕ) (t : Term) → AreBytes b → judge b ≡ accept t → (length b ≤ 32768) × ((encode t ≡ b) × Right t) × (Formed t × (depth t ≤ 256))
 unfolding judge
 judged b t k e =
     let (e₁, k₁) = forbid-accept 1 (placeIf (wrongLength b) 0) _ t e in
     let (e₂, k₂) = forbid-accept 2 (firstWrong 0 (records b)) _ t k₁ in
-    let (e₃, k₃) = forbid-accept 3 (misshapen (map node (records b))) _ t k₂ in
-    let (q, f, d) = judgeTerm-accept (decode (map node (records b))) t k₃ in
+    let (e₃, k₃) = forbid-accept 3 (misshapen (map readNode (records b))) _ t k₂ in
+    let (q, f, d) = judgeTerm-accept (decode (map readNode (records b))) t k₃ in
     let (l, z) = right-length b (placeIf-none (wrongLength b) 0 e₁) in
     rw (← q) (l, records-hold b k z e₂ e₃, (f, d))
 
-pub judge-encode : (b : List ℕ) (t : Term) → Bytes b → judge b ≡ accept t → encode t ≡ b
+pub judge-encode : (b : List ℕ) (t : Term) → AreBytes b → judge b ≡ accept t → encode t ≡ b
 judge-encode b t k e = judged b t k e .1 .0
 
-pub judge-within : (b : List ℕ) (t : Term) → Bytes b → judge b ≡ accept t → Within t
+pub judge-within : (b : List ℕ) (t : Term) → AreBytes b → judge b ≡ accept t → Within t
 judge-within b t k e =
     let (l, (y, g), (f, d)) = judged b t k e in
     record { right = g; formed = f; small = omega (arith, length-encode t, ap length y); shallow = d }

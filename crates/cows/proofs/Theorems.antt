@@ -11,7 +11,7 @@ use lib.ListN.{length, getD}
 use Rattle.cows.specs.Basics.{every, accept}
 use Rattle.cows.specs.Terms.{nil, kill, invoke, receive, delimitation, Term, leaf, under, kills, below}
 use Rattle.cows.specs.Places.{inside, Way, fill, wayTo, sub, enclosed}
-use Rattle.cows.specs.Format.{Bytes, encode}
+use Rattle.cows.specs.Format.{AreBytes, encode}
 use Rattle.cows.specs.Tables.{judge}
 use Rattle.cows.specs.Within.{Within}
 use Rattle.cows.specs.Moves.{Substitution, silence, Move, Kill, Communicate, Timeout, Elapse, Unfold, Extrude, successor}
@@ -20,8 +20,8 @@ use Rattle.cows.specs.Remains.{MeetingLeaves}
 use Rattle.cows.specs.Step.{readMove, judgeStep, stepTerm, stepReply, stepOutput}
 use Rattle.cows.specs.Accepts.{Accepts}
 use Rattle.cows.specs.Load.{load, shielded, endedBy, dropped, lost, spent, copies}
-use Rattle.cows.specs.Run.{Run, start, judgement, run, losses}
-use Rattle.cows.specs.Papers.{right, papers, papers-right}
+use Rattle.cows.specs.Run.{RunState, start, judgement, run, losses}
+use Rattle.cows.specs.Papers.{rightNight, papers, papers-right}
 use Rattle.cows.specs.Misreadings.{misreadings, misreadings-right}
 use Rattle.cows.proofs.Format.{encode-bytes, encode-injective}
 use Rattle.cows.proofs.Tables.{judge-encode, judge-within, within-judge}
@@ -34,18 +34,18 @@ use Rattle.cows.proofs.Corollaries.{meeting-unheld, meeting-tightest, k
 use Rattle.cows.proofs.Run.{load-law, run-balance, run-bound, judgement-step, run-within}
 
 -- 1. Every well-formed table stands for one term, and every term within the limits has one table.
-pub table-accepted : (b : List ℕ) (t : Term) → Bytes b → (judge b ≡ accept t) ↔ (Within t × (encode t ≡ b))
+pub table-accepted : (b : List ℕ) (t : Term) → AreBytes b → (judge b ≡ accept t) ↔ (Within t × (encode t ≡ b))
 table-accepted b t h = ((λ e. (judge-within b t h e, judge-encode b t h e)), λ p. ap judge (sym (p .1)) ∙ within-judge t (p .0))
 
 pub table-one-term : (s t : Term) → Within s → Within t → encode s ≡ encode t → s ≡ t
 table-one-term s t v w e = encode-injective s t (v .right) (w .right) e
 
-pub table-bytes : (t : Term) → Within t → Bytes (encode t)
+pub table-bytes : (t : Term) → Within t → AreBytes (encode t)
 table-bytes t w = encode-bytes t (w .right)
 
 -- 2. A move is accepted with successor s if, and only if, the table is well formed, the rules allow the move on it with that successor, and it keeps
 -- the limits and fits.
-pub step-accepted : (table m : List ℕ) (room : ℕ) (s : Term) → Bytes table → (judgeStep table m room ≡ accept s) ↔ Accepts table m room s
+pub step-accepted : (table m : List ℕ) (room : ℕ) (s : Term) → AreBytes table → (judgeStep table m room ≡ accept s) ↔ Accepts table m room s
 step-accepted table m room s h = (accepted-accepts table m room s h, accepts-accepted table m room s)
 
 -- the answer is 0 exactly if there is such a successor
@@ -130,7 +130,7 @@ pub list-bound : (t : Term) (ms : List (List ℕ)) → let r = run (start t) ms 
 list-bound t ms = run-bound t ms
 
 -- the run's judgement of a move is the step's on the table that it keeps
-pub run-steps : (r : Run) (m : List ℕ) → Within (r .table) → judgement r (readMove m) ≡ judgeStep (encode (r .table)) m 32768
+pub run-steps : (r : RunState) (m : List ℕ) → Within (r .table) → judgement r (readMove m) ≡ judgeStep (encode (r .table)) m 32768
 run-steps r m w = judgement-step r m w
 
 -- 5. A refusal leaves the output as it was; an acceptance changes no byte behind the successor.
@@ -152,8 +152,8 @@ pub halting-load : (t s : Term) → Halted t s → load s ≡ shielded t
 halting-load t s h = halted-load h
 
 -- N1 to N12, and the misreadings.
-pub nights : T (every right papers)
+pub nights : T (every rightNight papers)
 nights = papers-right
 
-pub readings : T (every right misreadings)
+pub readings : T (every rightNight misreadings)
 readings = misreadings-right

@@ -7,7 +7,7 @@ use native.Mathlib.Omega.{arith}
 use lib.Dec.{eqb}
 use lib.ListN.{length}
 use borrow.Author.Tests.{eqb-true, eq-eqb}
-use Rattle.cows.specs.Basics.{member, holds}
+use Rattle.cows.specs.Basics.{member, foundWith}
 use Rattle.cows.specs.Terms.{replication, parallel, Term, under, both, value, variable, datum, size, delimits, delimitsAtom, below, binders, atoms}
 use Rattle.cows.specs.Kinds.{open-kinds}
 use Rattle.cows.specs.Places.{inside, plug, Way, fill, wayTo, sub, enclosed}
@@ -128,7 +128,7 @@ module _ (w : Way) (body : Term) (ρ : ℕ → ℕ) (new : Renews (atoms (replic
   -- scopes
   scoped-unfolded : (K L : ℕ → Bool) → ((a : ℕ) → member a known ≡ true → L a ≡ true → K a ≡ true) → ((a : ℕ) → member a known ≡ true → L (ρ a) ≡ true → K a ≡ true)
       → Scoped K nowhere (replicated w body) → Scoped L nowhere (unfolded w body ρ)
-  unfolding delimitsAtom delimits holds
+  unfolding delimitsAtom delimits foundWith
   scoped-unfolded K L k l h =
       used-scoped L nowhere (unfolded w body ρ)
       (used-fill P (Need L) weakens w (under replication body) _ here

@@ -8,7 +8,7 @@ use lib.ListN.{length, take, drop, length-append}
 use lib.Seq.{take-at, drop-at, drop-drop}
 use Rattle.cows.specs.Terms.{Term, leaf, under, both, size, depth}
 use Rattle.cows.specs.Kinds.{prefix, join}
-use Rattle.cows.specs.Places.{Frame, inside, leftOf, rightOf, plug, Way, fill, Spot, descend, spot, wayTo, sub}
+use Rattle.cows.specs.Places.{Frame, inside, leftOf, rightOf, plug, Way, fill, Spot, descend, spotAt, wayTo, sub}
 use Rattle.cows.specs.Format.{nodes, bytes, encode}
 use Rattle.cows.proofs.Basics.{lt-case}
 use Rattle.cows.specs.Records.{At, opens, closes, ahead, behind}
@@ -104,11 +104,11 @@ Up t n (f ∷ w) s = Above t n f w s
 pub part-at : (t : Term) (n : ℕ) (w : Way) (s : Term) → PartOf t n (record { way = w; here = s }) → At t n w s
 unfolding sub wayTo
 part-at t n w s h =
-    let e : spot t n ≡ record { way = w; here = s } = ap (spot t) (let z : n ≡ n + 0 = omega arith in z) ∙ (h .1 0 (size-pos s) ∙ descend-first w s) in
+    let e : spotAt t n ≡ record { way = w; here = s } = ap (spotAt t) (let z : n ≡ n + 0 = omega arith in z) ∙ (h .1 0 (size-pos s) ∙ descend-first w s) in
     (omega (arith, h .0, size-pos s), ap (λ (z : Spot). z .here) e, ap (λ (z : Spot). z .way) e)
 
 up-inherited : (t : Term) → Inherited (λ n (z : Spot). PartOf t n z × Up t n (z .way) (z .here))
-unfolding plug size sub spot
+unfolding plug size sub spotAt
 up-inherited t = (
   λ o w u s (p, h). (
     part-inherited t .0 o w u s p,
@@ -127,7 +127,7 @@ up-inherited t = (
             at = a;
             clear = λ q x y.
                 let i = q - suc o in
-                let e : spot t q ≡ descend (leftOf j r ∷ w) s i = ap (spot t) (let z : q ≡ suc o + i = omega arith in z) ∙ pl .1 i (omega arith) in
+                let e : spotAt t q ≡ descend (leftOf j r ∷ w) s i = ap (spotAt t) (let z : q ≡ suc o + i = omega arith in z) ∙ pl .1 i (omega arith) in
                 let k : sub t q ≡ sub s i = ap (λ (z : Spot). z .here) e ∙ descend-here (leftOf j r ∷ w) [] s i in
                 omega (arith, ap size k, spot-fits s i (omega arith));
           },

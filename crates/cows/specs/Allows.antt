@@ -20,11 +20,11 @@ pub record Stands (t : Term) (n : ℕ) (s : Term) : Type 0 where
   pub placed : n < size t
   pub stands : sub t n ≡ s
 
-pub record Live (t : Term) (n : ℕ) (s : Term) : Type 0 where
+pub record StandsLive (t : Term) (n : ℕ) (s : Term) : Type 0 where
   pub at : Stands t n s
   pub live : live (wayTo t n) ≡ true
 
-pub record Ready (t : Term) (n : ℕ) (s : Term) : Type 0 where
+pub record StandsReady (t : Term) (n : ℕ) (s : Term) : Type 0 where
   pub at : Stands t n s
   pub ready : ready (wayTo t n) ≡ true
 
@@ -47,11 +47,11 @@ AllReach t a b σ = All (λ (p : ℕ × ℕ). Reaches t a b (p .0) (p .1)) σ
 abbrev pub Unheld : Term → ℕ → Type 0
 Unheld t c =
     (n k : ℕ) (s : Term) → Stands t n (under (delimitation k) s) → n < c → c < n + size (under (delimitation k) s)
-    → (m : ℕ) → Ready (under (delimitation k) s) m (leaf (kill k)) → ⊥
+    → (m : ℕ) → StandsReady (under (delimitation k) s) m (leaf (kill k)) → ⊥
 
 -- No ready receive in the whole table, on the same endpoint and fitting the same values, has fewer than l pattern variables.
 abbrev pub Tightest : Term → ℕ → ℕ → List ℕ → ℕ → Type 0
-Tightest t p o vs l = (n : ℕ) (ws : List ℕ) (s : Term) (τ : Substitution) → Ready t n (under (receive p o ws) s) → Matches ws vs τ → l ≤ length τ
+Tightest t p o vs l = (n : ℕ) (ws : List ℕ) (s : Term) (τ : Substitution) → StandsReady t n (under (receive p o ws) s) → Matches ws vs τ → l ≤ length τ
 
 -- What a meeting of the receive at a and the invoke at b asks.
 pub record Meets (t : Term) (a b : ℕ) (σ : Substitution) : Type 0 where
@@ -60,8 +60,8 @@ pub record Meets (t : Term) (a b : ℕ) (σ : Substitution) : Type 0 where
   pub pattern : List ℕ
   pub sent : List ℕ
   pub body : Term
-  pub receiver : Live t a (under (receive partner operation pattern) body)
-  pub sender : Live t b (leaf (invoke partner operation sent))
+  pub receiver : StandsLive t a (under (receive partner operation pattern) body)
+  pub sender : StandsLive t b (leaf (invoke partner operation sent))
   pub closed : any variable (partner ∷ operation ∷ sent) ≡ false
   pub matches : Matches pattern sent σ
   pub scoped : AllReach t a b σ
@@ -197,16 +197,16 @@ pub data Instantiated : Substitution → Term → Term → Type 0 where
 -- Time: as many records; each live wait falls by d; each record that is no live wait stays.
 pub record Elapsed (d : ℕ) (t s : Term) : Type 0 where
   pub count : size s ≡ size t
-  pub falls : (n i : ℕ) (r : Term) → Live t n (under (wait i) r) → root (sub s n) ≡ prefix (wait (i - d))
-  pub stays : (n : ℕ) → n < size t → ((i : ℕ) (r : Term) → Live t n (under (wait i) r) → ⊥) → root (sub s n) ≡ root (sub t n)
+  pub falls : (n i : ℕ) (r : Term) → StandsLive t n (under (wait i) r) → root (sub s n) ≡ prefix (wait (i - d))
+  pub stays : (n : ℕ) → n < size t → ((i : ℕ) (r : Term) → StandsLive t n (under (wait i) r) → ⊥) → root (sub s n) ≡ root (sub t n)
 
 pub data Allows (t : Term) : Move → Term → Type 0 where
-  by-kill : (a k : ℕ) (v u w : Way) → Live t a (leaf (kill k)) → wayTo t a ≡ v ++ (inside (delimitation k) ∷ w) → Ended v u
+  by-kill : (a k : ℕ) (v u w : Way) → StandsLive t a (leaf (kill k)) → wayTo t a ≡ v ++ (inside (delimitation k) ∷ w) → Ended v u
       → Allows t (Kill a) (fill w (under (delimitation k) (fill u (leaf nil))))
   by-communicate : (a b : ℕ) (σ : Substitution) (r s : Term) (m : Meets t a b σ) → Exchanged t a b (m .body) r → Instantiated σ r s → Allows t (Communicate a b) s
-  by-timeout : (a : ℕ) (r : Term) (c w : Way) → Live t a (under (wait 0) r) → wayTo t a ≡ c ++ w → Choice c w → Allows t (Timeout a) (fill w r)
-  by-elapse : (d : ℕ) (s : Term) → 1 ≤ d → ((n i : ℕ) (r : Term) → Live t n (under (wait i) r) → d ≤ i) → Elapsed d t s → Allows t (Elapse d) s
-  by-unfold : (a : ℕ) (s c : Term) (σ : Substitution) → Live t a (under replication s) → Renames (atoms t) (binders s) σ → Replaced σ s c
+  by-timeout : (a : ℕ) (r : Term) (c w : Way) → StandsLive t a (under (wait 0) r) → wayTo t a ≡ c ++ w → Choice c w → Allows t (Timeout a) (fill w r)
+  by-elapse : (d : ℕ) (s : Term) → 1 ≤ d → ((n i : ℕ) (r : Term) → StandsLive t n (under (wait i) r) → d ≤ i) → Elapsed d t s → Allows t (Elapse d) s
+  by-unfold : (a : ℕ) (s c : Term) (σ : Substitution) → StandsLive t a (under replication s) → Renames (atoms t) (binders s) σ → Replaced σ s c
       → Allows t (Unfold a) (fill (wayTo t a) (both parallel c (under replication s)))
-  by-extrude : (a d : ℕ) (s : Term) (f : Frame) (w : Way) → Live t a (under (delimitation d) s) → label d ≡ false → wayTo t a ≡ f ∷ w → Parent f
+  by-extrude : (a d : ℕ) (s : Term) (f : Frame) (w : Way) → StandsLive t a (under (delimitation d) s) → label d ≡ false → wayTo t a ≡ f ∷ w → Parent f
       → Allows t (Extrude a) (fill w (under (delimitation d) (plug f s)))

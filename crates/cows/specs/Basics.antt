@@ -7,6 +7,11 @@ use lib.Dec.{eqb}
 
 infixl 20 _>>=_
 infixl 20 _>>_
+-- 1 where a test holds, else 0
+abbrev pub oneIf : Bool → ℕ
+oneIf true = 1
+oneIf false = 0
+
 -- some element passes; every element passes
 unfoldable pub any : {A : Type 0} → (A → Bool) → List A → Bool
 any f [] = false
@@ -25,16 +30,16 @@ unfoldable pub member : ℕ → List ℕ → Bool
 member a xs = any (eqb a) xs
 
 -- two lists are equal
-unfoldable pub same : List ℕ → List ℕ → Bool
-same [] [] = true
-same [] (y ∷ ys) = false
-same (x ∷ xs) [] = false
-same (x ∷ xs) (y ∷ ys) = eqb x y && same xs ys
+unfoldable pub sameList : List ℕ → List ℕ → Bool
+sameList [] [] = true
+sameList [] (y ∷ ys) = false
+sameList (x ∷ xs) [] = false
+sameList (x ∷ xs) (y ∷ ys) = eqb x y && sameList xs ys
 
 -- the test passes of the value, if there is one; there is a value
-unfoldable pub holds : {A : Type 0} → (A → Bool) → Option A → Bool
-holds f none = false
-holds f (some a) = f a
+unfoldable pub foundWith : {A : Type 0} → (A → Bool) → Option A → Bool
+foundWith f none = false
+foundWith f (some a) = f a
 
 unfoldable pub found : {A : Type 0} → Option A → Bool
 found none = false
@@ -84,5 +89,5 @@ need n p (some a) = accept a
 
 -- (for computed checks) to unfold this is to unfold every definition of this file
 unfoldable pub open-basics : Unit {0}
-unfolding any every member same holds found only placeIf orElse firstFrom _>>=_ _>>_ forbid need
+unfolding any every member sameList foundWith found only placeIf orElse firstFrom _>>=_ _>>_ forbid need
 open-basics = tt

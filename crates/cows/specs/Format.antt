@@ -10,8 +10,8 @@ use Rattle.cows.specs.Basics.{All}
 use Rattle.cows.specs.Cut.{cut}
 
 -- every number of the list is a byte
-abbrev pub Bytes : List ℕ → Type 0
-Bytes b = All (λ n. n < 256) b
+abbrev pub AreBytes : List ℕ → Type 0
+AreBytes b = All (λ n. n < 256) b
 
 -- a 16-bit number as two bytes; the byte at i, and the 16-bit number there
 unfoldable pub bytes2 : ℕ → List ℕ
@@ -73,8 +73,8 @@ rightRecord b = ltb (byte b 0) (length kinds) && rightContents (rowOf (byte b 0)
 unfoldable pub tuple : List ℕ → List ℕ
 tuple b = take (byte b 1) (slots b)
 
-unfoldable pub node : List ℕ → Node
-node b =
+unfoldable pub readNode : List ℕ → Node
+readNode b =
     getD
     (basic nil
     ∷ basic (kill (word b 2))
@@ -111,5 +111,5 @@ decode ns = getD (build ns) 0 (leaf nil)
 
 -- (for computed checks) to unfold this is to unfold every definition of this file
 unfoldable pub open-format : Unit {0}
-unfolding bytes2 byte word nodes layout record16 encode slots rightContents rightRecord tuple node push build decode
+unfolding bytes2 byte word nodes layout record16 encode slots rightContents rightRecord tuple readNode push build decode
 open-format = tt

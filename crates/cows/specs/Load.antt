@@ -38,13 +38,13 @@ endedBeside (leftOf parallel t) = load t - shielded t
 endedBeside (rightOf choice s) = 0
 endedBeside (rightOf parallel s) = load s - shielded s
 
-unfoldable pub ended : ℕ → Way → ℕ
-ended k [] = 0
-ended k (f ∷ w) = cond (frameDelimits k f) 0 (endedBeside f + ended k w)
+unfoldable pub endedInside : ℕ → Way → ℕ
+endedInside k [] = 0
+endedInside k (f ∷ w) = cond (frameDelimits k f) 0 (endedBeside f + endedInside k w)
 
 unfoldable pub endedBy : Option ℕ → Way → ℕ
 endedBy none w = 0
-endedBy (some k) w = ended k w
+endedBy (some k) w = endedInside k w
 
 -- What a choice drops: the load of the arms not taken, of the whole choice around a guard.
 unfoldable pub arm : Frame → ℕ
@@ -84,5 +84,5 @@ copies t (Extrude a) = 0
 
 -- (for computed checks) to unfold this is to unfold every definition of this file
 unfoldable pub open-load : Unit {0}
-unfolding load shieldedUnder shieldedBoth shielded endedBeside ended endedBy arm dropped lost spent copies
+unfolding load shieldedUnder shieldedBoth shielded endedBeside endedInside endedBy arm dropped lost spent copies
 open-load = tt

@@ -6,8 +6,8 @@ use Prim.Native.Nat.{ℕ, zero, suc, _-_}
 use lib.Dec.{ltb, eqb}
 use lib.ListN.{length}
 use Rattle.cows.specs.Limits.{firstVariable, firstLabel}
-use Rattle.cows.specs.Basics.{any, every, member, holds, found, placeIf, Result, refuse, accept, _>>=_, _>>_, forbid}
-use Rattle.cows.specs.Terms.{Basic, nil, kill, invoke, Prefix, receive, wait, protection, delimitation, replication, Join, choice, parallel, Term, leaf, under, both, Ends, value, variable, label, atoms, binders, kills, invokes, prefixed, receives, waits, delimits, replicates, delimitsAtom, delimitsAt, below}
+use Rattle.cows.specs.Basics.{any, every, member, foundWith, found, placeIf, Result, refuse, accept, _>>=_, _>>_, forbid}
+use Rattle.cows.specs.Terms.{Basic, nil, kill, invoke, Prefix, receive, wait, protection, delimitation, replication, Join, choice, parallel, Term, leaf, under, both, Action, value, variable, label, atoms, binders, kills, invokes, prefixed, receives, waits, delimits, replicates, delimitsAtom, delimitsAt, below}
 use Rattle.cows.specs.Places.{Frame, inside, leftOf, rightOf, plug, Way, fill, Spot, wayTo, sub, first, encloses, frameDelimits, enclosed, frameChooses}
 use Rattle.cows.specs.Kinds.{Node, basic, prefix, join, kind, liveKind, floatsOver}
 use Rattle.cows.specs.Active.{onKind, live, ready, wanted}
@@ -79,13 +79,13 @@ match n [] vs = binds []
 match n (w ∷ ws) [] = binds []
 match n (w ∷ ws) (v ∷ vs) = let rest = match (suc n) ws vs in cond (variable w) (besides w v rest) (provided (eqb w v) (otherValue n) rest)
 
--- The receive r fits the invoke m: m holds no variable; endpoints and tuple counts are equal; so is each value in the pattern to the value sent.
-unfoldable pub closedEnds : Ends → Bool
-closedEnds m = not (any variable (m .partner ∷ m .operation ∷ m .tuple))
+-- The receive r fits the invoke m: m foundWith no variable; endpoints and tuple counts are equal; so is each value in the pattern to the value sent.
+unfoldable pub closedAction : Action → Bool
+closedAction m = not (any variable (m .partner ∷ m .operation ∷ m .tuple))
 
-unfoldable pub fit : Ends → Ends → Matching
+unfoldable pub fit : Action → Action → Matching
 fit r m =
-    provided (closedEnds m) unsetVariable
+    provided (closedAction m) unsetVariable
     (provided (eqb (r .partner) (m .partner) && eqb (r .operation) (m .operation)) otherEndpoint
     (provided (eqb (length (r .tuple)) (length (m .tuple))) otherCount (match 0 (r .tuple) (m .tuple))))
 
@@ -104,22 +104,22 @@ inScope t a b p =
     enclosed (p .0) (wayTo t a) && enclosed (p .0) (wayTo t b)
     && (not (member (p .1) (binders t)) || not (found (first (outside (p .1) (p .0)) t)))
 
--- 14: a [k] that encloses either party and holds a ready kill of k.
+-- 14: a [k] that encloses either party and foundWith a ready kill of k.
 unfoldable pub readyKill : ℕ → ℕ → Spot → Bool
-readyKill k n z = ready (z .way) && holds (eqb k) (kills (z .here))
+readyKill k n z = ready (z .way) && foundWith (eqb k) (kills (z .here))
 
 unfoldable pub heldBack : ℕ → ℕ → ℕ → Spot → Bool
 heldBack a b n z =
     (encloses n (z .here) a || encloses n (z .here) b)
-    && holds (λ k. found (first (readyKill k) (z .here))) (prefixed delimits (z .here))
+    && foundWith (λ k. found (first (readyKill k) (z .here))) (prefixed delimits (z .here))
 
 -- 15: a ready receive that fits the same invoke and has fewer pattern variables.
 unfoldable pub fewer : ℕ → Matching → Bool
 fewer l (binds σ) = ltb (length σ) l
 fewer l (differs d) = false
 
-unfoldable pub tighter : Ends → ℕ → ℕ → Spot → Bool
-tighter m l n z = ready (z .way) && holds (λ r. fewer l (fit r m)) (prefixed receives (z .here))
+unfoldable pub tighter : Action → ℕ → ℕ → Spot → Bool
+tighter m l n z = ready (z .way) && foundWith (λ r. fewer l (fit r m)) (prefixed receives (z .here))
 
 -- the record at place b becomes nil; the one at place a, with the whole choice around it, becomes its continuation
 unfoldable pub silence : Term → ℕ → Term
@@ -201,7 +201,7 @@ elapse d (both j s t) = both j (elapse d s) (elapse d t)
 
 -- 17: a time of 0, or above a live wait.
 unfoldable pub shorter : ℕ → ℕ → Spot → Bool
-shorter d n z = live (z .way) && holds (λ i. ltb i d) (prefixed waits (z .here))
+shorter d n z = live (z .way) && foundWith (λ i. ltb i d) (prefixed waits (z .here))
 
 unfoldable pub elapseBy : Term → ℕ → Result Term
 elapseBy t d = do
@@ -209,17 +209,17 @@ elapseBy t d = do
   forbid 17 (first (shorter d) t)
   accept (elapse d t)
 
--- Unfold. The smallest atom from n on that is not taken, within so many tries; the first atom of an atom's set.
-unfoldable pub smallest : ℕ → ℕ → List ℕ → ℕ
-smallest zero n taken = n
-smallest (suc tries) n taken = let r = smallest tries (suc n) taken in cond (member n taken) r n
+-- Unfold. The firstFree atom from n on that is not taken, within so many tries; the first atom of an atom's set.
+unfoldable pub firstFree : ℕ → ℕ → List ℕ → ℕ
+firstFree zero n taken = n
+firstFree (suc tries) n taken = let r = firstFree tries (suc n) taken in cond (member n taken) r n
 
 unfoldable pub least : ℕ → ℕ
 least a = cond (value a) 1 (cond (variable a) firstVariable firstLabel)
 
 -- a new atom of d's set; new atoms for a list of atoms in its order, none of them taken and no two the same
 unfoldable pub fresh : List ℕ → ℕ → ℕ
-fresh taken d = smallest (suc (length taken)) (least d) taken
+fresh taken d = firstFree (suc (length taken)) (least d) taken
 
 unfoldable pub renaming : List ℕ → List ℕ → Substitution
 renaming taken [] = []
@@ -272,5 +272,5 @@ successor t (Extrude a) = extrudeAt t a
 
 -- (for computed checks) to unfold this is to unfold every definition of this file
 unfoldable pub open-moves : Unit {0}
-unfolding haltUnder haltBoth halt haltBeside haltInside afterKill killAt provided besides match closedEnds fit matched outside inScope readyKill heldBack fewer tighter silence aroundChoice continue mapBasic mapPrefix mapNode mapAtoms image instantiate bind communicateAt timeoutAt lower elapse shorter elapseBy smallest least fresh renaming freshCopy afterUnfold unfoldAt fitting exchange afterExtrude extrudeAt successor
+unfolding haltUnder haltBoth halt haltBeside haltInside afterKill killAt provided besides match closedAction fit matched outside inScope readyKill heldBack fewer tighter silence aroundChoice continue mapBasic mapPrefix mapNode mapAtoms image instantiate bind communicateAt timeoutAt lower elapse shorter elapseBy firstFree least fresh renaming freshCopy afterUnfold unfoldAt fitting exchange afterExtrude extrudeAt successor
 open-moves = tt

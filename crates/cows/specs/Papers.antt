@@ -3,7 +3,7 @@ use mathlib.Core.Bool.{Bool, true, _&&_}
 use mathlib.Core.List.{List, [], _∷_, _++_}
 use Prim.Native.Nat.{ℕ}
 use lib.Dec.{T}
-use Rattle.cows.specs.Basics.{every, same, Result, refuse, accept, open-basics}
+use Rattle.cows.specs.Basics.{every, sameList, Result, refuse, accept, open-basics}
 use Rattle.cows.specs.Terms.{nil, kill, invoke, receive, wait, protection, delimitation, replication, choice, parallel, Term, leaf, under, both, open-terms}
 use Rattle.cows.specs.Kinds.{open-kinds}
 use Rattle.cows.specs.Places.{open-places}
@@ -14,7 +14,7 @@ use Rattle.cows.specs.Active.{open-active}
 use Rattle.cows.specs.Moves.{open-moves}
 use Rattle.cows.specs.Step.{Reply, open-step}
 use Rattle.cows.specs.Load.{load, open-load}
-use Rattle.cows.specs.Run.{Run, Played, judgePlay, playedReply, replyBytes, open-run}
+use Rattle.cows.specs.Run.{RunState, PlayEnd, judgePlay, playedReply, replyBytes, open-run}
 
 -- The notation of the calculus. Values p o q n v are 1 2 3 4 5, the variable x is 32768, the label k is 49152.
 abbrev pub n : ℕ
@@ -58,8 +58,8 @@ po? w = po?then w 𝟘
 abbrev pub stop : Term
 stop = leaf (kill k)
 
-abbrev pub after : ℕ → Term → Term
-after i t = under (wait i) t
+abbrev pub waitFor : ℕ → Term → Term
+waitFor i t = under (wait i) t
 
 abbrev pub new : ℕ → Term → Term
 new d t = under (delimitation d) t
@@ -70,27 +70,27 @@ abbrev pub ⟦_⟧ : Term → Term
 abbrev pub rep : Term → Term
 rep t = under replication t
 
--- the six bytes of each move
-abbrev pub move : ℕ → ℕ → ℕ → List ℕ
-move kind a b = kind ∷ 0 ∷ bytes2 a ++ bytes2 b
+-- the six bytes of each moveBytes
+abbrev pub moveBytes : ℕ → ℕ → ℕ → List ℕ
+moveBytes kind a b = kind ∷ 0 ∷ bytes2 a ++ bytes2 b
 
 abbrev pub killing : ℕ → List ℕ
-killing a = move 0 a 0
+killing a = moveBytes 0 a 0
 
 abbrev pub meeting : ℕ → ℕ → List ℕ
-meeting a b = move 1 a b
+meeting a b = moveBytes 1 a b
 
 abbrev pub expiry : ℕ → List ℕ
-expiry a = move 2 a 0
+expiry a = moveBytes 2 a 0
 
 abbrev pub time : ℕ → List ℕ
-time d = move 3 d 0
+time d = moveBytes 3 d 0
 
 abbrev pub unfold-at : ℕ → List ℕ
-unfold-at a = move 4 a 0
+unfold-at a = moveBytes 4 a 0
 
 abbrev pub float : ℕ → List ℕ
-float a = move 5 a 0
+float a = moveBytes 5 a 0
 
 -- answer, place, records then kept
 abbrev pub says : ℕ → ℕ → ℕ → Reply
@@ -106,27 +106,27 @@ pub record Night : Type 0 where
   pub ends : Term
   pub total : List ℕ
 
-abbrev totals : Run → List ℕ
+abbrev totals : RunState → List ℕ
 totals r = r .tally .communications ∷ r .tally .kills ∷ r .tally .timeouts ∷ load (r .table) ∷ []
 
 -- play of the start table, read from its bytes, replies so; if it is not refused whole, its moves have these replies, and it ends
 -- at this table with this total
-abbrev ends-so : Night → Result Played → Bool
+abbrev ends-so : Night → Result PlayEnd → Bool
 ends-so c (refuse a p) = true
 ends-so c (accept r) =
-    same (replyBytes (r .answers)) (replyBytes (c .replies))
-    && same (encode (r .last .table)) (encode (c .ends))
-    && same (totals (r .last)) (c .total)
+    sameList (replyBytes (r .answers)) (replyBytes (c .replies))
+    && sameList (encode (r .last .table)) (encode (c .ends))
+    && sameList (totals (r .last)) (c .total)
 
-abbrev agrees : Night → Result Played → Bool
-agrees c r = same (replyBytes (playedReply r ∷ [])) (replyBytes (c .own ∷ [])) && ends-so c r
+abbrev agrees : Night → Result PlayEnd → Bool
+agrees c r = sameList (replyBytes (playedReply r ∷ [])) (replyBytes (c .own ∷ [])) && ends-so c r
 
 abbrev joined : List (List ℕ) → List ℕ
 joined [] = []
 joined (m ∷ ms) = m ++ joined ms
 
-abbrev pub right : Night → Bool
-right c = agrees c (judgePlay (encode (c .begins)) (joined (c .moves)) 32768 60000)
+abbrev pub rightNight : Night → Bool
+rightNight c = agrees c (judgePlay (encode (c .begins)) (joined (c .moves)) 32768 60000)
 
 -- (for computed checks) to unfold this is to unfold every definition that a night is played by
 unfoldable pub open-all : Unit {0}
@@ -158,7 +158,7 @@ papers =
     -- N8
     ∷ record { begins = N8; own = says 0 0 3; moves = meeting 2 4 ∷ float 1 ∷ meeting 2 4 ∷ []; replies = says 13 2 5 ∷ says 0 0 5 ∷ says 0 0 3 ∷ []; ends = 𝟘 ∣ 𝟘; total = 1 ∷ 0 ∷ 0 ∷ 0 ∷ [] }
     -- N9
-    ∷ record { begins = after 4 𝟘; own = says 0 0 1; moves = expiry 0 ∷ time 5 ∷ time 4 ∷ time 1 ∷ expiry 0 ∷ []; replies = says 16 0 2 ∷ says 17 0 2 ∷ says 0 0 2 ∷ says 17 0 2 ∷ says 0 0 1 ∷ []; ends = 𝟘; total = 0 ∷ 0 ∷ 1 ∷ 0 ∷ [] }
+    ∷ record { begins = waitFor 4 𝟘; own = says 0 0 1; moves = expiry 0 ∷ time 5 ∷ time 4 ∷ time 1 ∷ expiry 0 ∷ []; replies = says 16 0 2 ∷ says 17 0 2 ∷ says 0 0 2 ∷ says 17 0 2 ∷ says 0 0 1 ∷ []; ends = 𝟘; total = 0 ∷ 0 ∷ 1 ∷ 0 ∷ [] }
     -- N10
     ∷ record { begins = N10; own = says 0 0 11; moves = meeting 4 2 ∷ meeting 9 2 ∷ []; replies = says 15 9 11 ∷ says 14 6 11 ∷ []; ends = N10; total = 0 ∷ 0 ∷ 0 ∷ 4 ∷ [] }
     -- N11
@@ -168,6 +168,6 @@ papers =
     ∷ []
 
 -- The definitions play all twelve as the paper does.
-pub papers-right : T (every right papers)
+pub papers-right : T (every rightNight papers)
 unfolding papers open-all
 papers-right = tt

@@ -48,18 +48,18 @@ descend w (both j s t) zero = record { way = w; here = both j s t }
 descend w (both j s t) (suc n) =
     cond (ltb n (size s)) (descend (leftOf j t ∷ w) s n) (descend (rightOf j s ∷ w) t (n - size s))
 
-unfoldable pub spot : Term → ℕ → Spot
-spot t n = descend [] t n
+unfoldable pub spotAt : Term → ℕ → Spot
+spotAt t n = descend [] t n
 
 unfoldable pub wayTo : Term → ℕ → Way
-wayTo t n = spot t n .way
+wayTo t n = spotAt t n .way
 
 unfoldable pub sub : Term → ℕ → Term
-sub t n = spot t n .here
+sub t n = spotAt t n .here
 
 -- The first place of a table at which a test holds, of the place and of what is found there.
 unfoldable pub first : (ℕ → Spot → Bool) → Term → Option ℕ
-first f t = firstFrom (λ n. f n (spot t n)) 0 (size t)
+first f t = firstFrom (λ n. f n (spotAt t n)) 0 (size t)
 
 -- The record s at place n encloses place a: a stands below it.
 unfoldable pub encloses : ℕ → Term → ℕ → Bool
@@ -84,5 +84,5 @@ frameChooses (rightOf parallel s) = false
 
 -- (for computed checks) to unfold this is to unfold every definition of this file
 unfoldable pub open-places : Unit {0}
-unfolding passed plug fill descend spot wayTo sub first encloses frameDelimits enclosed frameChooses
+unfolding passed plug fill descend spotAt wayTo sub first encloses frameDelimits enclosed frameChooses
 open-places = tt

@@ -1,4 +1,4 @@
--- One move on any bytes: refusals 10, 20 and 21, the reply and every output byte (01, Moves and Who can cause which refusal).
+-- One move on any bytes: refusals 10, 20 and 21, the replyTo and every output byte (01, Moves and Who can cause which refusal).
 use mathlib.Core.Bool.{Bool, _&&_, _||_}
 use mathlib.Core.List.{List, [], _∷_, _++_}
 use mathlib.Core.Option.{Option}
@@ -50,27 +50,27 @@ judgeStep table m room = do
   t ← judge table
   stepTerm t (readMove m) room
 
--- The reply; the output as it then is: the successor from its start and the rest untouched, or all untouched.
+-- The replyTo; the output as it then is: the successor from its start and the rest untouched, or all untouched.
 pub record Reply : Type 0 where
   pub answer : ℕ
   pub place : ℕ
   pub records : ℕ
 
-unfoldable pub reply : Result Term → Reply
-reply (refuse n p) = record { answer = n; place = p; records = 0 }
-reply (accept s) = record { answer = 0; place = 0; records = size s }
+unfoldable pub replyTo : Result Term → Reply
+replyTo (refuse n p) = record { answer = n; place = p; records = 0 }
+replyTo (accept s) = record { answer = 0; place = 0; records = size s }
 
 unfoldable pub written : Result Term → List ℕ → List ℕ
 written (refuse n p) out = out
 written (accept s) out = encode s ++ drop (16 * size s) out
 
 unfoldable pub stepReply : (table m out : List ℕ) → Reply
-stepReply table m out = reply (judgeStep table m (length out))
+stepReply table m out = replyTo (judgeStep table m (length out))
 
 unfoldable pub stepOutput : (table m out : List ℕ) → List ℕ
 stepOutput table m out = written (judgeStep table m (length out)) out
 
 -- (for computed checks) to unfold this is to unfold every definition of this file
 unfoldable pub open-step : Unit {0}
-unfolding rightMove sixMoves readMove proposed overLimits fitted stepTerm judgeStep reply written stepReply stepOutput
+unfolding rightMove sixMoves readMove proposed overLimits fitted stepTerm judgeStep replyTo written stepReply stepOutput
 open-step = tt

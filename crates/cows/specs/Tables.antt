@@ -6,11 +6,11 @@ use Prim.Native.Nat.{ℕ, zero, suc, _+_, _%_}
 use lib.Dec.{ltb, eqb}
 use lib.ListN.{length}
 use Rattle.cows.specs.Limits.{maxBytes, maxDepth}
-use Rattle.cows.specs.Basics.{any, member, holds, found, placeIf, firstFrom, Result, accept, _>>=_, _>>_, forbid}
+use Rattle.cows.specs.Basics.{any, member, foundWith, found, placeIf, firstFrom, Result, accept, _>>=_, _>>_, forbid}
 use Rattle.cows.specs.Terms.{Term, value, bindable, uses, binders, delimits, delimitsAt, prefixed}
 use Rattle.cows.specs.Kinds.{Node, kind, childrenOf, guard}
 use Rattle.cows.specs.Places.{Way, Spot, sub, first, enclosed, frameChooses}
-use Rattle.cows.specs.Format.{rightRecord, node, records, decode}
+use Rattle.cows.specs.Format.{rightRecord, readNode, records, decode}
 use Rattle.cows.specs.Cut.{firstFailing}
 
 -- 1: zero bytes, over 32,768, or not a multiple of 16.
@@ -60,7 +60,7 @@ unfoldable pub delimitedBefore : Term → ℕ → ℕ → Bool
 delimitedBefore t n d = found (firstFrom (λ m. delimitsAt d (sub t m)) 0 n)
 
 unfoldable pub again : Term → ℕ → Spot → Bool
-again t n z = holds (delimitedBefore t n) (prefixed delimits (z .here))
+again t n z = foundWith (delimitedBefore t n) (prefixed delimits (z .here))
 
 -- .. or a value that t delimits, before or behind, used outside every delimitation of it.
 unfoldable pub escaped : Term → ℕ → Spot → Bool
@@ -82,8 +82,8 @@ unfoldable pub judge : List ℕ → Result Term
 judge b = do
   forbid 1 (placeIf (wrongLength b) 0)
   forbid 2 (firstWrong 0 (records b))
-  forbid 3 (misshapen (map node (records b)))
-  judgeTerm (decode (map node (records b)))
+  forbid 3 (misshapen (map readNode (records b)))
+  judgeTerm (decode (map readNode (records b)))
 
 -- (for computed checks) to unfold this is to unfold every definition of this file
 unfoldable pub open-tables : Unit {0}

@@ -5,7 +5,7 @@ use mathlib.Core.Option.{Option, none, some}
 use Prim.Native.Nat.{ℕ, suc, _+_, max}
 use lib.Dec.{leb, ltb, eqb}
 use Rattle.cows.specs.Limits.{firstVariable, firstLabel, noAtom}
-use Rattle.cows.specs.Basics.{holds}
+use Rattle.cows.specs.Basics.{foundWith}
 
 -- The ten kinds of record by their number of children; an atom is a number.
 -- No child: nil, kill(k) (document 01: stop), the invoke p·o!⟨ws⟩ (document 01: message).
@@ -64,16 +64,16 @@ depth (under u t) = suc (depth t)
 depth (both j s t) = suc (max (depth s) (depth t))
 
 -- The endpoint and the tuple of an invoke or a receive: partner, operation, tuple.
-pub record Ends : Type 0 where
+pub record Action : Type 0 where
   pub partner : ℕ
   pub operation : ℕ
   pub tuple : List ℕ
 
 -- the invoke and the receive of an endpoint with its tuple
-abbrev pub invokeOf : Ends → Basic
+abbrev pub invokeOf : Action → Basic
 invokeOf m = invoke (m .partner) (m .operation) (m .tuple)
 
-abbrev pub receiveOf : Ends → Prefix
+abbrev pub receiveOf : Action → Prefix
 receiveOf r = receive (r .partner) (r .operation) (r .tuple)
 
 -- What a term's first record says, if it is of the kind.
@@ -84,7 +84,7 @@ kills (leaf (invoke p o ws)) = none
 kills (under u t) = none
 kills (both j s t) = none
 
-unfoldable pub invokes : Term → Option Ends
+unfoldable pub invokes : Term → Option Action
 invokes (leaf nil) = none
 invokes (leaf (kill k)) = none
 invokes (leaf (invoke p o ws)) = some (record { partner = p; operation = o; tuple = ws })
@@ -96,7 +96,7 @@ prefixed f (leaf x) = none
 prefixed f (under u t) = f u
 prefixed f (both j s t) = none
 
-unfoldable pub receives : Prefix → Option Ends
+unfoldable pub receives : Prefix → Option Action
 receives (receive p o ws) = some (record { partner = p; operation = o; tuple = ws })
 receives (wait n) = none
 receives protection = none
@@ -126,11 +126,11 @@ replicates replication = some tt
 
 -- the prefix is a delimitation of d
 unfoldable pub delimitsAtom : ℕ → Prefix → Bool
-delimitsAtom d u = holds (eqb d) (delimits u)
+delimitsAtom d u = foundWith (eqb d) (delimits u)
 
 -- the term is a delimitation of d
 abbrev pub delimitsAt : ℕ → Term → Bool
-delimitsAt d t = holds (eqb d) (prefixed delimits t)
+delimitsAt d t = foundWith (eqb d) (prefixed delimits t)
 
 -- what stands behind a prefix: a continuation, a body
 unfoldable pub below : Term → Term

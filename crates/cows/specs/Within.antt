@@ -5,7 +5,7 @@ use mathlib.Core.List.{List}
 use Prim.Native.Nat.{ℕ, _+_, _≤_, _<_}
 use lib.ListN.{length}
 use Rattle.cows.specs.Limits.{maxRecords, maxDepth, maxSlots, noInterval}
-use Rattle.cows.specs.Basics.{every, member, All}
+use Rattle.cows.specs.Basics.{every, member, All, oneIf}
 use Rattle.cows.specs.Terms.{Basic, nil, kill, invoke, Prefix, receive, wait, protection, delimitation, replication, Join, choice, parallel, Term, leaf, under, both, value, label, datum, atom, bindable, size, depth, delimitsAtom, usesBasic, usesPrefix, binders}
 use Rattle.cows.specs.Kinds.{distinct, guard}
 
@@ -53,13 +53,9 @@ abbrev pub nowhere : ℕ → Bool
 nowhere a = false
 
 -- how often an atom is delimited
-abbrev pub one : Bool → ℕ
-one true = 1
-one false = 0
-
 abbrev pub counts : ℕ → Term → ℕ
 counts a (leaf x) = 0
-counts a (under u t) = one (delimitsAtom a u) + counts a t
+counts a (under u t) = oneIf (delimitsAtom a u) + counts a t
 counts a (both j s t) = counts a s + counts a t
 
 -- the values that a term delimits

@@ -16,11 +16,11 @@ use Rattle.cows.proofs.Basics.{forbid-accept, same-accept}
 use Rattle.cows.proofs.Format.{length-encode}
 use Rattle.cows.proofs.Recordwise.{size-elapse}
 use Rattle.records.specs.Answers.{foundOf}
-use Rattle.records.specs.Rewrites.{put, Stands, Ready, Rewrites}
+use Rattle.records.specs.Rewrites.{put, StandsIn, Rewritable, Rewrites}
 use Rattle.records.specs.declared.Found.{Found}
 use Rattle.records.specs.declared.Found.the-variants.{At, Nothing}
 use Rattle.records.proofs.Rewrites.{ready}
-use Rattle.rewriting.specs.Placed.{Placed}
+use Rattle.rewriting.specs.Aligned.{Aligned}
 use Rattle.records.proofs.Laws.{found-at, found-nothing}
 use Rattle.ways.specs.Known.{Table}
 use Rattle.ways.proofs.Tables.{table-size}
@@ -70,10 +70,10 @@ module _ (s ends : List ℕ) (d : ℕ) (out : List ℕ) (q : Asks (λ t. elapseB
   unfolding elapseBy
   elapsed = same-accept (forbid-accept 17 _ _ _ (forbid-accept 17 _ _ _ (q .accepted) .1) .1)
 
-  root-stands : Stands s 0 t
+  root-stands : StandsIn s 0 t
   root-stands = record { rest = []; is = q .known .table .holds .is ∙ sym (append-nil (encode t)) }
 
-  pub elapse-asks : Ready (elapse d) s 0 out 0 × Placed s ends 0
+  pub elapse-asks : Rewritable (elapse d) s 0 out 0 × Aligned s ends 0
   elapse-asks = (
     ready t root-stands (omega (arith, length-encode (elapse d t), ap size elapsed, q .room)),
     record { from = q .known .table .end; whole = omega arith },

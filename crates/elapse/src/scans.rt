@@ -8,7 +8,7 @@ ghost use mathlib.Core.Path.{_≡_};
 ghost use Prim.Native.Nat.{_+_, _*_, _<_};
 ghost use lib.Dec.{ltb};
 ghost use lib.ListN.{length};
-ghost use Rattle.cows.specs.Basics.{holds};
+ghost use Rattle.cows.specs.Basics.{foundWith};
 ghost use Rattle.cows.specs.Terms.{Term, size, prefixed, waits};
 ghost use Rattle.cows.specs.Places.{sub, first};
 ghost use Rattle.cows.specs.Moves.{shorter};
@@ -19,7 +19,7 @@ ghost use Rattle.ways.specs.Known.{Table, Known};
 // Whether the record at place p is a wait whose interval is below d.
 fn shorter(s: &[u8], p: usize, d: u16) -> bool
     requires { ⌜ 16 * p + 15 < length (now s) ⌝ }
-    ensures { λ r. ⌜ ((t : Term) → Holds (now (s .entry)) t → p < size t → r ≡ holds (λ i. ltb i d) (prefixed waits (sub t p))) ⌝ }
+    ensures { λ r. ⌜ ((t : Term) → Holds (now (s .entry)) t → p < size t → r ≡ foundWith (λ i. ltb i d) (prefixed waits (sub t p))) ⌝ }
 {
     (s[16 * p] == kinds::WAIT) & (word_at(s, 16 * p + 14) < d)
 }

@@ -1,4 +1,4 @@
--- That every reply fits its number: places are below 2^16, records and loads at most 2,048.
+-- That every replyTo fits its number: places are below 2^16, records and loads at most 2,048.
 use mathlib.Core.Path.{_≡_, refl, ap}
 use mathlib.Core.List.{List}
 use Prim.Native.Nat.{ℕ, suc, _<_, _≤_}
@@ -6,10 +6,10 @@ use native.Mathlib.Omega.{arith}
 use lib.ListN.{length, getD}
 use Rattle.cows.specs.Basics.{Result, refuse, accept}
 use Rattle.cows.specs.Terms.{Term, size}
-use Rattle.cows.specs.Format.{Bytes, byte, word}
+use Rattle.cows.specs.Format.{AreBytes, byte, word}
 use Rattle.cows.specs.Tables.{judge}
-use Rattle.cows.specs.Step.{readMove, judgeStep, reply, stepReply}
-use Rattle.cows.specs.Run.{movesOf, Played, played, judgePlay, playedReply, play}
+use Rattle.cows.specs.Step.{readMove, judgeStep, replyTo, stepReply}
+use Rattle.cows.specs.Run.{movesOf, PlayEnd, playFrom, judgePlay, playedReply, play}
 use Rattle.cows.proofs.Basics.{bind-accept, forbid-accept, same-accept}
 use Rattle.cows.proofs.Tables.{judge-within}
 use Rattle.cows.proofs.Bounds.{Below, below-judge, below-judgeStep, below-judgePlay}
@@ -34,32 +34,32 @@ fits-load : (x : Result Term) → Below 65536 x → ((t : Term) → x ≡ accept
 fits-load (refuse n p) h f = record { place = omega (arith, h .1); records = omega arith }
 fits-load (accept t) h f = record { place = omega arith; records = omega (arith, load-size t, f t refl) }
 
-fits-reply : (x : Result Term) → Below 65536 x → ((t : Term) → x ≡ accept t → size t ≤ 2048) → Fits (replyOf (reply x))
-unfolding reply
+fits-reply : (x : Result Term) → Below 65536 x → ((t : Term) → x ≡ accept t → size t ≤ 2048) → Fits (replyOf (replyTo x))
+unfolding replyTo
 fits-reply (refuse n p) h f = record { place = omega (arith, h .1); records = omega arith }
 fits-reply (accept t) h f = record { place = omega arith; records = omega (arith, f t refl) }
 
-fits-played : (x : Result Played) → Below 65536 x → ((r : Played) → x ≡ accept r → size (r .last .table) ≤ 2048) → Fits (replyOf (playedReply x))
+fits-played : (x : Result PlayEnd) → Below 65536 x → ((r : PlayEnd) → x ≡ accept r → size (r .last .table) ≤ 2048) → Fits (replyOf (playedReply x))
 unfolding playedReply
 fits-played (refuse n p) h f = record { place = omega (arith, h .1); records = omega arith }
 fits-played (accept r) h f = record { place = omega arith; records = omega (arith, f r refl) }
 
 -- the last table of a play is within the limits
-last-small : (table moves : List ℕ) (room slots : ℕ) (r : Played) → Bytes table → judgePlay table moves room slots ≡ accept r → size (r .last .table) ≤ 2048
-unfolding judgePlay played
+last-small : (table moves : List ℕ) (room slots : ℕ) (r : PlayEnd) → AreBytes table → judgePlay table moves room slots ≡ accept r → size (r .last .table) ≤ 2048
+unfolding judgePlay playFrom
 last-small table moves room slots r k e =
     let (t, et, e₁) = bind-accept (judge table) _ r e in
     let (_, e₂) = forbid-accept 19 _ _ r e₁ in
     let (_, e₃) = forbid-accept 21 _ _ r e₂ in
-    omega (arith, tables-within t (movesOf moves) (judge-within table t k et) .small, ap (λ (q : Played). size (q .last .table)) (same-accept e₃))
+    omega (arith, tables-within t (movesOf moves) (judge-within table t k et) .small, ap (λ (q : PlayEnd). size (q .last .table)) (same-accept e₃))
 
-pub check-fits : (b : List ℕ) → Bytes b → Fits (checkReply (judge b))
+pub check-fits : (b : List ℕ) → AreBytes b → Fits (checkReply (judge b))
 check-fits b k = fits-check (judge b) (below-judge 65536 (omega arith) b) (λ t e. judge-within b t k e .small)
 
-pub load-fits : (b : List ℕ) → Bytes b → Fits (loadReply (judge b))
+pub load-fits : (b : List ℕ) → AreBytes b → Fits (loadReply (judge b))
 load-fits b k = fits-load (judge b) (below-judge 65536 (omega arith) b) (λ t e. judge-within b t k e .small)
 
-pub step-fits : (table m out : List ℕ) → Bytes table → ((k : ℕ) → getD m k 0 < 256) → Fits (replyOf (stepReply table m out))
+pub step-fits : (table m out : List ℕ) → AreBytes table → ((k : ℕ) → getD m k 0 < 256) → Fits (replyOf (stepReply table m out))
 unfolding stepReply judgeStep
 step-fits table m out k h =
     fits-reply (judgeStep table m (length out))
@@ -67,7 +67,7 @@ step-fits table m out k h =
     (λ s e. let (t, et, es) = bind-accept (judge table) _ s e in
     step-within t s (readMove m) (length out) (judge-within table t k et) es .small)
 
-pub play-fits : (table moves out slots : List ℕ) → Bytes table → Fits (replyOf (playedReply (play table moves out slots)))
+pub play-fits : (table moves out slots : List ℕ) → AreBytes table → Fits (replyOf (playedReply (play table moves out slots)))
 unfolding play
 play-fits table moves out slots k = fits-played (judgePlay table moves (length out) (length slots)) (below-judgePlay 65536 (omega arith) table moves (length out) (length slots))
     (λ r e. last-small table moves (length out) (length slots) r k e)

@@ -26,7 +26,7 @@ use Rattle.cows.proofs.Format.{length-nodes, length-bytes, length-encode}
 use Rattle.cows.proofs.Fields.{record-at, append-bytes, kind-delimitation, first-delimitation}
 use Rattle.cows.proofs.Stands.{right-at, delimits-is, prefixed-is, wanted-is, wanted-live, live-wanted}
 use Rattle.cows.proofs.Ways.{length-ahead, take-ahead, drop-here, encode-plug, encode-fill, above-at, depth-part, depth-most, size-frame, size-swap}
-use Rattle.records.specs.Rewrites.{Stands}
+use Rattle.records.specs.Rewrites.{StandsIn}
 use Rattle.records.proofs.Stands.{encode-under, holds-kind, holds-word, holds-stands}
 use Rattle.ways.specs.Known.{Table}
 use Rattle.ways.specs.Ways.{OnWay, LiveAt}
@@ -39,7 +39,7 @@ use Rattle.cows.proofs.Sets.{in-values, in-variables, in-labels, value-range, v
 use Rattle.records.specs.Atoms.{classOf}
 use Rattle.plans.specs.declared.Plan.{Plan}
 use Rattle.plans.specs.Plans.{resultOf, limited, Planned, Asks}
-use Rattle.extrude.specs.Extruding.{isLabel, besideOf, parentOf, liftAt, Lifting, Below, Lifts, lifted}
+use Rattle.extrude.specs.Extruding.{isLabel, besideOf, parentOf, liftAt, Lifting, Liftable, Lifts, lifted}
 use Rattle.plans.proofs.Planning.{within-limits, absent}
 use Rattle.plans.proofs.Joining.{length-part}
 
@@ -200,7 +200,7 @@ module _ (s ends : List ℕ) (a p k : ℕ) (t : Term) (d : ℕ) (h : Lifting s e
   pub beside-standing : getD s (16 * p) 0 ≡ 6 → Standing s ends q
   beside-standing e = standing (sub t q) (holds-stands s t q (h .table .holds) (sibling e .placed)) (h .table .end)
 
-  module _ (e : getD s (16 * p) 0 ≡ 6) (b : ℕ) (g : (u : Term) → Stands s (16 * q) u → b ≡ depth u) where
+  module _ (e : getD s (16 * p) 0 ≡ 6) (b : ℕ) (g : (u : Term) → StandsIn s (16 * q) u → b ≡ depth u) where
     beside-depth : b ≡ depth (sibling e .other)
     beside-depth = g (sub t q) (holds-stands s t q (h .table .holds) (sibling e .placed)) ∙ ap depth (sibling e .stands)
 
@@ -284,7 +284,7 @@ module _ (s way : List ℕ) (t : Term) (a k : ℕ) (h : LiveAt s way a 8 t k) wh
     unfolding parentOf
     lift-planned r j f = record { judged = j ∙ ap limited (sym lift-is); place-is = λ u y. f ∙ (sym (place s ends a p k t d live-lifting) ∙ ap parentOf (sym (way-is s ends a p k t d live-lifting))) }
 
-    pub live-below : length s / 16 + 1 < length ends → k < 256 → Below s ends a p k
+    pub live-below : length s / 16 + 1 < length ends → k < 256 → Liftable s ends a p k
     live-below m n = record {
       term = t;
       atom = d;

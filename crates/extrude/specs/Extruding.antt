@@ -46,7 +46,7 @@ pub record Lifting (s ends : List ℕ) (a p k : ℕ) (t : Term) (d : ℕ) : Type
   pub stands : sub t a ≡ under (delimitation d) (below (sub t a))
 
 -- There is such a delimitation. The other fields follow; they are here for `omega`.
-pub record Below (s ends : List ℕ) (a p k : ℕ) : Type 0 where
+pub record Liftable (s ends : List ℕ) (a p k : ℕ) : Type 0 where
   pub term : Term
   pub atom : ℕ
   pub lifting : Lifting s ends a p k term atom

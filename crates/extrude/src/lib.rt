@@ -20,7 +20,7 @@ ghost use Rattle.cows.specs.Moves.{extrudeAt};
 ghost use Rattle.records.specs.Rewrites.{put};
 ghost use Rattle.ways.specs.Known.{Table, Known};
 ghost use Rattle.plans.specs.Plans.{resultOf, limited, Planned, Asks, Gives};
-ghost use Rattle.extrude.specs.Extruding.{isLabel, parentOf, besideOf, liftAt, Lifting, Below, Lifts, lifted};
+ghost use Rattle.extrude.specs.Extruding.{isLabel, parentOf, besideOf, liftAt, Lifting, Liftable, Lifts, lifted};
 
 fn is_label(a: Atom) -> bool
     ensures { λ r. ⌜ r ≡ isLabel a ⌝ }
@@ -50,7 +50,7 @@ fn beside(p: usize, a: usize, end: usize) -> usize
 
 // The delimitation at place a and the record above it at place p change places, if they may; k records are on the way to a.
 fn judge_above(s: &[u8], ends: &[u16], a: usize, p: usize, k: usize) -> Judgement
-    requires { ⌜ Below (now s) (now ends) a p k ⌝ }
+    requires { ⌜ Liftable (now s) (now ends) a p k ⌝ }
     ensures { λ r. ⌜ ((t : Term) (d : ℕ) → Lifting (now (s .entry)) (now (ends .entry)) a p k t d → resultOf r ≡ limited (liftAt d t a)) ⌝ }
 {
     let kind = s[16 * p];

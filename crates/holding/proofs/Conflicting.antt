@@ -5,11 +5,10 @@ use mathlib.Core.Bool.{Bool, false}
 use mathlib.Core.List.{List}
 use mathlib.Core.Option.{Option, none, some}
 use Prim.Native.Nat.{ℕ, _*_, _<_}
-use native.Mathlib.Omega.{arith}
 use lib.Dec.{ltb}
-use lib.ListN.{length, getD}
-use Rattle.cows.specs.Basics.{holds}
-use Rattle.cows.specs.Terms.{Term, Ends, size, prefixed, receives, below, receiveOf}
+use lib.ListN.{getD}
+use Rattle.cows.specs.Basics.{foundWith}
+use Rattle.cows.specs.Terms.{Term, Action, size, prefixed, receives, receiveOf}
 use Rattle.cows.specs.Kinds.{root, kindOf}
 use Rattle.cows.specs.Places.{sub}
 use Rattle.cows.specs.Format.{byte, layout, record16}
@@ -19,12 +18,12 @@ use Rattle.records.specs.Holds.{Holds}
 use Rattle.records.proofs.Stands.{holds-kind}
 use Rattle.matching.specs.declared.Fit.{Fit}
 use Rattle.matching.specs.declared.Fit.the-variants.{Binds, Differs}
-use Rattle.matching.specs.Matching.{fitOf, EndsAt}
+use Rattle.matching.specs.Matching.{fitOf, ActionAt}
 use Rattle.matching.proofs.Parties.{receive-here}
 
 -- the test of a record
-abbrev pub tightening : ℕ → Ends → Term → Bool
-tightening l m r = holds (λ q. fewer l (fit q m)) (prefixed receives r)
+abbrev pub tightening : ℕ → Action → Term → Bool
+tightening l m r = foundWith (λ q. fewer l (fit q m)) (prefixed receives r)
 
 -- and of an answer
 abbrev pub fewerBound : ℕ → Fit → Bool
@@ -36,20 +35,20 @@ unfolding fewer
 fewer-bound l (binds σ) = refl
 fewer-bound l (differs d) = refl
 
-module _ (s : List ℕ) (t : Term) (i l : ℕ) (m : Ends) (h : Holds s t) (p : i < size t) where
+module _ (s : List ℕ) (t : Term) (i l : ℕ) (m : Action) (h : Holds s t) (p : i < size t) where
   pub no-receive : getD s (16 * i) 0 ≢ 3 → false ≡ tightening l m (sub t i)
-  unfolding kindOf root record16 layout byte holds
+  unfolding kindOf root record16 layout byte foundWith
   no-receive e = go (prefixed receives (sub t i)) refl
     where
-      go : (o : Option Ends) → prefixed receives (sub t i) ≡ o → false ≡ holds (λ q. fewer l (fit q m)) o
+      go : (o : Option Action) → prefixed receives (sub t i) ≡ o → false ≡ foundWith (λ q. fewer l (fit q m)) o
       go none x = refl
       go (some q) x = absurd (e (holds-kind s t i h p ∙ ap kindOf (prefixed-is receives receiveOf receives-is (sub t i) q x)))
 
   module _ (e : getD s (16 * i) 0 ≡ 3) where
-    receiving : (q : Ends) × EndsAt s i q × (prefixed receives (sub t i) ≡ some q)
+    receiving : (q : Action) × ActionAt s i q × (prefixed receives (sub t i) ≡ some q)
     unfolding prefixed receives
     receiving = let (q, z, k) = receive-here s t i h p (sym (holds-kind s t i h p) ∙ e) in (q, k, ap (prefixed receives) z)
 
-    pub receive-tests : (r : Fit) → ((q : Ends) → EndsAt s i q → r ≡ fitOf (fit q m)) → fewerBound l r ≡ tightening l m (sub t i)
-    unfolding holds
+    pub receive-tests : (r : Fit) → ((q : Action) → ActionAt s i q → r ≡ fitOf (fit q m)) → fewerBound l r ≡ tightening l m (sub t i)
+    unfolding foundWith
     receive-tests r f = let (q, k, z) = receiving in rw (z, f q k) (fewer-bound l (fit q m))

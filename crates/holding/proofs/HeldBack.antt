@@ -1,4 +1,4 @@
--- Refusal 14 by labels: no atom is delimited twice, so a [k] that encloses a live place holds a ready kill of k exactly if the table does.
+-- Refusal 14 by labels: no atom is delimited twice, so a [k] that encloses a live place foundWith a ready kill of k exactly if the table does.
 use mathlib.Core.Path.{_≡_, refl, sym, ap, subst, _∙_}
 use mathlib.Core.Bool.{Bool, true, false, _&&_, _||_}
 use mathlib.Core.List.{[], _++_}
@@ -7,9 +7,9 @@ use Prim.Native.Nat.{ℕ, _+_, _-_, _<_}
 use native.Mathlib.Omega.{arith}
 use lib.Dec.{ltb, eqb}
 use borrow.Author.Tests.{ltb-true, eqb-true, eq-eqb}
-use Rattle.cows.specs.Basics.{holds, found}
+use Rattle.cows.specs.Basics.{foundWith, found}
 use Rattle.cows.specs.Terms.{kill, Term, leaf, size, label, variable, bindable, kills, uses, usesBasic, prefixed, delimits}
-use Rattle.cows.specs.Places.{Spot, spot, wayTo, sub, first, encloses, enclosed}
+use Rattle.cows.specs.Places.{Spot, spotAt, wayTo, sub, first, encloses, enclosed}
 use Rattle.cows.specs.Kinds.{liveKind}
 use Rattle.cows.specs.Active.{onKind, live, ready}
 use Rattle.cows.specs.Moves.{readyKill, heldBack}
@@ -25,11 +25,11 @@ use Rattle.ways.proofs.Once.{one-delimitation}
 -- place i of the term at place n, as a place of the table
 module _ (t : Term) (n : ℕ) (l : n < size t) (i : ℕ) (m : i < size (sub t n)) where
   part-way : wayTo t (n + i) ≡ wayTo (sub t n) i ++ wayTo t n
-  unfolding wayTo sub spot
+  unfolding wayTo sub spotAt
   part-way = ap (λ (z : Spot). z .way) (spot-part t n l .1 i m) ∙ descend-way [] (wayTo t n) (sub t n) i
 
   part-sub : sub t (n + i) ≡ sub (sub t n) i
-  unfolding wayTo sub spot
+  unfolding wayTo sub spotAt
   part-sub = ap (λ (z : Spot). z .here) (spot-part t n l .1 i m) ∙ descend-here (wayTo t n) [] (sub t n) i
 
 -- what is found stands somewhere
@@ -46,7 +46,7 @@ kill-is k i z e =
     (p, kills-is _ k (r ∙ ap some (sym (eqb-true k d b))))
 
 pub is-kill : (k : ℕ) (t : Term) (i : ℕ) → i < size t → ready (wayTo t i) ≡ true → sub t i ≡ leaf (kill k) → found (first (readyKill k) t) ≡ true
-unfolding readyKill kills holds
+unfolding readyKill kills foundWith
 is-kill k t i l r e = first-found (readyKill k) t i (leaf (kill k)) (record { placed = l; stands = e }) (true-and r (eq-eqb k k refl))
 
 pub kill-label : (t : Term) → Right t → (k i : ℕ) → sub t i ≡ leaf (kill k) → label k ≡ true
@@ -83,11 +83,11 @@ module _ (t : Term) (w : Within t) (a n k : ℕ) (la : a < size t) (v : live (wa
       (or-right (variable k) _ (kill-label t (w .right) k i s))
 
   from-whole : found (first (readyKill k) t) ≡ true → found (first (readyKill k) (sub t n)) ≡ true
-  unfolding holds
+  unfolding foundWith
   from-whole = found-at _ (readyKill k) t (λ i p e.
       let (r, s) = kill-is k i _ e in
       let (q, b, f, g) = enclosed-reaches t k i p (kill-enclosed i s) in
-      let z : q ≡ n = one-delimitation t (w .formed) k q n (omega arith) within f (ap (holds (eqb k)) d ∙ eq-eqb k k refl) in
+      let z : q ≡ n = one-delimitation t (w .formed) k q n (omega arith) within f (ap (foundWith (eqb k)) d ∙ eq-eqb k k refl) in
       let y : n + size (sub t n) ≡ q + size (sub t q) = rw z in
       let j = i - n in
       let x : n + j ≡ i = omega arith in
@@ -97,9 +97,9 @@ module _ (t : Term) (w : Within t) (a n k : ℕ) (la : a < size t) (v : live (wa
   pub held-whole : found (first (readyKill k) (sub t n)) ≡ found (first (readyKill k) t)
   held-whole = same-test to-whole from-whole
 
--- The record at place n by the ready kills of the table: no delimitation holds back, or it is one of k.
-pub held-none : (t : Term) (a b n : ℕ) → prefixed delimits (sub t n) ≡ none → heldBack a b n (spot t n) ≡ false
-unfolding heldBack holds sub
+-- The record at place n by the ready kills of the table: no delimitation foundWith back, or it is one of k.
+pub held-none : (t : Term) (a b n : ℕ) → prefixed delimits (sub t n) ≡ none → heldBack a b n (spotAt t n) ≡ false
+unfolding heldBack foundWith sub
 held-none t a b n e = rw e (and-none (encloses n (sub t n) a || encloses n (sub t n) b))
 
 and-where : (e : Bool) {x y : Bool} → (e ≡ true → x ≡ y) → (e && x) ≡ (e && y)
@@ -112,7 +112,7 @@ unfolding encloses
 held-side t w n k c d l v e = let (p, q) = and-true (ltb n c) _ e in held-whole t w c n k l v (ltb-true n c p) (ltb-true c _ q) d
 
 pub held-delimitation : (t : Term) → Within t → (a b n k : ℕ) → a < size t → b < size t → live (wayTo t a) ≡ true → live (wayTo t b) ≡ true → prefixed delimits (sub t n) ≡ some k
-    → heldBack a b n (spot t n) ≡ ((encloses n (sub t n) a || encloses n (sub t n) b) && found (first (readyKill k) t))
-unfolding heldBack holds sub
+    → heldBack a b n (spotAt t n) ≡ ((encloses n (sub t n) a || encloses n (sub t n) b) && found (first (readyKill k) t))
+unfolding heldBack foundWith sub
 held-delimitation t w a b n k la lb va vb d =
     rw d (and-where _ (λ e. or-case _ (encloses n (sub t n) a) (encloses n (sub t n) b) e (held-side t w n k a d la va) (held-side t w n k b d lb vb)))

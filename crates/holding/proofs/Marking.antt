@@ -10,10 +10,10 @@ use lib.Dec.{ltb, eqb}
 use lib.ListN.{length, getD, set}
 use lib.Seq.{getD-set-same, getD-set-other}
 use borrow.Author.Tests.{eqb-true, eq-eqb}
-use Rattle.cows.specs.Basics.{holds, found}
+use Rattle.cows.specs.Basics.{foundWith, found}
 use Rattle.cows.specs.Terms.{nil, kill, invoke, receive, wait, protection, delimitation, replication, Term, leaf, under, both, size, label, kills, prefixed, delimits}
 use Rattle.cows.specs.Kinds.{root, kindOf, readyKind, open-kinds}
-use Rattle.cows.specs.Places.{spot, sub, first, encloses}
+use Rattle.cows.specs.Places.{spotAt, sub, first, encloses}
 use Rattle.cows.specs.Format.{word, record16}
 use Rattle.cows.specs.Active.{ready}
 use Rattle.cows.specs.Moves.{readyKill, heldBack}
@@ -22,7 +22,7 @@ use Rattle.cows.proofs.Fields.{kind-kill, kind-delimitation, first-kill, first-
 use Rattle.cows.proofs.Sets.{in-labels, label-range}
 use Rattle.records.proofs.Stands.{holds-kind, holds-word}
 use Rattle.ways.specs.Known.{Table}
-use Rattle.holding.specs.Holding.{Blank, Marked, Parties, Sides}
+use Rattle.holding.specs.Holding.{Unmarked, KillsMarked, Parties, Sides}
 use Rattle.ways.proofs.Tables.{table-ended, table-inside}
 use Rattle.ways.proofs.Seeking.{Seeking, seeking-start, seeking-end, seeking-over}
 use Rattle.holding.proofs.HeldBack.{is-kill, kill-label, kills-labelled, held-none, held-delimitation}
@@ -48,7 +48,7 @@ delimits-none (both j l r) e = refl
 
 -- the record is a kill of k
 abbrev pub killing : ℕ → Term → Bool
-killing k s = holds (eqb k) (kills s)
+killing k s = foundWith (eqb k) (kills s)
 
 -- The walk is at place i. Of a label that is not marked no ready kill stands before it; of one that is marked there is a ready kill.
 pub record Marking (marks : List ℕ) (t : Term) (i : ℕ) : Type 0 where
@@ -57,14 +57,14 @@ pub record Marking (marks : List ℕ) (t : Term) (i : ℕ) : Type 0 where
   pub marked : (k : ℕ) → label k ≡ true → getD marks (k - 49152) 0 ≢ 0 → found (first (readyKill k) t) ≡ true
 
 module _ (marks : List ℕ) (t : Term) where
-  pub marking-start : Blank marks → Marking marks t 0
+  pub marking-start : Unmarked marks → Marking marks t 0
   marking-start b = record {
     walk = seeking-start _ _ t;
     ahead = λ k e z. seeking-start _ _ t;
     marked = λ k e z. absurd (z (b (k - 49152)));
   }
 
-  pub marking-end : (i : ℕ) → Marking marks t i → size t ≤ i → Marked marks t
+  pub marking-end : (i : ℕ) → Marking marks t i → size t ≤ i → KillsMarked marks t
   unfolding readyKill ready
   marking-end i h l k e =
       bool-case (not (eqb (getD marks (k - 49152) 0) 0) ≡ found (first (readyKill k) t)) (eqb (getD marks (k - 49152) 0) 0)
@@ -77,7 +77,7 @@ module _ (s ends : List ℕ) (t : Term) (h : Table s ends t) (i : ℕ) (l : i < 
 
   -- past a record that is no kill
   pub marking-step : (marks : List ℕ) (j : ℕ) → getD s (16 * i) 0 ≢ 1 → ((test : Term → Bool) → Seeking readyKind test t i → test (sub t i) ≡ false → Seeking readyKind test t j) → Marking marks t i → Marking marks t j
-  unfolding holds
+  unfolding foundWith
   marking-step marks j e step m = record {
     walk = step _ (m .walk) refl;
     ahead = λ k p z. step _ (m .ahead k p z) (rw (kills-none (sub t i) (λ q. e (holds-kind s t i (h .holds) placed ∙ q))));
@@ -106,7 +106,7 @@ module _ (s ends : List ℕ) (t : Term) (h : Table s ends t) (i : ℕ) (l : i < 
       past-kill test k miss = subst (Seeking readyKind test t) (ap (λ r. i + size r) kill-at) (seeking-over readyKind test t i k placed miss (ap (λ r. readyKind (kindOf r)) kill-at))
 
       pub marking-kill : Marking marks t i → Marking (set marks (w - 49152) 1) t (i + 1)
-      unfolding holds kills ready
+      unfolding foundWith kills ready
       marking-kill m =
           record {
             walk = past-kill _ (m .walk) refl;
@@ -127,7 +127,7 @@ module _ (s ends marks : List ℕ) (a b : ℕ) (d : Sides s ends marks a b) (n :
   known : n < size t
   known = table-inside s ends t (h .table) n l
 
-  pub held-other : getD s (16 * n) 0 ≢ 8 → heldBack a b n (spot t n) ≡ false
+  pub held-other : getD s (16 * n) 0 ≢ 8 → heldBack a b n (spotAt t n) ≡ false
   held-other e = held-none t a b n (delimits-none (sub t n) (λ q. e (holds-kind s t n (h .table .holds) known ∙ q)))
 
   module _ (e : getD s (16 * n) 0 ≡ 8) (k : ℕ) (at : k ≡ word s (16 * n + 2)) where
@@ -138,24 +138,24 @@ module _ (s ends marks : List ℕ) (a b : ℕ) (d : Sides s ends marks a b) (n :
         let y : k ≡ x = at ∙ (holds-word s t n 2 (h .table .holds) known (omega arith) ∙ (ap (λ r. word (record16 (root r)) 2) q ∙ first-delimitation x _)) in
         ap (prefixed delimits) q ∙ ap some (sym y)
 
-    held-is : heldBack a b n (spot t n) ≡ ((encloses n (sub t n) a || encloses n (sub t n) b) && found (first (readyKill k) t))
+    held-is : heldBack a b n (spotAt t n) ≡ ((encloses n (sub t n) a || encloses n (sub t n) b) && found (first (readyKill k) t))
     held-is =
         held-delimitation t (h .table .within) a b n k (table-inside s ends t (h .table) a (d .left)) (table-inside s ends t (h .table) b (d .right)) (h .left) (h .right) delimited
 
-    held-not : found (first (readyKill k) t) ≡ false → heldBack a b n (spot t n) ≡ false
+    held-not : found (first (readyKill k) t) ≡ false → heldBack a b n (spotAt t n) ≡ false
     held-not f = held-is ∙ rw f (and-none (encloses n (sub t n) a || encloses n (sub t n) b))
 
-    pub held-no-label : k < 49152 → heldBack a b n (spot t n) ≡ false
+    pub held-no-label : k < 49152 → heldBack a b n (spotAt t n) ≡ false
     held-no-label u = held-not (not-so (λ f. let r = label-range k (kills-labelled t (h .table .within .right) k f) in omega arith))
 
     module _ (u : 49152 ≤ k) (v : k < 65536) where
       mark-is : not (eqb (getD marks (k - 49152) 0) 0) ≡ found (first (readyKill k) t)
       mark-is = h .marked k (in-labels k u v .2)
 
-      pub held-unmarked : not (eqb (getD marks (k - 49152) 0) 0) ≡ false → heldBack a b n (spot t n) ≡ false
+      pub held-unmarked : not (eqb (getD marks (k - 49152) 0) 0) ≡ false → heldBack a b n (spotAt t n) ≡ false
       held-unmarked z = held-not (sym mark-is ∙ z)
 
-      pub held-marked : not (eqb (getD marks (k - 49152) 0) 0) ≡ true → (end : ℕ) → end ≡ getD ends n 0 → ((ltb n a && ltb a end) || (ltb n b && ltb b end)) ≡ heldBack a b n (spot t n)
+      pub held-marked : not (eqb (getD marks (k - 49152) 0) 0) ≡ true → (end : ℕ) → end ≡ getD ends n 0 → ((ltb n a && ltb a end) || (ltb n b && ltb b end)) ≡ heldBack a b n (spotAt t n)
       unfolding encloses
       held-marked z end q =
           rw (held-is, sym mark-is ∙ z, q, table-ended s ends t (h .table) n known) (and-one _)

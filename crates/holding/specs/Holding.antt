@@ -13,19 +13,19 @@ use Rattle.cows.specs.Moves.{readyKill}
 use Rattle.ways.specs.Known.{Table, Known}
 
 -- no label is marked
-abbrev pub Blank : List ℕ → Type 0
-Blank marks = (i : ℕ) → getD marks i 0 ≡ 0
+abbrev pub Unmarked : List ℕ → Type 0
+Unmarked marks = (i : ℕ) → getD marks i 0 ≡ 0
 
 -- exactly the labels are marked of which a ready kill stands in the term
-abbrev pub Marked : List ℕ → Term → Type 0
-Marked marks t = (k : ℕ) → label k ≡ true → not (eqb (getD marks (k - 49152) 0) 0) ≡ found (first (readyKill k) t)
+abbrev pub KillsMarked : List ℕ → Term → Type 0
+KillsMarked marks t = (k : ℕ) → label k ≡ true → not (eqb (getD marks (k - 49152) 0) 0) ≡ found (first (readyKill k) t)
 
 -- Places a and b are live, and the ready kills of the table are marked.
 pub record Parties (s ends marks : List ℕ) (a b : ℕ) (t : Term) : Type 0 where
   pub table : Table s ends t
   pub left : live (wayTo t a) ≡ true
   pub right : live (wayTo t b) ≡ true
-  pub marked : Marked marks t
+  pub marked : KillsMarked marks t
 
 -- There is such a table, both places are in it, and there is a mark for each label.
 pub record Sides (s ends marks : List ℕ) (a b : ℕ) : Type 0 where

@@ -9,19 +9,19 @@ ghost use mathlib.Core.Path.{_≡_};
 ghost use mathlib.Core.Bool.{true};
 ghost use Prim.Native.Nat.{_+_, _*_, _/_, _<_};
 ghost use lib.ListN.{length};
-ghost use Rattle.cows.specs.Basics.{holds};
-ghost use Rattle.cows.specs.Terms.{Term, Ends, size, prefixed, receives};
+ghost use Rattle.cows.specs.Basics.{foundWith};
+ghost use Rattle.cows.specs.Terms.{Term, Action, size, prefixed, receives};
 ghost use Rattle.cows.specs.Places.{sub, first};
-ghost use Rattle.cows.specs.Moves.{closedEnds, fit, fewer, tighter};
+ghost use Rattle.cows.specs.Moves.{closedAction, fit, fewer, tighter};
 ghost use Rattle.records.specs.Holds.{Holds};
 ghost use Rattle.records.specs.Answers.{foundOf};
 ghost use Rattle.ways.specs.Known.{Table, Known};
-ghost use Rattle.matching.specs.Matching.{EndsAt};
+ghost use Rattle.matching.specs.Matching.{ActionAt};
 
-// Whether the record at place i is a receive that fits the invoke at place b, which holds no variable, and binds fewer than l variables.
+// Whether the record at place i is a receive that fits the invoke at place b, which foundWith no variable, and binds fewer than l variables.
 fn tighter(s: &[u8], i: usize, b: usize, l: usize) -> bool
     requires { ⌜ (16 * i + 15 < length (now s)) × (16 * b + 15 < length (now s)) ⌝ }
-    ensures { λ r. ⌜ ((t : Term) (m : Ends) → Holds (now (s .entry)) t → i < size t → EndsAt (now (s .entry)) b m → closedEnds m ≡ true → r ≡ holds (λ q. fewer l (fit q m)) (prefixed receives (sub t i))) ⌝ }
+    ensures { λ r. ⌜ ((t : Term) (m : Action) → Holds (now (s .entry)) t → i < size t → ActionAt (now (s .entry)) b m → closedAction m ≡ true → r ≡ foundWith (λ q. fewer l (fit q m)) (prefixed receives (sub t i))) ⌝ }
 {
     if s[16 * i] != kinds::RECEIVE {
         return false;
@@ -35,7 +35,7 @@ fn tighter(s: &[u8], i: usize, b: usize, l: usize) -> bool
 // The first such receive among the ready records.
 pub fn first_tighter(s: &[u8], ends: &[u16], b: usize, l: usize) -> Found
     requires { ⌜ Known (now s) (now ends) × (b < length (now s) / 16) ⌝ }
-    ensures { λ r. ⌜ ((t : Term) (m : Ends) → Table (now (s .entry)) (now (ends .entry)) t → EndsAt (now (s .entry)) b m → closedEnds m ≡ true → r ≡ foundOf (first (tighter m l) t)) ⌝ }
+    ensures { λ r. ⌜ ((t : Term) (m : Action) → Table (now (s .entry)) (now (ends .entry)) t → ActionAt (now (s .entry)) b m → closedAction m ≡ true → r ≡ foundOf (first (tighter m l) t)) ⌝ }
 {
     let n = s.len() / 16;
     let mut i = 0;

@@ -16,12 +16,12 @@ ghost use lib.Dec.{eqb};
 ghost use lib.ListN.{length, getD, set};
 ghost use Rattle.cows.specs.Terms.{Term};
 ghost use Rattle.cows.specs.Kinds.{readyKind};
-ghost use Rattle.cows.specs.Places.{spot, wayTo, first};
+ghost use Rattle.cows.specs.Places.{spotAt, wayTo, first};
 ghost use Rattle.cows.specs.Active.{live};
 ghost use Rattle.cows.specs.Moves.{heldBack};
 ghost use Rattle.records.specs.Answers.{foundOf};
 ghost use Rattle.ways.specs.Known.{Table, Known};
-ghost use Rattle.holding.specs.Holding.{Blank, Marked, Parties, Sides};
+ghost use Rattle.holding.specs.Holding.{Unmarked, KillsMarked, Parties, Sides};
 
 // Whether the way to a ready record may pass a record of this kind.
 pub fn ready_kind(kind: u8) -> bool
@@ -49,7 +49,7 @@ fn marked(k: Label, marks: &[u8]) -> bool
 // Marks the label of each ready kill, in one walk over the ready records.
 fn mark_kills(s: &[u8], ends: &[u16], marks: &mut [u8])
     requires { ⌜ Known (now s) (now ends) × (length (now marks) ≡ 16384) ⌝ }
-    ensures { λ _. ⌜ ((t : Term) → Table (now (s .entry)) (now (ends .entry)) t → Blank (now (marks .entry)) → Marked (now (marks .exit)) t) ⌝ }
+    ensures { λ _. ⌜ ((t : Term) → Table (now (s .entry)) (now (ends .entry)) t → Unmarked (now (marks .entry)) → KillsMarked (now (marks .exit)) t) ⌝ }
 {
     let n = s.len() / 16;
     let mut i = 0;
@@ -75,7 +75,7 @@ fn mark_kills(s: &[u8], ends: &[u16], marks: &mut [u8])
 // Whether the record at place n delimits a marked label and encloses place a or place b.
 fn held(s: &[u8], ends: &[u16], a: usize, b: usize, marks: &[u8], n: usize) -> bool
     requires { ⌜ Sides (now s) (now ends) (now marks) a b × (n < length (now s) / 16) ⌝ }
-    ensures { λ r. ⌜ ((t : Term) → Parties (now (s .entry)) (now (ends .entry)) (now (marks .entry)) a b t → r ≡ heldBack a b n (spot t n)) ⌝ }
+    ensures { λ r. ⌜ ((t : Term) → Parties (now (s .entry)) (now (ends .entry)) (now (marks .entry)) a b t → r ≡ heldBack a b n (spotAt t n)) ⌝ }
 {
     if s[16 * n] != kinds::DELIMITATION {
         return false;

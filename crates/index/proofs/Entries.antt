@@ -12,7 +12,7 @@ use borrow.Author.Tests.{ltb-true, leb-true, eqb-true, eqb-false, not-true}
 use Rattle.cows.specs.Basics.{any, member}
 use Rattle.cows.specs.Terms.{delimitation, Term, under, size, value, variable, label, bindable, below, binders, uses, delimits, prefixed}
 use Rattle.cows.specs.Kinds.{root, kindOf}
-use Rattle.cows.specs.Places.{spot, wayTo, sub, enclosed, first}
+use Rattle.cows.specs.Places.{spotAt, wayTo, sub, enclosed, first}
 use Rattle.cows.specs.Format.{byte, word, layout, record16}
 use Rattle.cows.specs.Tables.{unbound, escaped, again, delimitedBefore, clash}
 use Rattle.cows.proofs.Basics.{clash as refute, bool-case, and-true, or-case, or-false, not-so, holds-some, none-firstFrom, eq-case}
@@ -23,11 +23,11 @@ use Rattle.cows.specs.Records.{reachOf}
 use Rattle.cows.proofs.Reach.{delimitsAt-is, is-delimitsAt, reach-some, reaches-enclosed, before-reach}
 use Rattle.records.specs.Holds.{Holds}
 use Rattle.records.proofs.Stands.{holds-size}
-use Rattle.scopes.specs.Scopes.{EndsOf, opens, strays}
+use Rattle.scopes.specs.Scopes.{EndsOf, openUse, strays}
 use Rattle.scopes.proofs.Uses.{place-inside, kind-here, delimitation-is, delimitation-here, endpoint-here, kill-here, none-used}
 use Rattle.ranges.specs.Lists.{Listed}
 use Rattle.ranges.proofs.Lists.{listed-all}
-use Rattle.index.specs.Index.{Index, entryOf, fineBy, fineAt, Fine, Entries, bound}
+use Rattle.index.specs.Index.{Index, entryOf, fineBy, fineAt, Fine, Entries, ScopesRight}
 use Rattle.index.proofs.Growth.{entry-says}
 
 any-none : (f : ℕ → Bool) (ws : List ℕ) → ((i : ℕ) → i < length ws → f (getD ws i 0) ≡ false) → any f ws ≡ false
@@ -57,7 +57,7 @@ module _ (s ends pages marks : List ℕ) (t : Term) (h : Holds s t) (e : EndsOf 
       (p, omega arith, is-delimitsAt a (sub t p) (below (sub t p)) (rw w at y), omega (arith, e .right t h (suc p) x, ap size f, ap size y))
 
   -- a use that is right by the entry n of its atom
-  use-by : (j a n : ℕ) → j < length s / 16 → entryOf pages marks a ≡ n → leb (a / 32768) n ≡ true → leb n j ≡ true → ltb j (getD ends n 0) ≡ true → (opens t j a ≡ false) × (strays t j a ≡ false)
+  use-by : (j a n : ℕ) → j < length s / 16 → entryOf pages marks a ≡ n → leb (a / 32768) n ≡ true → leb n j ≡ true → ltb j (getD ends n 0) ≡ true → (openUse t j a ≡ false) × (strays t j a ≡ false)
   use-by j a zero l q x y z = (
     not-so (λ b. or-case ⊥ (variable a) (label a) (and-true (bindable a) _ b .0) (λ v. omega (arith, leb-true (a / 32768) 0 x, variable-range a v)) (λ v. omega (arith, leb-true (a / 32768) 0 x, label-range a v))),
     not-so
@@ -73,7 +73,7 @@ module _ (s ends pages marks : List ℕ) (t : Term) (h : Holds s t) (e : EndsOf 
         not-so (λ b. refute c (not-true _ (and-true (value a && member a (binders t)) _ b .1))),
       )
 
-  use-none : (j a : ℕ) → j < length s / 16 → fineAt ends pages marks j a ≡ true → (opens t j a ≡ false) × (strays t j a ≡ false)
+  use-none : (j a : ℕ) → j < length s / 16 → fineAt ends pages marks j a ≡ true → (openUse t j a ≡ false) × (strays t j a ≡ false)
   unfolding fineBy
   use-none j a l f =
       let n = entryOf pages marks a in
@@ -83,9 +83,9 @@ module _ (s ends pages marks : List ℕ) (t : Term) (h : Holds s t) (e : EndsOf 
 
   -- Each record, by its kind.
   abbrev pub Right : ℕ → Type 0
-  Right j = (unbound j (spot t j) ≡ false) × (escaped t j (spot t j) ≡ false)
+  Right j = (unbound j (spotAt t j) ≡ false) × (escaped t j (spotAt t j) ≡ false)
 
-  by-uses : (j : ℕ) (l : List ℕ) → uses (sub t j) ≡ l → (any (opens t j) l ≡ false) × (any (strays t j) l ≡ false) → Right j
+  by-uses : (j : ℕ) (l : List ℕ) → uses (sub t j) ≡ l → (any (openUse t j) l ≡ false) × (any (strays t j) l ≡ false) → Right j
   unfolding unbound escaped wayTo sub
   by-uses j l q f = rw q f
 
@@ -93,13 +93,13 @@ module _ (s ends pages marks : List ℕ) (t : Term) (h : Holds s t) (e : EndsOf 
   unfolding any
   tuple-none j l k f =
       let (p, o, ws, q) = endpoint-here s t h j l (rw (kind-here s t h j l) at k) in
-      let n : (i k a : ℕ) → i < 6 → 16 * j + 2 + 2 * i ≡ k → word s k ≡ a → (opens t j a ≡ false) × (strays t j a ≡ false) =
+      let n : (i k a : ℕ) → i < 6 → 16 * j + 2 + 2 * i ≡ k → word s k ≡ a → (openUse t j a ≡ false) × (strays t j a ≡ false) =
       λ i k a m z w. rw (ap (word s) z ∙ w) at (use-none j (word s (16 * j + 2 + 2 * i)) l (f i m)) in
-      let slot : (i : ℕ) → i < length ws → (opens t j (getD ws i 0) ≡ false) × (strays t j (getD ws i 0) ≡ false) =
+      let slot : (i : ℕ) → i < length ws → (openUse t j (getD ws i 0) ≡ false) × (strays t j (getD ws i 0) ≡ false) =
       λ i m. n (i + 2) _ _ (omega (arith, q .tuple .few)) (omega arith) (q .tuple .slot i (omega (arith, q .tuple .few))) in
       let (p₁, p₂) = n 0 _ p (omega arith) (omega arith) (q .partner) in
       let (o₁, o₂) = n 1 _ o (omega arith) (omega arith) (q .operation) in
-      by-uses j (p ∷ o ∷ ws) (q .used) (rw (p₁, o₁) (any-none (opens t j) ws (λ i m. slot i m .0)), rw (p₂, o₂) (any-none (strays t j) ws (λ i m. slot i m .1)))
+      by-uses j (p ∷ o ∷ ws) (q .used) (rw (p₁, o₁) (any-none (openUse t j) ws (λ i m. slot i m .0)), rw (p₂, o₂) (any-none (strays t j) ws (λ i m. slot i m .1)))
 
   kill-none : (j : ℕ) → j < length s / 16 → getD s (16 * j) 0 ≡ 1 → Fine s ends pages marks j 6 → Right j
   unfolding any
@@ -114,7 +114,7 @@ module _ (s ends pages marks : List ℕ) (t : Term) (h : Holds s t) (e : EndsOf 
   other-none j l x y z = let k = kind-here s t h j l in by-uses j [] (none-used (sub t j) (λ e. x (k ∙ e)) (λ e. y (k ∙ e)) (λ e. z (k ∙ e))) (refl, refl)
 
   -- no delimitation is a second one: two of an atom would have one entry
-  again-none : (j : ℕ) → j < length s / 16 → again t j (spot t j) ≡ false
+  again-none : (j : ℕ) → j < length s / 16 → again t j (spotAt t j) ≡ false
   unfolding again sub
   again-none j l =
       not-so
@@ -125,11 +125,11 @@ module _ (s ends pages marks : List ℕ) (t : Term) (h : Holds s t) (e : EndsOf 
       let b = entry-of d q (below (sub t q)) (omega (arith, place-inside s t j h l)) (delimitsAt-is d (sub t q) z) in
       omega arith)
 
-  pub scopes-bound : ((j : ℕ) → j < length s / 16 → 1 ≤ getD s (16 * j) 0 → getD s (16 * j) 0 ≤ 3 → Fine s ends pages marks j 6) → bound t
+  pub scopes-bound : ((j : ℕ) → j < length s / 16 → 1 ≤ getD s (16 * j) 0 → getD s (16 * j) 0 ≤ 3 → Fine s ends pages marks j 6) → ScopesRight t
   unfolding first clash
   scopes-bound right = (
-    none-firstFrom (λ n. unbound n (spot t n)) 0 (size t) (λ i l. rw zero-add (fine i (omega (arith, holds-size s t h)) .0)),
-    none-firstFrom (λ n. clash t n (spot t n)) 0 (size t) (λ i l. let m : i < length s / 16 = omega (arith, holds-size s t h) in rw (zero-add, again-none i m) (fine i m .1)),
+    none-firstFrom (λ n. unbound n (spotAt t n)) 0 (size t) (λ i l. rw zero-add (fine i (omega (arith, holds-size s t h)) .0)),
+    none-firstFrom (λ n. clash t n (spotAt t n)) 0 (size t) (λ i l. let m : i < length s / 16 = omega (arith, holds-size s t h) in rw (zero-add, again-none i m) (fine i m .1)),
   )
     where
       fine : (j : ℕ) → j < length s / 16 → Right j
@@ -146,7 +146,7 @@ module _ (s ends pages marks : List ℕ) (t : Term) (h : Holds s t) (e : EndsOf 
 -- the same, by the lists of the delimitations and of the uses
 pub listed-bound : (s ends pages marks list places : List ℕ) (m k : ℕ) (t : Term) → Holds s t → EndsOf s ends → Index s pages marks
     → Listed s 8 8 list (length s / 16) m → Entries s list pages marks m
-    → Listed s 1 3 places (length s / 16) k → ((q : ℕ) → q < k → Fine s ends pages marks (getD places q 0) 6) → bound t
+    → Listed s 1 3 places (length s / 16) k → ((q : ℕ) → q < k → Fine s ends pages marks (getD places q 0) 6) → ScopesRight t
 listed-bound s ends pages marks list places m k t h e i delimitations entered uses fine =
     scopes-bound s ends pages marks t h e i
     (λ d l x. listed-all s 8 8 list _ m (λ n. entryOf pages marks (word s (16 * n + 2)) ≡ n + 1) delimitations entered d l (omega arith) (omega arith))

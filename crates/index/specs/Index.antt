@@ -15,18 +15,18 @@ use Rattle.records.specs.Ends.{EndsFrom}
 use Rattle.ranges.specs.Lists.{Listed, Inside}
 
 -- where the index keeps an atom: its page's start, 0 if the page is not given out, and its place in the page
-abbrev pub slotOf : List ℕ → ℕ → ℕ
-slotOf pages a = getD pages (a / 32) 0 + a % 32
+abbrev pub indexSlot : List ℕ → ℕ → ℕ
+indexSlot pages a = getD pages (a / 32) 0 + a % 32
 
 unfoldable pub entryOf : List ℕ → List ℕ → ℕ → ℕ
-entryOf pages marks a = getD marks (slotOf pages a) 0
+entryOf pages marks a = getD marks (indexSlot pages a) 0
 
 -- the record at place d is a delimitation whose atom is kept at x
-pub record Marked (s pages : List ℕ) (x d : ℕ) : Type 0 where
+pub record DelimitationKept (s pages : List ℕ) (x d : ℕ) : Type 0 where
   pub placed : d < length s / 16
   pub kind : getD s (16 * d) 0 ≡ 8
   pub given : 0 < getD pages (word s (16 * d + 2) / 32) 0
-  pub slot : slotOf pages (word s (16 * d + 2)) ≡ x
+  pub slot : indexSlot pages (word s (16 * d + 2)) ≡ x
 
 -- Pages lie apart among the marks, and a mark that is not 0 is the place behind a delimitation whose atom is kept there.
 pub record Index (s pages marks : List ℕ) : Type 0 where
@@ -34,10 +34,10 @@ pub record Index (s pages marks : List ℕ) : Type 0 where
   pub page : (p : ℕ) → getD pages p 0 + 32 ≤ length marks
   pub whole : (p : ℕ) → getD pages p 0 % 32 ≡ 0
   pub apart : (p q : ℕ) → 0 < getD pages p 0 → getD pages p 0 ≡ getD pages q 0 → p ≡ q
-  pub mark : (x d : ℕ) → getD marks x 0 ≡ suc d → Marked s pages x d
+  pub mark : (x d : ℕ) → getD marks x 0 ≡ suc d → DelimitationKept s pages x d
 
 -- Pages are given out below `top` so far.
-pub record Growing (s pages marks : List ℕ) (top : ℕ) : Type 0 where
+pub record GrowingIndex (s pages marks : List ℕ) (top : ℕ) : Type 0 where
   pub index : Index s pages marks
   pub below : (p : ℕ) → getD pages p 0 < top
   pub even : top % 32 ≡ 0
@@ -60,13 +60,13 @@ pub record Delimitations (s ends list : List ℕ) (m : ℕ) : Type 0 where
   pub long : length s / 16 < length list
 
 -- An index with nothing in it, with room for the delimitations at the first m places of a list.
-pub record Ready (s list : List ℕ) (m : ℕ) (pages marks : List ℕ) : Type 0 where
+pub record BlankIndex (s list : List ℕ) (m : ℕ) (pages marks : List ℕ) : Type 0 where
   pub short : length s / 16 ≤ 2048
   pub listed : Inside s list m
   pub kinds : (q : ℕ) → q < m → getD s (16 * getD list q 0) 0 ≡ 8
   pub few : m < 512
   pub room : 32 * (m + 1) ≤ length marks
-  pub blank : Growing s pages marks 32
+  pub blank : GrowingIndex s pages marks 32
 
 -- a use of a at place j is right by its entry e: inside the delimitation before e, or, if e is 0, of a value
 unfoldable pub fineBy : List ℕ → ℕ → ℕ → ℕ → Bool
@@ -84,8 +84,8 @@ abbrev pub Entries : List ℕ → List ℕ → List ℕ → List ℕ → ℕ →
 Entries s list pages marks n = (q : ℕ) → q < n → entryOf pages marks (word s (16 * getD list q 0 + 2)) ≡ getD list q 0 + 1
 
 -- What the quick test of scopes shows, if its answer is true, of the term whose table the bytes are: refusals 6 and 7 do not apply.
-abbrev pub bound : Term → Type 0
-bound t = (first unbound t ≡ none) × (first (clash t) t ≡ none)
+abbrev pub ScopesRight : Term → Type 0
+ScopesRight t = (first unbound t ≡ none) × (first (clash t) t ≡ none)
 
 abbrev pub ShowsBound : Bool → List ℕ → Type 0
-ShowsBound r s = r ≡ true → (t : Term) → Holds s t → bound t
+ShowsBound r s = r ≡ true → (t : Term) → Holds s t → ScopesRight t

@@ -10,7 +10,7 @@ ghost use Prim.Native.Nat.{ℕ, _+_, _/_, _<_, _≤_};
 ghost use lib.ListN.{length, getD};
 ghost use Rattle.records.specs.Ends.{EndsFrom};
 ghost use Rattle.ranges.specs.Lists.{Inside};
-ghost use Rattle.index.specs.Index.{Index, Starts, Grows, Delimitations, Ready, entryOf, fineAt, Fine, Entries, ShowsBound};
+ghost use Rattle.index.specs.Index.{Index, Starts, Grows, Delimitations, BlankIndex, entryOf, fineAt, Fine, Entries, ShowsBound};
 
 // The start of a page: x, or `top` for a page that is not given out.
 fn page_start(x: u16, top: u16) -> u16
@@ -29,7 +29,7 @@ fn pages_end(y: u16, top: u16) -> u16
 
 // Enters the delimitations at the first m places of the list.
 fn enter(s: &[u8], list: &[u16], m: usize, pages: &mut [u16], marks: &mut [u16])
-    requires { ⌜ Ready (now s) (now list) m (now pages) (now marks) ⌝ }
+    requires { ⌜ BlankIndex (now s) (now list) m (now pages) (now marks) ⌝ }
     ensures { λ _. ⌜ Index (now (s .entry)) (now (pages .exit)) (now (marks .exit)) ⌝ }
 {
     let mut top: u16 = 32;
@@ -126,7 +126,7 @@ fn indexed_right(
     pages: &mut [u16],
     marks: &mut [u16],
 ) -> bool
-    requires { ⌜ Delimitations (now s) (now ends) (now list) m × Ready (now s) (now list) m (now pages) (now marks) ⌝ }
+    requires { ⌜ Delimitations (now s) (now ends) (now list) m × BlankIndex (now s) (now list) m (now pages) (now marks) ⌝ }
     ensures { λ r. ⌜ ShowsBound r (now (s .entry)) ⌝ }
 {
     enter(s, list, m, pages, marks);

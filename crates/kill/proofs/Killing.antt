@@ -12,10 +12,10 @@ use borrow.Author.Tests.{ltb-true, ltb-false, leb-true, leb-false}
 use Rattle.cows.specs.Basics.{every}
 use Rattle.cows.specs.Terms.{kill, receive, wait, protection, delimitation, replication, choice, parallel, Term, leaf, under, both, size, depth, kills, label, variable, bindable, below, uses, usesBasic}
 use Rattle.cows.specs.Kinds.{open-kinds}
-use Rattle.cows.specs.Places.{inside, leftOf, rightOf, Way, fill, plug, Spot, descend, spot, wayTo, sub, enclosed, passed}
+use Rattle.cows.specs.Places.{inside, leftOf, rightOf, Way, fill, plug, Spot, descend, spotAt, wayTo, sub, enclosed, passed}
 use Rattle.cows.specs.Format.{encode}
 use Rattle.cows.specs.Active.{live, onKind}
-use Rattle.cows.specs.Allows.{Stands, Live}
+use Rattle.cows.specs.Allows.{Stands, StandsLive}
 use Rattle.cows.specs.Moves.{halt, haltUnder, haltBoth, afterKill}
 use Rattle.cows.specs.Step.{overLimits}
 use Rattle.cows.specs.Within.{Right, Bound, Guarded, Within}
@@ -95,7 +95,7 @@ depth-aside (suc n) (both j s t) =
     (λ h. omega (arith, depth-halt s, depth-aside (n - size s) t))
 
 -- A live kill stands inside the delimitation of its label.
-module _ (t : Term) (w : Within t) (a k : ℕ) (l : Live t a (leaf (kill k))) where
+module _ (t : Term) (w : Within t) (a k : ℕ) (l : StandsLive t a (leaf (kill k))) where
   pub is-label : label k ≡ true
   is-label = subst Right (l .at .stands) (right-at t a (w .right))
 
@@ -140,7 +140,7 @@ module _ (t : Term) (w : Within t) (a k : ℕ) (l : Live t a (leaf (kill k))) wh
     unfolding size
     body-placed = (body-at .0, omega (arith, around .before), omega (arith, high, ap size (body-at .1)))
 
-    body-live : Live (sub t (p + 1)) m (leaf (kill k))
+    body-live : StandsLive (sub t (p + 1)) m (leaf (kill k))
     body-live = rw (body-at .1, ← m-is) (live-kill k t a p body w l scope-stands (around .before) high)
 
     after : afterKill k t a ≡ fill (wayTo t (p + 1)) (haltAside m (sub t (p + 1)))
@@ -148,7 +148,7 @@ module _ (t : Term) (w : Within t) (a k : ℕ) (l : Live t a (leaf (kill k))) wh
     after = rw (body-at .1, body-at .2, ← m-is) (after-kill k t a p body w l scope-stands (around .before) high)
 
     pub left-is : left a (p + 1) (sub t (p + 1)) ≡ size (haltAside m (sub t (p + 1)))
-    unfolding wayTo sub spot
+    unfolding wayTo sub spotAt
     left-is = left-in [] a (p + 1) m (sub t (p + 1)) k (omega (arith, body-placed)) (body-live .at .placed) (guarded-at t (p + 1) (w .formed .guarded)) (body-live .live) (body-live .at .stands)
 
     pub kill-size : size (afterKill k t a) + size (sub t (p + 1)) ≡ size t + left a (p + 1) (sub t (p + 1))

@@ -14,7 +14,7 @@ use Rattle.cows.specs.Kinds.{root, kindOf}
 use Rattle.cows.specs.Places.{wayTo, sub}
 use Rattle.cows.specs.Format.{byte, word, layout, record16, encode}
 use Rattle.cows.specs.Active.{live, wanted}
-use Rattle.cows.specs.Allows.{Live}
+use Rattle.cows.specs.Allows.{StandsLive}
 use Rattle.cows.specs.Moves.{afterKill, killAt}
 use Rattle.cows.proofs.Basics.{bind-accept, same-accept}
 use Rattle.cows.proofs.Sets.{label-range}
@@ -24,7 +24,7 @@ use Rattle.cows.proofs.Fields.{kind-kill, first-kill}
 use Rattle.cows.proofs.Stands.{kills-is, wanted-live, live-wanted}
 use Rattle.records.specs.Atoms.{classOf}
 use Rattle.records.specs.Answers.{foundOf}
-use Rattle.records.specs.Rewrites.{put, Stands, Ready, Done, Rewrites}
+use Rattle.records.specs.Rewrites.{put, StandsIn, Rewritable, Done, Rewrites}
 use Rattle.records.specs.declared.Label as labels
 use Rattle.records.specs.declared.Atom.the-variants.{Label}
 use Rattle.records.specs.declared.Found.{Found}
@@ -34,7 +34,7 @@ use Rattle.records.proofs.Put.{and-then}
 use Rattle.records.proofs.Stands.{holds-word, holds-stands}
 use Rattle.records.proofs.Rewrites.{ready}
 use Rattle.rewriting.specs.Halting.{haltAside, placeIn, PlaceOf}
-use Rattle.rewriting.proofs.Placed.{place-of}
+use Rattle.rewriting.proofs.Aligned.{place-of}
 use Rattle.ways.specs.Known.{Table}
 use Rattle.kill.specs.Losses.{left}
 use Rattle.ways.specs.Ways.{scopeOf, LiveAt}
@@ -62,7 +62,7 @@ module _ (s way : List ℕ) (t : Term) (a n : ℕ) (h : LiveAt s way a 1 t n) wh
   abbrev k : ℕ
   k = kill-at .0
 
-  kill-live : Live t a (leaf (kill k))
+  kill-live : StandsLive t a (leaf (kill k))
   kill-live = record { at = record { placed = h .walks .inside; stands = kill-at .1 }; live = h .live }
 
   label-word : word s (16 * a + 2) ≡ k
@@ -122,7 +122,7 @@ module _ (s ends : List ℕ) (a from : ℕ) (out : List ℕ) (q : Asks (λ t. ki
 
   record Fired : Type 0 where
     label : ℕ
-    kill : Live t a (leaf (kill label))
+    kill : StandsLive t a (leaf (kill label))
     scope : scopeOf label (wayTo t a) ≡ some from
     gives : q .successor ≡ afterKill label t a
 
@@ -155,7 +155,7 @@ module _ (s ends : List ℕ) (a from : ℕ) (out : List ℕ) (q : Asks (λ t. ki
   body-fits : from + 1 + size body ≤ length s / 16
   body-fits = omega (arith, spot-fits t (from + 1) (omega (arith, fired-placed, table-size s ends t h)), table-size s ends t h)
 
-  body-stands : Stands s (16 * (from + 1)) body
+  body-stands : StandsIn s (16 * (from + 1)) body
   body-stands = holds-stands s t (from + 1) (h .holds) (omega (arith, fired-placed, table-size s ends t h))
 
   successor-size : size (q .successor) + size body ≡ length s / 16 + size (rewrite body)
@@ -166,7 +166,7 @@ module _ (s ends : List ℕ) (a from : ℕ) (out : List ℕ) (q : Asks (λ t. ki
   pub head-fits : (16 * (from + 1) ≤ length s) × (16 * (from + 1) ≤ length out) × (16 * a ≤ length s)
   head-fits = omega (arith, successor-size, body-fits, q .room, fired-placed)
 
-  pub body-asks : (d : List ℕ) → length d ≡ length out → Ready rewrite s (16 * (from + 1)) d (16 * (from + 1)) × PlaceOf s ends (16 * (from + 1)) (16 * a)
+  pub body-asks : (d : List ℕ) → length d ≡ length out → Rewritable rewrite s (16 * (from + 1)) d (16 * (from + 1)) × PlaceOf s ends (16 * (from + 1)) (16 * a)
   body-asks d l = (
     ready body body-stands (omega (arith, length-encode (rewrite body), successor-size, body-fits, q .room)),
     place-of t (from + 1) a (h .holds) (h .end) (omega (arith, fired-placed, table-size s ends t h)) (fired-placed .1) (fired-placed .2),

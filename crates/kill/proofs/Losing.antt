@@ -14,7 +14,7 @@ use Rattle.cows.proofs.Fields.{kind-is}
 use Rattle.cows.proofs.Format.{length-encode}
 use Rattle.cows.proofs.Places.{size-pos, spot-fits}
 use Rattle.records.specs.Ends.{EndsFrom}
-use Rattle.records.specs.Rewrites.{Stands}
+use Rattle.records.specs.Rewrites.{StandsIn}
 use Rattle.records.proofs.Stands.{long, stands-kind, stands-fits, stands-under, stands-left, stands-right, holds-stands}
 use Rattle.records.proofs.Shapes.{end-stands}
 use Rattle.ways.specs.Known.{Table, Known}
@@ -25,7 +25,7 @@ use Rattle.cows.proofs.Rows.{children-of, children-some}
 -- the terms stand one behind the other from place i on; their records, and what is left of them
 abbrev pub Row : List ℕ → ℕ → List Term → Type 0
 Row s i [] = Unit {0}
-Row s i (t ∷ ts) = Stands s (16 * i) t × Row s (i + size t) ts
+Row s i (t ∷ ts) = StandsIn s (16 * i) t × Row s (i + size t) ts
 
 abbrev pub sizes : List Term → ℕ
 sizes [] = 0
@@ -81,7 +81,7 @@ module _ (s ends : List ℕ) (e : EndsFrom s ends 0) (a p end : ℕ) (t : Term) 
   record First : Type 0 where
     term : Term
     rest : List Term
-    stands : Stands s (16 * i) term
+    stands : StandsIn s (16 * i) term
     row : Row s (i + size term) rest
     until : end ≡ i + size term + sizes rest
     count : i + (left a i term + lefts a (i + size term) rest) ≡ p + gone + left a p t
@@ -122,10 +122,10 @@ module _ (s ends : List ℕ) (e : EndsFrom s ends 0) (a p end : ℕ) (t : Term) 
     into-one u c q z =
         let x : size (f .term) ≡ suc (size c) = ap size q in
         let n : i + size (f .term) ≡ suc i + size c = omega arith in
-        let w : Stands s (16 * i + 16) c = stands-under u c (subst (Stands s (16 * i)) q (f .stands)) in
+        let w : StandsIn s (16 * i + 16) c = stands-under u c (subst (StandsIn s (16 * i)) q (f .stands)) in
         record {
           ahead = c ∷ f .rest;
-          row = (subst (λ k. Stands s k c) (omega arith) w, subst (λ k. Row s k (f .rest)) n (f .row));
+          row = (subst (λ k. StandsIn s k c) (omega arith) w, subst (λ k. Row s k (f .rest)) n (f .row));
           ends = omega (arith, f .until);
           count = omega (arith, f .count, ap (left a i) q ∙ z, ap (λ k. lefts a k (f .rest)) n);
         }
@@ -135,11 +135,11 @@ module _ (s ends : List ℕ) (e : EndsFrom s ends 0) (a p end : ℕ) (t : Term) 
     into-two j c d q z =
         let x : size (f .term) ≡ suc (size c + size d) = ap size q in
         let n : i + size (f .term) ≡ suc i + size c + size d = omega arith in
-        let w : Stands s (16 * i) (both j c d) = subst (Stands s (16 * i)) q (f .stands) in
+        let w : StandsIn s (16 * i) (both j c d) = subst (StandsIn s (16 * i)) q (f .stands) in
         record {
           ahead = c ∷ d ∷ f .rest;
           row = (
-            subst (λ k. Stands s k c) (omega arith) (stands-left j c d w),
+            subst (λ k. StandsIn s k c) (omega arith) (stands-left j c d w),
             (stands-right j c d (16 * (suc i + size c)) (omega (arith, length-encode c)) w, subst (λ k. Row s k (f .rest)) n (f .row)),
           );
           ends = omega (arith, f .until);

@@ -1,25 +1,24 @@
 -- Matching by four slots of which those that are not used are 0 (specs/Matching) is matching of the tuples (cows, specs/Moves).
 use mathlib.Core.Path.{_≡_, refl, sym, ap, _∙_}
 use mathlib.Core.Logic.{_≢_}
-use mathlib.Core.Bool.{Bool, true, false, cond, not, _&&_, _||_}
+use mathlib.Core.Bool.{Bool, true, false, cond, _&&_, _||_}
 use mathlib.Core.List.{List, [], _∷_}
 use Prim.Native.Nat.{ℕ, zero, suc, _+_, _*_, _≤_}
 use native.Mathlib.Omega.{arith}
 use lib.Dec.{eqb}
 use lib.ListN.{length, getD}
-use borrow.Author.Tests.{eq-eqb, ne-eqb, eqb-true}
-use Rattle.cows.specs.Basics.{any, every}
+use borrow.Author.Tests.{eq-eqb, ne-eqb}
+use Rattle.cows.specs.Basics.{any, every, oneIf}
 use Rattle.cows.specs.Allows.{Matches, empty, takes, equals}
-use Rattle.cows.specs.Terms.{Ends, variable}
+use Rattle.cows.specs.Terms.{Action, variable}
 use Rattle.cows.specs.Format.{byte, word}
-use Rattle.cows.specs.Moves.{Substitution, otherEndpoint, otherCount, otherValue, Matching, binds, differs, provided, besides, match, closedEnds, fit}
+use Rattle.cows.specs.Moves.{Substitution, otherEndpoint, otherCount, otherValue, Matching, binds, differs, provided, besides, match, closedAction, fit}
 use Rattle.cows.proofs.Basics.{and-one, or-none}
-use Rattle.records.specs.Ends.{oneIf}
 use Rattle.records.specs.Atoms.{closedAt}
 use Rattle.matching.specs.declared.Difference.the-variants.{Unset, Endpoint, Count, Slot}
 use Rattle.matching.specs.declared.Fit.{Fit}
 use Rattle.matching.specs.declared.Fit.the-variants.{Binds, Differs}
-use Rattle.matching.specs.Matching.{differenceOf, fitOf, agree, slotsOf, slotsAt, EndsAt, slotTest}
+use Rattle.matching.specs.Matching.{fitOf, agree, slotsOf, slotsAt, ActionAt, slotTest}
 
 -- So many variables more; k slots from the n-th on, w in the pattern and v in the message.
 more : ℕ → Fit → Fit
@@ -95,9 +94,9 @@ any-four p e (w ∷ x ∷ y ∷ z ∷ []) l = ap (λ b. p w || (p x || (p y || b
 any-four p e (w ∷ x ∷ y ∷ z ∷ a ∷ ws) l = absurd (omega arith)
 
 -- The records at places a and b have the endpoints and tuples of q and m.
-module _ (s : List ℕ) (a b : ℕ) (q m : Ends) (h : EndsAt s a q) (k : EndsAt s b m) where
-  pub closed-ends : closedAt s (16 * b) ≡ closedEnds m
-  unfolding closedAt closedEnds variable any
+module _ (s : List ℕ) (a b : ℕ) (q m : Action) (h : ActionAt s a q) (k : ActionAt s b m) where
+  pub closed-ends : closedAt s (16 * b) ≡ closedAction m
+  unfolding closedAt closedAction variable any
   closed-ends = rw (k .partner, k .operation, k .slot0, k .slot1, k .slot2, k .slot3, any-four variable refl (m .tuple) (k .few))
 
   pub not-closed : closedAt s (16 * b) ≡ false → Differs Unset ≡ fitOf (fit q m)
@@ -111,7 +110,7 @@ module _ (s : List ℕ) (a b : ℕ) (q m : Ends) (h : EndsAt s a q) (k : EndsAt 
       (slots-four (λ i. getD (q .tuple) i 0) (λ i. getD (m .tuple) i 0) ∙ sym (match-slots 4 0 (q .tuple) (m .tuple) (h .few) e))
 
   -- a message that holds no variable: by the endpoints, the counts, and the slots
-  module _ (c : closedEnds m ≡ true) where
+  module _ (c : closedAction m ≡ true) where
     abbrev ends-same : Bool
     ends-same = eqb (word s (16 * a + 2)) (word s (16 * b + 2)) && eqb (word s (16 * a + 4)) (word s (16 * b + 4))
 

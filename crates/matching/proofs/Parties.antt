@@ -4,7 +4,7 @@ use mathlib.Core.List.{List}
 use Prim.Native.Nat.{ℕ, _+_, _*_, _≤_, _<_}
 use native.Mathlib.Omega.{arith}
 use lib.ListN.{length, getD}
-use Rattle.cows.specs.Terms.{Term, leaf, under, Ends, size, receiveOf, invokeOf, below}
+use Rattle.cows.specs.Terms.{Term, leaf, under, Action, size, receiveOf, invokeOf, below}
 use Rattle.cows.specs.Kinds.{root, kindOf}
 use Rattle.cows.specs.Places.{sub}
 use Rattle.cows.specs.Format.{byte, word, layout, record16}
@@ -13,10 +13,10 @@ use Rattle.cows.proofs.Fields.{kind-receive, kind-invoke, byte-at, layout-first
 use Rattle.cows.proofs.Stands.{right-at}
 use Rattle.records.specs.Holds.{Holds}
 use Rattle.records.proofs.Stands.{holds-word}
-use Rattle.matching.specs.Matching.{EndsAt}
+use Rattle.matching.specs.Matching.{ActionAt}
 
 module _ (s : List ℕ) (t : Term) (j : ℕ) (h : Holds s t) (l : j < size t) where
-  layout-ends : (q : Ends) (k : ℕ) → record16 (root (sub t j)) ≡ layout k (q .partner) (q .operation) (q .tuple) 0 → length (q .tuple) ≤ 4 → EndsAt s j q
+  layout-ends : (q : Action) (k : ℕ) → record16 (root (sub t j)) ≡ layout k (q .partner) (q .operation) (q .tuple) 0 → length (q .tuple) ≤ 4 → ActionAt s j q
   unfolding byte layout
   layout-ends q k e f =
       record {
@@ -36,17 +36,17 @@ module _ (s : List ℕ) (t : Term) (j : ℕ) (h : Holds s t) (l : j < size t) wh
       slot : (m : ℕ) → m < 4 → word (layout k (q .partner) (q .operation) (q .tuple) 0) (6 + 2 * m) ≡ getD (q .tuple) m 0
       slot m x = layout-slot k (q .partner) (q .operation) 0 (q .tuple) m x
 
-  pub receive-ends : (q : Ends) (c : Term) → sub t j ≡ under (receiveOf q) c → EndsAt s j q
+  pub receive-ends : (q : Action) (c : Term) → sub t j ≡ under (receiveOf q) c → ActionAt s j q
   unfolding record16 root
   receive-ends q c e = layout-ends q 3 (ap (λ x. record16 (root x)) e) (subst Right e (right-at t j (h .right)) .0 .2 .0)
 
-  pub invoke-ends : (q : Ends) → sub t j ≡ leaf (invokeOf q) → EndsAt s j q
+  pub invoke-ends : (q : Action) → sub t j ≡ leaf (invokeOf q) → ActionAt s j q
   unfolding record16 root
   invoke-ends q e = layout-ends q 2 (ap (λ x. record16 (root x)) e) (subst Right e (right-at t j (h .right)) .2 .0)
 
   -- by the record's kind
-  pub receive-here : kindOf (sub t j) ≡ 3 → (q : Ends) × (sub t j ≡ under (receiveOf q) (below (sub t j))) × EndsAt s j q
+  pub receive-here : kindOf (sub t j) ≡ 3 → (q : Action) × (sub t j ≡ under (receiveOf q) (below (sub t j))) × ActionAt s j q
   receive-here e = let (p, o, ws, z) = kind-receive (sub t j) e in (record { partner = p; operation = o; tuple = ws }, z, receive-ends _ (below (sub t j)) z)
 
-  pub invoke-here : kindOf (sub t j) ≡ 2 → (q : Ends) × (sub t j ≡ leaf (invokeOf q)) × EndsAt s j q
+  pub invoke-here : kindOf (sub t j) ≡ 2 → (q : Action) × (sub t j ≡ leaf (invokeOf q)) × ActionAt s j q
   invoke-here e = let (p, o, ws, z) = kind-invoke (sub t j) e in (record { partner = p; operation = o; tuple = ws }, z, invoke-ends _ z)

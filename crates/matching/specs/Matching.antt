@@ -1,14 +1,14 @@
 -- Matching as the code answers it: how many variables are bound, or what differs; an endpoint and a tuple by the bytes of a record.
 use mathlib.Core.Path.{_≡_}
-use mathlib.Core.Bool.{Bool, true, false, cond, not, _&&_, _||_}
+use mathlib.Core.Bool.{Bool, cond, not, _&&_, _||_}
 use mathlib.Core.List.{List}
 use Prim.Native.Nat.{ℕ, _+_, _*_, _≤_}
 use lib.Dec.{eqb}
 use lib.ListN.{length, getD}
-use Rattle.cows.specs.Terms.{Ends, variable}
+use Rattle.cows.specs.Terms.{Action, variable}
+use Rattle.cows.specs.Basics.{oneIf}
 use Rattle.cows.specs.Format.{byte, word}
 use Rattle.cows.specs.Moves.{Mismatch, unsetVariable, otherEndpoint, otherCount, otherValue, Matching, binds, differs}
-use Rattle.records.specs.Ends.{oneIf}
 use Rattle.matching.specs.declared.Difference.{Difference}
 use Rattle.matching.specs.declared.Difference.the-variants.{Unset, Endpoint, Count, Slot}
 use Rattle.matching.specs.declared.Fit.{Fit}
@@ -43,7 +43,7 @@ slotsAt s k m =
     (oneIf (variable (word s (k + 6))) + oneIf (variable (word s (k + 8))) + oneIf (variable (word s (k + 10))) + oneIf (variable (word s (k + 12))))
 
 -- The record at place j has the endpoint and the tuple of r.
-pub record EndsAt (s : List ℕ) (j : ℕ) (r : Ends) : Type 0 where
+pub record ActionAt (s : List ℕ) (j : ℕ) (r : Action) : Type 0 where
   pub partner : word s (16 * j + 2) ≡ r .partner
   pub operation : word s (16 * j + 4) ≡ r .operation
   pub few : length (r .tuple) ≤ 4

@@ -10,11 +10,11 @@ ghost use mathlib.Core.Path.{_≡_};
 ghost use mathlib.Core.Bool.{true};
 ghost use Prim.Native.Nat.{_+_, _*_, _≤_, _<_};
 ghost use lib.ListN.{length};
-ghost use Rattle.cows.specs.Terms.{Ends, variable};
+ghost use Rattle.cows.specs.Terms.{Action, variable};
+ghost use Rattle.cows.specs.Basics.{oneIf};
 ghost use Rattle.cows.specs.Format.{word};
-ghost use Rattle.cows.specs.Moves.{closedEnds, fit};
-ghost use Rattle.records.specs.Ends.{oneIf};
-ghost use Rattle.matching.specs.Matching.{fitOf, agree, firstApart, slotsAt, EndsAt};
+ghost use Rattle.cows.specs.Moves.{closedAction, fit};
+ghost use Rattle.matching.specs.Matching.{fitOf, agree, firstApart, slotsAt, ActionAt};
 
 // What differs, in the order in which it is looked for; a slot of the tuples by its index.
 pub enum Difference {
@@ -82,7 +82,7 @@ fn slots_fit(s: &[u8], k: usize, m: usize) -> Fit
 // Whether the receive at place a fits the invoke at place b, which holds no variable.
 pub fn fits_closed(s: &[u8], a: usize, b: usize) -> Fit
     requires { ⌜ (16 * a + 15 < length (now s)) × (16 * b + 15 < length (now s)) ⌝ }
-    ensures { λ r. ⌜ ((q m : Ends) → EndsAt (now (s .entry)) a q → EndsAt (now (s .entry)) b m → closedEnds m ≡ true → r ≡ fitOf (fit q m)) ⌝ }
+    ensures { λ r. ⌜ ((q m : Action) → ActionAt (now (s .entry)) a q → ActionAt (now (s .entry)) b m → closedAction m ≡ true → r ≡ fitOf (fit q m)) ⌝ }
 {
     let k = 16 * a;
     let m = 16 * b;
@@ -98,7 +98,7 @@ pub fn fits_closed(s: &[u8], a: usize, b: usize) -> Fit
 // Whether the receive at place a fits the invoke at place b.
 pub fn fits(s: &[u8], a: usize, b: usize) -> Fit
     requires { ⌜ (16 * a + 15 < length (now s)) × (16 * b + 15 < length (now s)) ⌝ }
-    ensures { λ r. ⌜ ((q m : Ends) → EndsAt (now (s .entry)) a q → EndsAt (now (s .entry)) b m → r ≡ fitOf (fit q m)) ⌝ }
+    ensures { λ r. ⌜ ((q m : Action) → ActionAt (now (s .entry)) a q → ActionAt (now (s .entry)) b m → r ≡ fitOf (fit q m)) ⌝ }
 {
     if !closed(s, 16 * b) {
         return Fit::Differs(Difference::Unset);

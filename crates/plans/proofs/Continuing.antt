@@ -15,7 +15,7 @@ use Rattle.cows.specs.Step.{overLimits}
 use Rattle.cows.proofs.Places.{size-pos, fill-spot, spot-fits, spot-under}
 use Rattle.cows.proofs.Format.{length-encode}
 use Rattle.cows.proofs.Ways.{encode-replaced, depth-part, depth-fill, size-swap}
-use Rattle.records.specs.Rewrites.{Stands}
+use Rattle.records.specs.Rewrites.{StandsIn}
 use Rattle.records.proofs.Put.{has-take}
 use Rattle.records.proofs.Stands.{part-stands}
 use Rattle.ways.specs.Known.{Table}
@@ -77,7 +77,7 @@ module _ (t : Term) (a : ℕ) (u : Prefix) (l : a < size t) (e : sub t a ≡ und
   body-bytes =
       let (k, s, w) = spot-under t a u body l e in
       let z : length (encode body) ≡ 16 * (size (sub t a) - 1) = omega (arith, length-encode body, size-body) in
-      rw (add-one a, ← z) (sym (has-take (encode body) (subst (λ r. Stands (encode t) (16 * suc a) r) s (part-stands t (suc a) k))))
+      rw (add-one a, ← z) (sym (has-take (encode body) (subst (λ r. StandsIn (encode t) (16 * suc a) r) s (part-stands t (suc a) k))))
 
   pub continue-bytes : encode (continue t a) ≡ take (16 * c) (encode t) ++ (take (16 * (size (sub t a) - 1)) (drop (16 * (a + 1)) (encode t)) ++ drop (16 * (c + size (sub t c))) (encode t))
   continue-bytes = ap encode continue-at ∙ (encode-replaced t c (start .at .0) body ∙ rw (← body-bytes))

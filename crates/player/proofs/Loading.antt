@@ -18,7 +18,7 @@ use Rattle.cows.specs.Load.{load}
 use Rattle.cows.proofs.Places.{spot-fits, spot-under}
 use Rattle.cows.proofs.Format.{length-encode}
 use Rattle.records.specs.Holds.{Holds}
-use Rattle.records.specs.Rewrites.{Stands}
+use Rattle.records.specs.Rewrites.{StandsIn}
 use Rattle.records.proofs.Stands.{stands-kind, stands-under, stands-left, stands-right, holds-stands, holds-size}
 use Rattle.ways.specs.Known.{Table, Known}
 use Rattle.ways.proofs.Tables.{table-size, table-ended}
@@ -73,24 +73,24 @@ load-append s i (suc m) n =
     rw (y, z) (omega (arith, load-append s (suc i) m n))
 
 -- the records of a term have its load
-pub stands-load : (s : List ℕ) (i : ℕ) (t : Term) → Stands s (16 * i) t → loadFrom s i (size t) ≡ load t
+pub stands-load : (s : List ℕ) (i : ℕ) (t : Term) → StandsIn s (16 * i) t → loadFrom s i (size t) ≡ load t
 unfolding loadFrom size load kindOf root
 stands-load s i (leaf x) h = omega (arith, ap weightOf (stands-kind (leaf x) h))
 stands-load s i (under u t) h =
-    let g : Stands s (16 * suc i) t = subst (λ k. Stands s k t) (omega arith) (stands-under u t h) in
+    let g : StandsIn s (16 * suc i) t = subst (λ k. StandsIn s k t) (omega arith) (stands-under u t h) in
     omega (arith, ap weightOf (stands-kind (under u t) h), stands-load s (suc i) t g)
 stands-load s i (both j l r) h =
-    let g : Stands s (16 * suc i) l = subst (λ k. Stands s k l) (omega arith) (stands-left j l r h) in
-    let k : Stands s (16 * (suc i + size l)) r = stands-right j l r (16 * (suc i + size l)) (omega (arith, length-encode l)) h in
+    let g : StandsIn s (16 * suc i) l = subst (λ k. StandsIn s k l) (omega arith) (stands-left j l r h) in
+    let k : StandsIn s (16 * (suc i + size l)) r = stands-right j l r (16 * (suc i + size l)) (omega (arith, length-encode l)) h in
     omega (arith, ap weightOf (stands-kind (both j l r) h), load-append s (suc i) (size l) (size r), stands-load s (suc i) l g, stands-load s (suc i + size l) r k)
 
 -- the term at place i, which ends at place j
-pub load-stands : (s : List ℕ) (i j : ℕ) (t : Term) → Stands s (16 * i) t → j ≡ i + size t → loadBetween s i j ≡ load t
+pub load-stands : (s : List ℕ) (i j : ℕ) (t : Term) → StandsIn s (16 * i) t → j ≡ i + size t → loadBetween s i j ≡ load t
 unfolding loadBetween
 load-stands s i j t h e = let z : j - i ≡ size t = omega arith in rw z (stands-load s i t h)
 
 -- a term's own table: so its load is at most the number of its records
-whole-stands : (t : Term) → Stands (encode t) 0 t
+whole-stands : (t : Term) → StandsIn (encode t) 0 t
 whole-stands t = record { rest = []; is = sym (append-nil (encode t)) }
 
 pub load-size : (t : Term) → load t ≤ size t
@@ -108,7 +108,7 @@ module _ (s ends : List ℕ) (t : Term) (h : Table s ends t) where
   unfolding size below
   body-load a l u c e =
       let (i, z, w) = spot-under t a u c l e in
-      let g : Stands s (16 * (a + 1)) c = rw (add-one a, ← z) (holds-stands s t (suc a) (h .holds) i) in
+      let g : StandsIn s (16 * (a + 1)) c = rw (add-one a, ← z) (holds-stands s t (suc a) (h .holds) i) in
       load-stands s (a + 1) (getD ends a 0) c g (omega (arith, table-ended s ends t h a l, ap size e)) ∙ ap (λ r. load (below r)) (sym e)
 
 -- its places, for code that counts it

@@ -12,7 +12,7 @@ use Rattle.cows.specs.Terms.{Term, size}
 use Rattle.cows.specs.Format.{bytes2, byte, word}
 use Rattle.cows.specs.Moves.{Move}
 use Rattle.cows.specs.Step.{Reply, readMove, stepTerm}
-use Rattle.cows.specs.Run.{noTally, Run, start, run, judgement, turn, kept, replies, replyBytes, reply6}
+use Rattle.cows.specs.Run.{noTally, RunState, start, run, judgement, turn, kept, replies, replyBytes, reply6}
 use Rattle.cows.specs.Cut.{cut, pieces}
 use Rattle.cows.proofs.Lists.{run-more, replies-more, bytes-more, length-replies, length-bytes}
 use Rattle.cows.proofs.Bounds.{Below, read-small, below-step}
@@ -69,7 +69,7 @@ module _ (l : List ℕ) (small : (k : ℕ) → getD l k 0 < 256) (i : ℕ) where
   byte-small : (k : ℕ) → k < 6 → getD (bytesAt l i) k 0 < 256
   byte-small k h = rw (getD-take 6 (drop (6 * i) l) k 0 h, getD-drop (6 * i) l k 0) (small (6 * i + k))
 
-  place-small : (q : Run) → size (q .table) ≤ 2048 → kept q (judgement q (moveAt l i)) .place < 65536
+  place-small : (q : RunState) → size (q .table) ≤ 2048 → kept q (judgement q (moveAt l i)) .place < 65536
   unfolding kept judgement word byte
   place-small q h =
       go (stepTerm (q .table) (moveAt l i) 32768)

@@ -9,11 +9,11 @@ use lib.ListN.{length}
 use borrow.Author.Tests.{lt-ltb, le-ltb}
 use Rattle.cows.specs.Basics.{placeIf, refuse, accept, _>>_, forbid}
 use Rattle.cows.specs.Terms.{Term}
-use Rattle.cows.specs.Format.{Bytes}
+use Rattle.cows.specs.Format.{AreBytes}
 use Rattle.cows.specs.Tables.{judge}
 use Rattle.cows.specs.Within.{Within}
 use Rattle.cows.specs.Load.{load}
-use Rattle.cows.specs.Run.{start, run, movesOf, played, playedReply, playedTally, playedOutput, playedReplies}
+use Rattle.cows.specs.Run.{start, run, movesOf, playFrom, playedReply, playedTally, playedOutput, playedReplies}
 use Rattle.cows.proofs.Tables.{judge-within, within-judge}
 use Rattle.cows.proofs.Lists.{length-replies}
 use Rattle.cows.proofs.Theorems.{list-bound, tables-within}
@@ -33,8 +33,8 @@ module _ (table moves out after slots after′ : List ℕ) (p : Played) (t : Ter
   unfolding playedReply playedTally playedOutput playedReplies
   refused n g = record { reply = whole-is p (g .replied) (g .tallied); output = g .output; slots-are = g .slots-are }
 
-  followed : PlayGives (accept (played t (movesOf moves))) out after slots after′ p → Within t → Followed t moves out after slots after′ p
-  unfolding played playedReply playedTally playedOutput playedReplies book
+  followed : PlayGives (accept (playFrom t (movesOf moves))) out after slots after′ p → Within t → Followed t moves out after slots after′ p
+  unfolding playFrom playedReply playedTally playedOutput playedReplies book
   followed g w =
       let n = length-replies (start t) (movesOf moves) ∙ length-cut 6 moves in
       record {
@@ -47,7 +47,7 @@ module _ (table moves out after slots after′ : List ℕ) (p : Played) (t : Ter
       }
 
   -- Demand 3: of every well-formed table, every list, any buffers, and whatever play returns and leaves on them.
-  pub demand-3 : Bytes table → Demand3 t moves out after slots after′ p
+  pub demand-3 : AreBytes table → Demand3 t moves out after slots after′ p
   unfolding forbid placeIf _>>_
   demand-3 b = record {
     too-long = λ h. refused 19 (rw (play-judged table moves out slots t formed, lt-ltb 60000 (length moves) h) at plays);
@@ -58,7 +58,7 @@ module _ (table moves out after slots after′ : List ℕ) (p : Played) (t : Ter
   }
 
 -- What play promises, of a table of bytes: the equation, and demand 3 with it.
-pub promised : (table moves out after slots after′ : List ℕ) (p : Played) → Bytes table → Plays table moves out after slots after′ p
+pub promised : (table moves out after slots after′ : List ℕ) (p : Played) → AreBytes table → Plays table moves out after slots after′ p
     → Plays table moves out after slots after′ p × ((t : Term) → judge table ≡ accept t → Demand3 t moves out after slots after′ p)
 promised table moves out after slots after′ p b plays = (plays, λ t formed. demand-3 table moves out after slots after′ p t formed plays b)
 

@@ -18,11 +18,11 @@ use Rattle.cows.specs.Places.{sub}
 use Rattle.cows.specs.Format.{encode}
 use Rattle.cows.specs.Active.{wanted}
 use Rattle.cows.specs.Within.{Within}
-use Rattle.cows.specs.Allows.{Live}
+use Rattle.cows.specs.Allows.{StandsLive}
 use Rattle.cows.specs.Moves.{Move, unfoldAt, successor}
-use Rattle.cows.specs.Step.{stepTerm, reply, written}
+use Rattle.cows.specs.Step.{stepTerm, replyTo, written}
 use Rattle.cows.specs.Load.{load, copies}
-use Rattle.cows.specs.Run.{noTally, sum, adds, Run, judgement, enter, turn, kept}
+use Rattle.cows.specs.Run.{noTally, sum, adds, RunState, judgement, enter, turn, kept}
 use Rattle.cows.proofs.Basics.{bind-accept, same-some}
 use Rattle.cows.proofs.Format.{length-encode}
 use Rattle.cows.proofs.Stands.{replicates-is, prefixed-is, wanted-live}
@@ -62,14 +62,14 @@ copied-none s ends m h = record { is = λ t _ v e. none m h t v e; few = omega a
     none (Extrude a) h t v e = ap (copies t) (same-some e)
     none None h t v e = absurd (let z : _≡_ {A = ℕ} 0 1 = cc in omega arith)
 
-unfold-live : (t s : Term) (a : ℕ) → unfoldAt t a ≡ accept s → Live t a (under replication (below (sub t a)))
+unfold-live : (t s : Term) (a : ℕ) → unfoldAt t a ≡ accept s → StandsLive t a (under replication (below (sub t a)))
 unfolding unfoldAt
 unfold-live t s a e =
     let (x, ex, es) = bind-accept (wanted (prefixed replicates) t a) _ s e in
     wanted-live (prefixed replicates) t a x (under replication (below (sub t a))) (prefixed-is replicates (λ _. replication) replicates-is (sub t a) x) ex
 
 module _ (s ends : List ℕ) {m : code.Move} (h : Accepted s ends m) {a : ℕ} (unfolds : m ≡ Unfold a) where
-  accepted-unfolds : Live (h .known .term) a (under replication (below (sub (h .known .term) a)))
+  accepted-unfolds : StandsLive (h .known .term) a (under replication (below (sub (h .known .term) a)))
   unfolding successor
   accepted-unfolds =
       let x = steps.step-accepted (h .known .term) (h .successor) (moveOf m) 32768 (h .accepted) in
@@ -89,52 +89,52 @@ module _ (s ends : List ℕ) {m : code.Move} (h : Accepted s ends m) {a : ℕ} (
     few = few;
   }
 
--- what a reply says of the result that it answers
-answer-refused : (x : Result Term) (r : Reply) → r ≡ replyOf (reply x) → r .answer ≢ 0 → (n : ℕ) × (p : ℕ) × (x ≡ refuse n p)
-unfolding reply
+-- what a replyTo says of the result that it answers
+answer-refused : (x : Result Term) (r : Reply) → r ≡ replyOf (replyTo x) → r .answer ≢ 0 → (n : ℕ) × (p : ℕ) × (x ≡ refuse n p)
+unfolding replyTo
 answer-refused (refuse n p) r e h = (n, p, refl)
 answer-refused (accept s) r e h = absurd (h (ap (λ q. q .answer) e))
 
-answer-accepted : (x : Result Term) (r : Reply) → ((n p : ℕ) → x ≡ refuse n p → 1 ≤ n) → r ≡ replyOf (reply x) → r .answer ≡ 0 → (s : Term) × (x ≡ accept s)
-unfolding reply
+answer-accepted : (x : Result Term) (r : Reply) → ((n p : ℕ) → x ≡ refuse n p → 1 ≤ n) → r ≡ replyOf (replyTo x) → r .answer ≡ 0 → (s : Term) × (x ≡ accept s)
+unfolding replyTo
 answer-accepted (refuse n p) r k e h = absurd (omega (arith, k n p refl, ap (λ q. q .answer) e, h))
 answer-accepted (accept s) r k e h = (s, refl)
 
-pub judgement-accepted : (q : Run) (m : Option Move) (r : Reply) → r ≡ replyOf (reply (judgement q m)) → r .answer ≡ 0 → (s : Term) × (judgement q m ≡ accept s)
+pub judgement-accepted : (q : RunState) (m : Option Move) (r : Reply) → r ≡ replyOf (replyTo (judgement q m)) → r .answer ≡ 0 → (s : Term) × (judgement q m ≡ accept s)
 unfolding judgement
 judgement-accepted q m r e h = answer-accepted (stepTerm (q .table) m 32768) r (step-from-one (q .table) m 32768) e h
 
 -- the step's answer with a buffer for any successor is the run's; an accepted move
-pub answers-run : (q : Run) (m : Option Move) (to after : List ℕ) (r : Reply) → length to ≡ 32768 → Answers (stepTerm (q .table) m (length to)) to after r → Answers (judgement q m) to after r
+pub answers-run : (q : RunState) (m : Option Move) (to after : List ℕ) (r : Reply) → length to ≡ 32768 → Answers (stepTerm (q .table) m (length to)) to after r → Answers (judgement q m) to after r
 unfolding judgement
 answers-run q m to after r e a = subst (λ n. Answers (stepTerm (q .table) m n) to after r) e a
 
 pub accepted-by : (s ends to after : List ℕ) (m : code.Move) (r : Reply) → CanTry s ends to → ((t : Term) → Table s ends t → Answers (stepTerm t (moveOf m) (length to)) to after r) → r .answer ≡ 0 → Accepted s ends m
 unfolding judgement
 accepted-by s ends to after m r h a z =
-    let q : Run = record { table = h .known .term; tally = noTally } in
+    let q : RunState = record { table = h .known .term; tally = noTally } in
     let (u, e) = judgement-accepted q (moveOf m) r (answers-run q (moveOf m) to after r (h .room) (a (h .known .term) (h .known .table)) .replies) z in
     record { known = h .known; successor = u; accepted = e }
 
 -- some run that keeps a known table
-abbrev pub runOf : {s ends : List ℕ} → Known s ends → Run
+abbrev pub runOf : {s ends : List ℕ} → Known s ends → RunState
 runOf k = record { table = k .term; tally = noTally }
 
 -- the run goes on by an accepted move only
-turn-refused : (q : Run) (m : Option Move) (n p : ℕ) → judgement q m ≡ refuse n p → turn q m ≡ q
+turn-refused : (q : RunState) (m : Option Move) (n p : ℕ) → judgement q m ≡ refuse n p → turn q m ≡ q
 unfolding turn enter
 turn-refused q m n p e = rw e
 
-turn-accepted : (q : Run) (m : Option Move) (s : Term) (v : Move) → judgement q m ≡ accept s → m ≡ some v → turn q m ≡ record { table = s; tally = sum (q .tally) (adds (copies (q .table) v) v) }
+turn-accepted : (q : RunState) (m : Option Move) (s : Term) (v : Move) → judgement q m ≡ accept s → m ≡ some v → turn q m ≡ record { table = s; tally = sum (q .tally) (adds (copies (q .table) v) v) }
 unfolding turn enter
 turn-accepted q m s v e h = rw (e, h)
 
-accepted-move : (q : Run) (m : Option Move) (s : Term) → judgement q m ≡ accept s → (v : Move) × (m ≡ some v)
+accepted-move : (q : RunState) (m : Option Move) (s : Term) → judgement q m ≡ accept s → (v : Move) × (m ≡ some v)
 unfolding judgement
 accepted-move q m s e = let a = steps.step-accepted (q .table) s m 32768 e in (a .move, a .reads)
 
 -- what a refused and what an accepted move counts
-module _ (q : Run) (m : Option Move) (to after : List ℕ) (r : Reply) (d : Tally) (a : Answers (judgement q m) to after r) where
+module _ (q : RunState) (m : Option Move) (to after : List ℕ) (r : Reply) (d : Tally) (a : Answers (judgement q m) to after r) where
   pub judged-refused : r .answer ≢ 0 → d ≡ tallyOf noTally → Judged q m to after (record { reply = r; counts = d })
   judged-refused h e =
       let (n, p, x) = answer-refused (judgement q m) r (a .replies) h in
@@ -148,7 +148,7 @@ module _ (q : Run) (m : Option Move) (to after : List ℕ) (r : Reply) (d : Tall
       record {
         answers = a;
         counted = ap (sumOf (tallyOf (q .tally))) (e v ev ∙ ap (λ n. tallyOf (adds n v)) (is v ev))
-            ∙ (sum-adds (q .tally) (copies (q .table) v) v ∙ sym (ap (λ (x : Run). tallyOf (x .tally)) (turn-accepted q m u v eu ev)));
+            ∙ (sum-adds (q .tally) (copies (q .table) v) v ∙ sym (ap (λ (x : RunState). tallyOf (x .tally)) (turn-accepted q m u v eu ev)));
         few = subst (λ c. Small c 1) (sym (e v ev)) (adds-small l v few);
       }
 
@@ -163,10 +163,10 @@ pub held-small : (n : ℕ) (x ends : List ℕ) → 16 * n ≤ length x → Known
 held-small n x ends h k = omega (arith, k .few, length-take-le (16 * n) x h)
 
 -- a refused move: the table stays where it is
-module _ (q : Run) (n : ℕ) (from ends : List ℕ) (m : Option Move) (to after : List ℕ) (r : Tried) (inside : 16 * n ≤ length from) (room : length to ≡ 32768) (t : Table (held n from) ends (q .table))
+module _ (q : RunState) (n : ℕ) (from ends : List ℕ) (m : Option Move) (to after : List ℕ) (r : Tried) (inside : 16 * n ≤ length from) (room : length to ≡ 32768) (t : Table (held n from) ends (q .table))
     (j : Judged q m to after r) (z : r .reply .answer ≢ 0) where
   refused-is : (a p : ℕ) → judgement q m ≡ refuse a p → Turned q n from m after ends (record { reply = record { answer = r .reply .answer; place = r .reply .place; records = n }; counts = r .counts })
-  unfolding reply written kept
+  unfolding replyTo written kept
   refused-is a p x =
       let y : r .reply ≡ record { answer = a; place = p; records = 0 } = rw x at (j .answers .replies) in
       record {
@@ -182,14 +182,14 @@ module _ (q : Run) (n : ℕ) (from ends : List ℕ) (m : Option Move) (to after 
   turned-refused = let (a, p, x) = answer-refused (judgement q m) (r .reply) (j .answers .replies) z in refused-is a p x
 
 -- an accepted move: the successor u lies in the other buffer
-module _ (q : Run) (m : Option Move) (to after : List ℕ) (r : Tried) (room : length to ≡ 32768) (w : Within (q .table)) (j : Judged q m to after r) where
+module _ (q : RunState) (m : Option Move) (to after : List ℕ) (r : Tried) (room : length to ≡ 32768) (w : Within (q .table)) (j : Judged q m to after r) where
   module _ (u : Term) (accepted : judgement q m ≡ accept u) where
     next-within : Within u
     unfolding judgement
     next-within = step-within (q .table) u m 32768 w accepted
 
     reply-is : r .reply ≡ record { answer = 0; place = 0; records = size u }
-    unfolding reply
+    unfolding replyTo
     reply-is = rw accepted at (j .answers .replies)
 
     after-is : after ≡ encode u ++ drop (16 * size u) to
@@ -225,7 +225,7 @@ module _ (q : Run) (m : Option Move) (to after : List ℕ) (r : Tried) (room : l
   pub turned-accepted : (n : ℕ) (from ends : List ℕ) → r .reply .answer ≡ 0 → EndsFrom (take (16 * r .reply .records) after) ends 0 → Turned q n from m after ends r
   turned-accepted n from ends z h = let (u, e) = judgement-accepted q m (r .reply) (j .answers .replies) z in turned u e n from ends z h
 
-pub kept-records : (q : Run) (m : Option Move) → kept q (judgement q m) .records ≡ size (turn q m .table)
+pub kept-records : (q : RunState) (m : Option Move) → kept q (judgement q m) .records ≡ size (turn q m .table)
 unfolding kept
 kept-records q m = go (judgement q m) refl
   where
@@ -239,7 +239,7 @@ cond-room true x y h k = k
 cond-room false x y h k = h
 
 -- what is kept then: r is the turn of the table in the buffer `from`, and `to` is the other; b tells whether `from` is the second
-module _ (q : Run) (m : Option Move) (from to ends : List ℕ) (n : ℕ) (r : Tried) (t : Turned q n from m to ends r) (from-room : length from ≡ 32768) (room : 2049 < length ends) where
+module _ (q : RunState) (m : Option Move) (from to ends : List ℕ) (n : ℕ) (r : Tried) (t : Turned q n from m to ends r) (from-room : length from ≡ 32768) (room : 2049 < length ends) where
   kept-table : Table (held (r .reply .records) (cond (eqb (r .reply .answer) 0) to from)) ends (turn q m .table)
   kept-table = go (r .reply .answer) (t .stays) (t .goes)
     where
@@ -269,7 +269,7 @@ module _ (x y ends : List ℕ) (k : Kept) (g : Going x y ends k) (b : Bool) (at-
   from-room : length (cond b y x) ≡ 32768
   from-room = cond-room b x y (g .keeps .first-room) (g .keeps .second-room)
 
-  in-from : (q : Run) → KeepsRun q x y ends k → Table (held (k .records) (cond b y x)) ends (q .table)
+  in-from : (q : RunState) → KeepsRun q x y ends k → Table (held (k .records) (cond b y x)) ends (q .table)
   in-from q h = subst (λ c. Table (held (k .records) (cond c y x)) ends (q .table)) at-b (h .table)
 
   pub begins : CanTurn (k .records) (cond b y x) ends (cond b x y)
@@ -280,7 +280,7 @@ module _ (x y ends : List ℕ) (k : Kept) (g : Going x y ends k) (b : Bool) (at-
   }
 
   pub goes : (m : Option Move) (to ends′ : List ℕ) (r : Tried) → 2049 < length ends′
-      → ((q : Run) → Table (held (k .records) (cond b y x)) ends (q .table) → Turned q (k .records) (cond b y x) m to ends′ r)
+      → ((q : RunState) → Table (held (k .records) (cond b y x)) ends (q .table) → Turned q (k .records) (cond b y x) m to ends′ r)
       → GoesOn m k x y ends (cond b to (cond b y x)) (cond b (cond b y x) to) ends′ (keptAfter b r)
   unfolding keptAfter
   goes m to ends′ r room t = record {

@@ -12,7 +12,7 @@ use borrow.Author.Tests.{ltb-false, lt-ltb, le-ltb}
 use Rattle.cows.specs.Basics.{placeIf, Result, refuse, accept, _>>=_, _>>_, forbid}
 use Rattle.cows.specs.Terms.{Term}
 use Rattle.cows.specs.Tables.{judge}
-use Rattle.cows.specs.Run.{Run, start, movesOf, played, judgePlay, playedReply, playedTally, playedOutput, playedReplies}
+use Rattle.cows.specs.Run.{RunState, start, movesOf, playFrom, judgePlay, playedReply, playedTally, playedOutput, playedReplies}
 use Rattle.cows.specs.Run as meaning
 use Rattle.cows.proofs.Basics.{or-false, accept-bind}
 use Rattle.cows.proofs.Lists.{length-replies}
@@ -62,7 +62,7 @@ module _ (table ends moves out slots x : List ℕ) (o : Clear table ends moves o
   opens = record { term = o .known .term; keeps = keeps-first (o .known .term) (o .known .table); all = refl; short = o .short; slots-room = o .slots-room }
 
 -- the table that is kept can be written, from either buffer
-module _ (q : Run) (x y ends : List ℕ) (k : Kept) (h : KeepsRun q x y ends k) where
+module _ (q : RunState) (x y ends : List ℕ) (k : Kept) (h : KeepsRun q x y ends k) where
   pub last-fits : (16 * k .records ≤ length x) × (16 * k .records ≤ length y) × (k .records ≤ 2048)
   last-fits = let n : k .records ≤ 2048 = omega (arith, h .count, h .table .within .small) in (omega (arith, n, h .first-room), omega (arith, n, h .second-room), n)
 
@@ -70,7 +70,7 @@ module _ (q : Run) (x y ends : List ℕ) (k : Kept) (h : KeepsRun q x y ends k) 
 module _ (t : Term) (moves x y ends out after slots after′ : List ℕ) (r : Moved) (h : NightOver t moves x y ends slots after′ r) where
   plays-term : after ≡ held (r .kept .records) (cond (r .kept .second) y x) ++ replicate (32768 - 16 * r .kept .records) 0 ++ drop 32768 out
       → PlaysTerm t moves out after slots after′ (record { reply = record { answer = 0; place = 0; records = r .kept .records }; tally = r .tally })
-  unfolding played playedReply playedTally playedOutput playedReplies
+  unfolding playFrom playedReply playedTally playedOutput playedReplies
   plays-term e =
       let n = length-replies (start t) (movesOf moves) ∙ length-cut 6 moves in
       record {
@@ -107,7 +107,7 @@ abbrev pub cramped : (moves out slots : List ℕ) → Bool
 cramped moves out slots = ltb (length out) 32768 || ltb (length slots) (6 * (length moves / 6))
 
 pub play-judged : (s moves out slots : List ℕ) (t : Term) → judge s ≡ accept t → meaning.play s moves out slots
-    ≡ (forbid 19 (placeIf (ltb 60000 (length moves)) 0) >> (forbid 21 (placeIf (cramped moves out slots) 0) >> accept (played t (movesOf moves))))
+    ≡ (forbid 19 (placeIf (ltb 60000 (length moves)) 0) >> (forbid 21 (placeIf (cramped moves out slots) 0) >> accept (playFrom t (movesOf moves))))
 unfolding meaning.play judgePlay
 play-judged s moves out slots t e = accept-bind (judge s) _ t e
 

@@ -9,13 +9,13 @@ use Rattle.cows.specs.Terms.{Term, size}
 use Rattle.cows.specs.Format.{encode}
 use Rattle.cows.specs.Tables.{judge}
 use Rattle.cows.specs.Load.{load}
-use Rattle.cows.specs.Run.{Run, start, run, replies, replyBytes, movesOf}
+use Rattle.cows.specs.Run.{RunState, start, run, replies, replyBytes, movesOf}
 use Rattle.tally.specs.Counted.{tallyOf}
 use Rattle.player.specs.declared.Played.{Played}
 use Rattle.player.specs.Nights.{refusedWith}
 
 -- The night book, fed the start table and the list: its table and tally at the end.
-unfoldable pub book : Term → List ℕ → Run
+unfoldable pub book : Term → List ℕ → RunState
 book t moves = run (start t) (movesOf moves)
 
 -- Nothing is played: the refusal, a tally of zeros, and both buffers as they were.

@@ -1,4 +1,4 @@
--- A list of moves on a table (document 01, A night played): what play replies and leaves in its two buffers.
+-- A list of moves on a table (document 01, A night playFrom): what play replies and leaves in its two buffers.
 use mathlib.Core.Path.{_≡_}
 use mathlib.Core.List.{List, _++_}
 use mathlib.Core.Option.{Option}
@@ -9,7 +9,7 @@ use Rattle.cows.specs.Terms.{Term}
 use Rattle.cows.specs.Format.{bytes2}
 use Rattle.cows.specs.Moves.{Move}
 use Rattle.cows.specs.Step.{Reply, readMove}
-use Rattle.cows.specs.Run.{noTally, Run, start, run, judgement, turn, kept, replies, replyBytes, movesOf, played, playedReply, playedTally, playedOutput, playedReplies, reply6}
+use Rattle.cows.specs.Run.{noTally, RunState, start, run, judgement, turn, kept, replies, replyBytes, movesOf, playFrom, playedReply, playedTally, playedOutput, playedReplies, reply6}
 use Rattle.cows.specs.Run as meaning
 use Rattle.cows.specs.Cut.{pieces}
 use Rattle.records.specs.Rewrites.{put}
@@ -28,7 +28,7 @@ abbrev pub sixBytes : ℕ → ℕ → ℕ → List ℕ
 sixBytes a p n = bytes2 a ++ (bytes2 p ++ bytes2 n)
 
 -- The run of the first i moves of a list from the table of t, and its replies.
-unfoldable pub bookAt : Term → List ℕ → ℕ → Run
+unfoldable pub bookAt : Term → List ℕ → ℕ → RunState
 bookAt t l i = run (start t) (pieces 6 i l)
 
 unfoldable pub repliesAt : Term → List ℕ → ℕ → List Reply
@@ -50,9 +50,9 @@ pub record CanMove (moves : List ℕ) (i : ℕ) (k : Kept) (x y ends slots : Lis
 
 -- What it gives: the run goes on by the move, its reply stands in its place, and what it counts, added to the tally, is the run's then.
 pub record Made (moves : List ℕ) (i : ℕ) (k : Kept) (x y ends slots x′ y′ ends′ slots′ : List ℕ) (r : Moved) : Type 0 where
-  pub keeps : (q : Run) → KeepsRun q x y ends k → KeepsRun (turn q (moveAt moves i)) x′ y′ ends′ (r .kept)
-  pub replies : (q : Run) → KeepsRun q x y ends k → slots′ ≡ put slots (6 * i) (reply6 (kept q (judgement q (moveAt moves i))))
-  pub counted : (q : Run) → KeepsRun q x y ends k → sumOf (tallyOf (q .tally)) (r .tally) ≡ tallyOf (turn q (moveAt moves i) .tally)
+  pub keeps : (q : RunState) → KeepsRun q x y ends k → KeepsRun (turn q (moveAt moves i)) x′ y′ ends′ (r .kept)
+  pub replies : (q : RunState) → KeepsRun q x y ends k → slots′ ≡ put slots (6 * i) (reply6 (kept q (judgement q (moveAt moves i))))
+  pub counted : (q : RunState) → KeepsRun q x y ends k → sumOf (tallyOf (q .tally)) (r .tally) ≡ tallyOf (turn q (moveAt moves i) .tally)
   pub few : Small (r .tally) 1
 
 -- The same, and what the move counts is added to the tally c that is lent.
@@ -100,7 +100,7 @@ abbrev pub refusedWith : ℕ → ℕ → Played
 refusedWith n p = record { reply = refusal n p; tally = tallyOf noTally }
 
 -- The reply, the tally, and every byte of both buffers are those of a result.
-pub record PlayGives (r : Result meaning.Played) (out after slots after′ : List ℕ) (p : Played) : Type 0 where
+pub record PlayGives (r : Result meaning.PlayEnd) (out after slots after′ : List ℕ) (p : Played) : Type 0 where
   pub replied : p .reply ≡ replyOf (playedReply r)
   pub tallied : p .tally ≡ tallyOf (playedTally r)
   pub output : after ≡ playedOutput r out
@@ -111,4 +111,4 @@ abbrev pub Plays : (table moves out after slots after′ : List ℕ) → Played 
 Plays table moves out after slots after′ p = PlayGives (meaning.play table moves out slots) out after slots after′ p
 
 abbrev pub PlaysTerm : Term → (moves out after slots after′ : List ℕ) → Played → Type 0
-PlaysTerm t moves out after slots after′ p = PlayGives (accept (played t (movesOf moves))) out after slots after′ p
+PlaysTerm t moves out after slots after′ p = PlayGives (accept (playFrom t (movesOf moves))) out after slots after′ p

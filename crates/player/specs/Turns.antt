@@ -12,7 +12,7 @@ use Rattle.cows.specs.Terms.{Term, size}
 use Rattle.cows.specs.Moves.{Move}
 use Rattle.cows.specs.Step.{stepTerm}
 use Rattle.cows.specs.Load.{copies}
-use Rattle.cows.specs.Run.{Run, judgement, turn, kept}
+use Rattle.cows.specs.Run.{RunState, judgement, turn, kept}
 use Rattle.ways.specs.Known.{Table, Known}
 use Rattle.proposals.specs.declared.Move as code
 use Rattle.proposals.specs.Proposals.{moveOf}
@@ -39,7 +39,7 @@ pub record CanTry (s ends to : List ℕ) : Type 0 where
   pub room : length to ≡ 32768
 
 -- What it gives in the run q: the step's reply and output; and what the move counts, added to the tally, is the tally of the run's next turn.
-pub record Judged (q : Run) (m : Option Move) (to after : List ℕ) (r : Tried) : Type 0 where
+pub record Judged (q : RunState) (m : Option Move) (to after : List ℕ) (r : Tried) : Type 0 where
   pub answers : Answers (judgement q m) to after (r .reply)
   pub counted : sumOf (tallyOf (q .tally)) (r .counts) ≡ tallyOf (turn q m .tally)
   pub few : Small (r .counts) 1
@@ -55,7 +55,7 @@ pub record CanTurn (n : ℕ) (from ends to : List ℕ) : Type 0 where
   pub ends-room : 2049 < length ends
 
 -- What it gives in the run q: the book's reply, what the move counts, and the next table with its ends, in the second buffer if it was accepted.
-pub record Turned (q : Run) (n : ℕ) (from : List ℕ) (m : Option Move) (after next : List ℕ) (r : Tried) : Type 0 where
+pub record Turned (q : RunState) (n : ℕ) (from : List ℕ) (m : Option Move) (after next : List ℕ) (r : Tried) : Type 0 where
   pub replies : r .reply ≡ replyOf (kept q (judgement q m))
   pub counted : sumOf (tallyOf (q .tally)) (r .counts) ≡ tallyOf (turn q m .tally)
   pub few : Small (r .counts) 1
@@ -64,7 +64,7 @@ pub record Turned (q : Run) (n : ℕ) (from : List ℕ) (m : Option Move) (after
   pub goes : r .reply .answer ≡ 0 → Table (held (r .reply .records) after) next (turn q m .table)
 
 -- The table of the run q is kept: in one of the buffers, with its ends and its number of records.
-pub record KeepsRun (q : Run) (x y ends : List ℕ) (k : Kept) : Type 0 where
+pub record KeepsRun (q : RunState) (x y ends : List ℕ) (k : Kept) : Type 0 where
   pub table : Table (held (k .records) (cond (k .second) y x)) ends (q .table)
   pub count : k .records ≡ size (q .table)
   pub first-room : length x ≡ 32768
@@ -73,7 +73,7 @@ pub record KeepsRun (q : Run) (x y ends : List ℕ) (k : Kept) : Type 0 where
 
 -- That of some run is.
 pub record Going (x y ends : List ℕ) (k : Kept) : Type 0 where
-  pub run : Run
+  pub run : RunState
   pub keeps : KeepsRun run x y ends k
 
 -- What is kept after a move on the table in the second buffer, or in the first: the other one if it was accepted.
@@ -82,7 +82,7 @@ keptAfter second r = record { reply = r .reply; kept = record { second = cond (e
 
 -- What a move on the kept table gives: the run goes on by it, and reply and counts are the book's.
 pub record GoesOn (m : Option Move) (k : Kept) (x y ends x′ y′ ends′ : List ℕ) (r : Next) : Type 0 where
-  pub keeps : (q : Run) → KeepsRun q x y ends k → KeepsRun (turn q m) x′ y′ ends′ (r .kept)
-  pub replies : (q : Run) → KeepsRun q x y ends k → r .reply ≡ replyOf (kept q (judgement q m))
-  pub counted : (q : Run) → KeepsRun q x y ends k → sumOf (tallyOf (q .tally)) (r .counts) ≡ tallyOf (turn q m .tally)
+  pub keeps : (q : RunState) → KeepsRun q x y ends k → KeepsRun (turn q m) x′ y′ ends′ (r .kept)
+  pub replies : (q : RunState) → KeepsRun q x y ends k → r .reply ≡ replyOf (kept q (judgement q m))
+  pub counted : (q : RunState) → KeepsRun q x y ends k → sumOf (tallyOf (q .tally)) (r .counts) ≡ tallyOf (turn q m .tally)
   pub few : Small (r .counts) 1

@@ -5,7 +5,7 @@ use records::wide16;
 use tables::Reply;
 use tally::Tally;
 ghost use mathlib.Core.Path.{_≡_};
-ghost use Rattle.cows.specs.Run.{Run};
+ghost use Rattle.cows.specs.Run.{RunState};
 ghost use Rattle.ways.specs.Known.{Table};
 ghost use Rattle.proposals.specs.Proposals.{moveOf};
 ghost use Rattle.player.specs.Turns.{held, Accepted, Copied, CanTry, Judged, CanTurn, Turned, Going, GoesOn, keptAfter};
@@ -43,7 +43,7 @@ fn copied(s: &[u8], ends: &[u16], m: Move) -> u32
 // A move on a known table, and what it counts: nothing, if it is refused.
 fn judged(s: &[u8], ends: &[u16], m: Move, to: &mut [u8]) -> Tried
     requires { ⌜ CanTry (now s) (now ends) (now to) ⌝ }
-    ensures { λ r. ⌜ ((q : Run) → Table (now (s .entry)) (now (ends .entry)) (q .table) → Judged q (moveOf m) (now (to .entry)) (now (to .exit)) r) ⌝ }
+    ensures { λ r. ⌜ ((q : RunState) → Table (now (s .entry)) (now (ends .entry)) (q .table) → Judged q (moveOf m) (now (to .entry)) (now (to .exit)) r) ⌝ }
 {
     let step = stepper::step_known(s, ends, m, to);
     if step.answer != 0 {
@@ -62,7 +62,7 @@ fn judged(s: &[u8], ends: &[u16], m: Move, to: &mut [u8]) -> Tried
 // those of that table.
 fn turn(from: &[u8], n: usize, ends: &mut [u16], m: Move, to: &mut [u8]) -> Tried
     requires { ⌜ CanTurn n (now from) (now ends) (now to) ⌝ }
-    ensures { λ r. ⌜ ((q : Run) → Table (held n (now (from .entry))) (now (ends .entry)) (q .table) → Turned q n (now (from .entry)) (moveOf m) (now (to .exit)) (now (ends .exit)) r) ⌝ }
+    ensures { λ r. ⌜ ((q : RunState) → Table (held n (now (from .entry))) (now (ends .entry)) (q .table) → Turned q n (now (from .entry)) (moveOf m) (now (to .exit)) (now (ends .exit)) r) ⌝ }
 {
     let size = 16 * n;
     let tried = judged(&from[..size], ends, m, to);

@@ -14,7 +14,7 @@ use Rattle.tables.specs.declared.Reply.{Reply}
 use Rattle.player.specs.declared.Played.{Played}
 use Rattle.player.specs.Nights.{PlayGives}
 
-holds : (r : Result meaning.Played) (out : List ℕ) → 16 * playedReply r .records ≤ length (playedOutput r out)
+holds : (r : Result meaning.PlayEnd) (out : List ℕ) → 16 * playedReply r .records ≤ length (playedOutput r out)
 unfolding playedReply playedOutput
 holds (refuse n p) out = let z : 16 * 0 ≤ length out = omega arith in z
 holds (accept r) out =
@@ -23,5 +23,5 @@ holds (accept r) out =
     let fits : 16 * size t ≤ length (encode t ++ zeros ++ drop 32768 out) = omega (arith, length-append (encode t ++ zeros) (drop 32768 out), length-append (encode t) zeros, length-encode t) in
     fits
 
-pub last-fits : {r : Result meaning.Played} {out after slots after′ : List ℕ} {p : Played} → PlayGives r out after slots after′ p → 16 * p .reply .records ≤ length after
+pub last-fits : {r : Result meaning.PlayEnd} {out after slots after′ : List ℕ} {p : Played} → PlayGives r out after slots after′ p → 16 * p .reply .records ≤ length after
 last-fits {r = r} {out = out} g = omega (arith, ap (λ (v : Reply). v .records) (g .replied), ap length (g .output), holds r out)

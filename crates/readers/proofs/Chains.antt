@@ -11,7 +11,7 @@ use Rattle.cows.proofs.Basics.{lt-case}
 use Rattle.records.specs.Ends.{endAt, pickEnd}
 use Rattle.records.proofs.Shapes.{end-pick}
 use Rattle.readers.specs.Reads.{Reading, Reads, Read}
-use Rattle.readers.specs.Chains.{Chain, Put}
+use Rattle.readers.specs.Chains.{Chain, FilledWith}
 use Rattle.readers.proofs.Readings.{kindAt, reads-one}
 use Rattle.cows.proofs.Rows.{kind-cases}
 
@@ -43,10 +43,10 @@ chain-before s at d i c l low k = record {
   one = λ m a b. lt-case (childrenOf (kindAt s m) ≡ 1) at m (λ h. c .one m (omega arith) b) (λ h. let e : m ≡ at = omega arith in rw e k);
 }
 
-pub put-none : (d : List ℕ) (at v : ℕ) → Put d d at at v
+pub put-none : (d : List ℕ) (at v : ℕ) → FilledWith d d at at v
 put-none d at v = record { ahead = λ m l. refl; here = λ m a b. absurd (omega arith); behind = λ m l. refl }
 
-pub put-more : (d d′ : List ℕ) (at i v : ℕ) → at ≤ i → i < length d′ → Put d d′ at i v → Put d (set d′ i v) at (i + 1) v
+pub put-more : (d d′ : List ℕ) (at i v : ℕ) → at ≤ i → i < length d′ → FilledWith d d′ at i v → FilledWith d (set d′ i v) at (i + 1) v
 put-more d d′ at i v on room p = record {
   ahead = λ m l. getD-set-other d′ i m v 0 (λ z. absurd (omega arith)) ∙ p .ahead m l;
   here = λ m a b.
@@ -83,7 +83,7 @@ chain-end s (suc k) at l one =
     ∙ (chain-end s k (suc at) (omega arith) (λ m a b. one m (omega arith) (omega arith)) ∙ ap (endAt s) (omega arith))
 
 pub read-chain : (s : List ℕ) (at d i : ℕ) (e e₁ e₂ : List ℕ) (f f₁ r : ℕ) → length s / 16 ≤ 2048 → at < length s / 16 → Chain s at d i
-    → Read false s i (d + (i - at)) e e₁ f f₁ r → Put e₁ e₂ at i (r % 65536) → Read false s at d e e₂ f f₁ r
+    → Read false s i (d + (i - at)) e e₁ f f₁ r → FilledWith e₁ e₂ at i (r % 65536) → Read false s at d e e₂ f f₁ r
 read-chain s at d i e e₁ e₂ f f₁ r few here c x p =
     let n = length s / 16 in
     let k = i - at in

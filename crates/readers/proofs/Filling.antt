@@ -8,9 +8,10 @@ use native.Mathlib.Numerals.{add-one}
 use lib.ListN.{length, getD, set}
 use lib.Seq.{getD-set-same, getD-set-other}
 use borrow.Author.Tests.{lt-ltb, le-ltb}
+use Rattle.cows.specs.Basics.{oneIf}
 use Rattle.cows.specs.Kinds.{childrenOf, guardKind, open-kinds}
 use Rattle.cows.proofs.Basics.{never, lt-case}
-use Rattle.records.specs.Ends.{oneIf, endAt, pickEnd}
+use Rattle.records.specs.Ends.{endAt, pickEnd}
 use Rattle.records.proofs.Shapes.{end-over, end-pick}
 use Rattle.readers.specs.Reads.{byGuard, earlierOf, Reads, Filled, Read}
 use Rattle.readers.proofs.Readings.{kindAt, joined, reads-out, reads-deep, reads-leaf, reads-one, reads-choice, reads-parallel, reads-noted, reads-guard}

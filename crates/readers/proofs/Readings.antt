@@ -21,7 +21,7 @@ use Rattle.cows.proofs.Format.{length-encode}
 use Rattle.cows.proofs.Fields.{kind-choice, kind-parallel}
 use Rattle.cows.proofs.Rows.{no-child, one-child}
 use Rattle.records.specs.Answers.{placeOr}
-use Rattle.records.specs.Rewrites.{Stands}
+use Rattle.records.specs.Rewrites.{StandsIn}
 use Rattle.records.specs.Holds.{Holds}
 use Rattle.records.proofs.Laws.{place-tells}
 use Rattle.records.proofs.Stands.{holds-size, stands-kind, stands-fits, stands-under, stands-left, stands-right}
@@ -37,7 +37,7 @@ abbrev pub joined : ℕ → Reading → Reading → Reading
 joined n x y = record { next = y .next; fault = earlierOf n (x .fault) (y .fault) }
 
 -- a term that stands at a place is within the records
-pub stands-within : (s : List ℕ) (at : ℕ) (t : Term) → Stands s (16 * at) t → at + size t ≤ length s / 16
+pub stands-within : (s : List ℕ) (at : ℕ) (t : Term) → StandsIn s (16 * at) t → at + size t ≤ length s / 16
 stands-within s at t h = omega (arith, stands-fits t h, length-encode t)
 
 -- Beyond the table; and too deep, where the first record is.
@@ -75,12 +75,12 @@ module _ (s : List ℕ) (at d : ℕ) (in-table : at < length s / 16) (low : d �
   n = length s / 16
 
   abbrev made : Reading → Type 0
-  made x = (t : Term) → Stands s (16 * at) t → About n false at d t x
+  made x = (t : Term) → StandsIn s (16 * at) t → About n false at d t x
 
   within : (x : Reading) → at ≤ x .next → made x → Reads false s at d x
   within x on right = record { onward = on; stays = λ l. absurd (omega arith); right = right }
 
-  kind : (t : Term) → Stands s (16 * at) t → kindAt s at ≡ kindOf t
+  kind : (t : Term) → StandsIn s (16 * at) t → kindAt s at ≡ kindOf t
   kind t h = stands-kind t h
 
   -- the record at the place is not too deep itself
@@ -108,11 +108,11 @@ module _ (s : List ℕ) (at d : ℕ) (in-table : at < length s / 16) (low : d �
       within x (omega (arith, r .onward))
       (λ t h.
       let (u, e) = one-child t (rw (kind t h) at c) in
-      rw e (one-right u (below t) x (r .right (below t) (subst (λ i. Stands s i (below t)) (omega arith) (stands-under u (below t) (rw e at h))))))
+      rw e (one-right u (below t) x (r .right (below t) (subst (λ i. StandsIn s i (below t)) (omega arith) (stands-under u (below t) (rw e at h))))))
 
   -- two children: the second is read only if nothing in the first is too deep
-  module _ (g : Bool) (x y : Reading) (rx : Reads g s (at + 1) (d + 1) x) (ry : Reads g s (x .next) (d + 1) y) (l r : Term) (hl : Stands s (16 * (at + 1)) l)
-      (hr : Stands s (16 * (at + 1 + size l)) r) where
+  module _ (g : Bool) (x y : Reading) (rx : Reads g s (at + 1) (d + 1) x) (ry : Reads g s (x .next) (d + 1) y) (l r : Term) (hl : StandsIn s (16 * (at + 1)) l)
+      (hr : StandsIn s (16 * (at + 1 + size l)) r) where
     abbrev dl : Option ℕ
     dl = deepIn (d + 1) (at + 1) l
 
@@ -137,7 +137,7 @@ module _ (s : List ℕ) (at d : ℕ) (in-table : at < length s / 16) (low : d �
     unfolding faultIn placeIf orElse size
     two-right j e = record { next = rw (low-both j l r) (two-next dl refl ∙ ap (λ i. nextOf n i (orElse dl dr)) (omega arith)); fault = λ z. rw e (two-fault (sym (low-both j l r) ∙ z)) }
 
-  reads-two : (j : Join) (x y : Reading) → ((t : Term) → Stands s (16 * at) t → (l : Term) × (r : Term) × (t ≡ both j l r)) → Reads (chooses j) s (at + 1) (d + 1) x
+  reads-two : (j : Join) (x y : Reading) → ((t : Term) → StandsIn s (16 * at) t → (l : Term) × (r : Term) × (t ≡ both j l r)) → Reads (chooses j) s (at + 1) (d + 1) x
       → Reads (chooses j) s (x .next) (d + 1) y → Reads false s at d (joined n x y)
   reads-two j x y view rx ry =
       within (joined n x y) (omega (arith, rx .onward, ry .onward))
@@ -145,7 +145,7 @@ module _ (s : List ℕ) (at d : ℕ) (in-table : at < length s / 16) (low : d �
       let (l, r, e) = view t h in
       let k = rw e at h in
       rw e
-      (two-right (chooses j) x y rx ry l r (subst (λ i. Stands s i l) (omega arith) (stands-left j l r k)) (stands-right j l r (16 * (at + 1 + size l)) (omega (arith, length-encode l)) k) j refl))
+      (two-right (chooses j) x y rx ry l r (subst (λ i. StandsIn s i l) (omega arith) (stands-left j l r k)) (stands-right j l r (16 * (at + 1 + size l)) (omega (arith, length-encode l)) k) j refl))
 
   pub reads-choice : (x y : Reading) → kindAt s at ≡ 5 → Reads true s (at + 1) (d + 1) x → Reads true s (x .next) (d + 1) y → Reads false s at d (joined n x y)
   reads-choice x y k rx ry = reads-two choice x y (λ t h. kind-choice t (sym (kind t h) ∙ k)) rx ry
@@ -171,7 +171,7 @@ fault-own n at (under u t) = own n at (guard (under u t)) (faultIn false (at + 1
 fault-own n at (both j l r) = own n at (guard (both j l r)) (orElse (faultIn (chooses j) (at + 1) l) (faultIn (chooses j) (at + 1 + size l) r))
 
 module _ (s : List ℕ) (at d : ℕ) (x : Reading) where
-  guard-at : (t : Term) → Stands s (16 * at) t → guardKind (kindAt s at) ≡ guard t
+  guard-at : (t : Term) → StandsIn s (16 * at) t → guardKind (kindAt s at) ≡ guard t
   unfolding guard
   guard-at t h = ap guardKind (stands-kind t h)
 

@@ -9,7 +9,7 @@ use native.Mathlib.Numerals.{add-one}
 use lib.ListN.{length}
 use Rattle.cows.specs.Basics.{placeIf, orElse, firstFrom}
 use Rattle.cows.specs.Terms.{nil, Prefix, Join, choice, parallel, Term, leaf, under, both, size}
-use Rattle.cows.specs.Places.{inside, leftOf, rightOf, Way, Spot, descend, spot, first, frameChooses}
+use Rattle.cows.specs.Places.{inside, leftOf, rightOf, Way, Spot, descend, spotAt, first, frameChooses}
 use Rattle.cows.specs.Tables.{tooDeep, inChoice, noGuard}
 use Rattle.cows.proofs.Basics.{firstFrom-append, firstFrom-below}
 use Rattle.cows.proofs.Places.{descend-left, descend-right}
@@ -92,7 +92,7 @@ fault-seek w at (both j l r) b e =
 
 -- of a whole term: refusals 4 and 5
 whole : (f : ℕ → Spot → Bool) (t : Term) → seek f [] 0 t ≡ first f t
-unfolding first spot
+unfolding first spotAt
 whole f t = from-same _ _ 0 (size t) (λ i l. let e : 0 + i - 0 ≡ 0 + i = omega arith in rw e)
 
 pub deep-first : (t : Term) → deepIn 1 0 t ≡ first tooDeep t

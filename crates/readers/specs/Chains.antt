@@ -13,7 +13,7 @@ pub record Chain (s : List ℕ) (at d i : ℕ) : Type 0 where
   pub one : (m : ℕ) → at ≤ m → m < i → childrenOf (getD s (16 * m) 0) ≡ 1
 
 -- d′ is d with v from place `at` up to place i
-pub record Put (d d′ : List ℕ) (at i v : ℕ) : Type 0 where
+pub record FilledWith (d d′ : List ℕ) (at i v : ℕ) : Type 0 where
   pub ahead : (m : ℕ) → m < at → getD d′ m 0 ≡ getD d m 0
   pub here : (m : ℕ) → at ≤ m → m < i → getD d′ m 0 ≡ v
   pub behind : (m : ℕ) → i ≤ m → getD d′ m 0 ≡ getD d m 0

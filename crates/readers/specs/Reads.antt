@@ -11,7 +11,7 @@ use Rattle.cows.specs.Terms.{Join, choice, parallel, Term, leaf, under, both, s
 use Rattle.cows.specs.Kinds.{childrenOf, guardKind, guard}
 use Rattle.records.specs.Answers.{placeOr}
 use Rattle.records.specs.Ends.{endAt}
-use Rattle.records.specs.Rewrites.{Stands}
+use Rattle.records.specs.Rewrites.{StandsIn}
 
 -- where a reading goes on, and the first child of a choice that is no guard
 pub record Reading : Type 0 where
@@ -56,7 +56,7 @@ pub record About (n : ℕ) (b : Bool) (at depth : ℕ) (t : Term) (r : Reading) 
 pub record Reads (b : Bool) (s : List ℕ) (at depth : ℕ) (r : Reading) : Type 0 where
   pub onward : at ≤ r .next
   pub stays : length s / 16 < at → r .next ≡ at
-  pub right : (t : Term) → Stands s (16 * at) t → About (length s / 16) b at depth t r
+  pub right : (t : Term) → StandsIn s (16 * at) t → About (length s / 16) b at depth t r
 
 -- What a reading that goes on at r leaves in the ends: d before, d′ after. Up to one past the number of records, r is the end of the term at the place, and the
 -- ends of the terms from the place up to there stand in d′; what is before the place is kept.

@@ -8,11 +8,11 @@ use lib.ListN.{length}
 use Rattle.readers.specs.Reads.{Read}
 
 -- where it stands then, in n records: behind the term; or past them, by what the service reader found; or past that too, by the first child of a choice that is no guard
-abbrev pub placed : ℕ → ℕ → ℕ → ℕ
-placed n end fault = cond (ltb n end || eqb fault n) end (2 * n + 2 + fault)
+abbrev pub reachedPlace : ℕ → ℕ → ℕ → ℕ
+reachedPlace n end fault = cond (ltb n end || eqb fault n) end (2 * n + 2 + fault)
 
-pub record Passed (s : List ℕ) (at : ℕ) (d d′ : List ℕ) (r : ℕ) : Type 0 where
+pub record ReadTo (s : List ℕ) (at : ℕ) (d d′ : List ℕ) (r : ℕ) : Type 0 where
   pub end : ℕ
   pub fault : ℕ
   pub read : Read false s at 1 d d′ (length s / 16) fault end
-  pub is : r ≡ placed (length s / 16) end fault
+  pub is : r ≡ reachedPlace (length s / 16) end fault

@@ -9,7 +9,7 @@ ghost use Prim.Native.Nat.{_+_, _/_, _<_, _≤_};
 ghost use lib.ListN.{length};
 ghost use Rattle.cows.specs.Kinds.{guardKind};
 ghost use Rattle.readers.specs.Reads.{byGuard, earlierOf, Read};
-ghost use Rattle.readers.specs.Chains.{Chain, Put};
+ghost use Rattle.readers.specs.Chains.{Chain, FilledWith};
 
 // A receive, a wait or a choice, by the kind: what the guard reader reads.
 fn by_guard(k: u8) -> bool
@@ -60,7 +60,7 @@ fn chain_end(s: &[u8], at: usize, depth: usize) -> usize
 // The same end for every place from `at` up to `to`.
 fn fill(ends: &mut [u16], at: usize, to: usize, end: u16)
     requires { ⌜ (at ≤ to) × (to ≤ length (now ends)) ⌝ }
-    ensures { λ _. ⌜ Put (now (ends .entry)) (now (ends .exit)) at to end ⌝ }
+    ensures { λ _. ⌜ FilledWith (now (ends .entry)) (now (ends .exit)) at to end ⌝ }
 {
     let mut i = at;
     while i < to {

@@ -9,9 +9,10 @@ use lib.ListN.{getD}
 use mir.Syntax.{w64}
 use mir.Val.{Fits, boolByte}
 use mathlib.Core.Option.{Option, none, some}
+use Rattle.cows.specs.Basics.{oneIf}
 use Rattle.records.specs.declared.Found.the-variants.{At, Nothing}
 use Rattle.records.specs.Answers.{foundOf, placeOr}
-use Rattle.records.specs.Ends.{oneIf, pickEnd}
+use Rattle.records.specs.Ends.{pickEnd}
 
 pub test-sum : (a b : Bool) → (boolByte a + boolByte b ≡ oneIf a + oneIf b) × (boolByte a + boolByte b ≤ 2)
 test-sum true true = (refl, omega arith)

@@ -13,7 +13,7 @@ use Rattle.cows.specs.Basics.{placeIf}
 use Rattle.cows.specs.Terms.{Term, leaf, under, both, size}
 use Rattle.cows.specs.Kinds.{kinds, childrenOf, kind}
 use Rattle.cows.specs.Places.{sub}
-use Rattle.cows.specs.Format.{byte, rightRecord, encode, node, records}
+use Rattle.cows.specs.Format.{byte, rightRecord, encode, readNode, records}
 use Rattle.cows.specs.Tables.{firstWrong, endOf, wrongEnd, children, misshapen}
 use Rattle.cows.proofs.Rows.{kind-cases, arity, children-few}
 use Rattle.cows.proofs.Format.{length-encode}
@@ -22,7 +22,7 @@ use Rattle.cows.proofs.Cut.{length-cut, cut-cons, failing-none}
 use Rattle.cows.proofs.Ends.{end-none, end-one, end-bounds, end-add, end-short, end-map}
 use Rattle.cows.proofs.Scopes.{all-map}
 use Rattle.records.specs.Ends.{wants, endAt, pickEnd, EndsFrom}
-use Rattle.records.specs.Rewrites.{Stands}
+use Rattle.records.specs.Rewrites.{StandsIn}
 use Rattle.records.specs.Answers.{placeOr}
 use Rattle.records.proofs.Pieces.{piece, first-piece}
 use Rattle.records.proofs.Stands.{long, stands-children, stands-fits, stands-under, stands-left, stands-right, part-stands}
@@ -120,32 +120,32 @@ unfolding wrongEnd placeIf
 shape-end n none l = (λ h. absurd (omega arith), λ h. absurd (omega arith), λ h. refl)
 shape-end n (some e) l = (λ h. rw (le-ltb e n (omega arith)), λ h. rw (lt-ltb e n h), λ h. absurd (omega (arith, l e refl)))
 
-right-kind : (b : List ℕ) → rightRecord b ≡ true → byte b 0 ≡ kind (node b)
-unfolding rightRecord kinds node
+right-kind : (b : List ℕ) → rightRecord b ≡ true → byte b 0 ≡ kind (readNode b)
+unfolding rightRecord kinds readNode
 right-kind b h =
-    kind-cases (λ k. byte b 0 ≡ k → k < 10 → byte b 0 ≡ kind (node b))
+    kind-cases (λ k. byte b 0 ≡ k → k < 10 → byte b 0 ≡ kind (readNode b))
     (λ e l. rw e, λ e l. rw e, λ e l. rw e, λ e l. rw e, λ e l. rw e, λ e l. rw e, λ e l. rw e, λ e l. rw e, λ e l. rw e, λ e l. rw e) (λ n e l. absurd (omega arith))
     (byte b 0) refl (ltb-true (byte b 0) 10 (and-true (ltb (byte b 0) 10) _ h .0))
 
-pub end-shape : (s : List ℕ) → firstWrong 0 (records s) ≡ none → Shape (endAt s 0) (length s / 16) (misshapen (map node (records s)))
+pub end-shape : (s : List ℕ) → firstWrong 0 (records s) ≡ none → Shape (endAt s 0) (length s / 16) (misshapen (map readNode (records s)))
 unfolding endAt misshapen
 end-shape s h =
-    let ns = map node (records s) in
+    let ns = map readNode (records s) in
     let l : length ns ≡ length s / 16 = rw length-map (length-cut 16 s) in
-    let e = end-map wants children node 1 0 (records s) (all-map _ _ (λ b r. ap childrenOf (right-kind b r)) (records s) (failing-none rightRecord 0 (records s) h)) in
+    let e = end-map wants children readNode 1 0 (records s) (all-map _ _ (λ b r. ap childrenOf (right-kind b r)) (records s) (failing-none rightRecord 0 (records s) h)) in
     rw (e, l) (shape-end (length s / 16) (endOf children 1 0 ns) (λ k q. omega (arith, end-bounds children 1 0 ns k q)))
 
 -- A term that stands at a place ends its size behind it.
 module _ (s : List ℕ) where
-  end-first : (t : Term) (m : ℕ) → Stands s (16 * m) t → endAt s m ≡ pickEnd (arity t) (suc m) (endAt s (suc m)) (endAt s (endAt s (suc m)))
+  end-first : (t : Term) (m : ℕ) → StandsIn s (16 * m) t → endAt s m ≡ pickEnd (arity t) (suc m) (endAt s (suc m)) (endAt s (endAt s (suc m)))
   end-first t m h =
       let e = stands-children t h in
       end-pick s m (arity t) (omega (arith, long t, stands-fits t h)) (sym e) (omega (arith, e, children-few (getD s (16 * m) 0)))
 
-  stands-next : (t : Term) (m : ℕ) → Stands s (16 * m + 16) t → Stands s (16 * suc m) t
-  stands-next t m h = subst (λ i. Stands s i t) (omega arith) h
+  stands-next : (t : Term) (m : ℕ) → StandsIn s (16 * m + 16) t → StandsIn s (16 * suc m) t
+  stands-next t m h = subst (λ i. StandsIn s i t) (omega arith) h
 
-  pub end-stands : (t : Term) (m : ℕ) → Stands s (16 * m) t → endAt s m ≡ m + size t
+  pub end-stands : (t : Term) (m : ℕ) → StandsIn s (16 * m) t → endAt s m ≡ m + size t
   unfolding size pickEnd
   end-stands (leaf x) m h = end-first (leaf x) m h ∙ omega arith
   end-stands (under u t) m h = end-first (under u t) m h ∙ (end-stands t (suc m) (stands-next t m (stands-under u t h)) ∙ omega arith)

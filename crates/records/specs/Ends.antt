@@ -1,7 +1,7 @@
 -- Where the terms of a table end, by the kinds of its records.
 use mathlib.Core.Path.{_≡_}
 use Prim.Native.Nat.{ℕ, suc, _+_, _/_, _<_, _≤_}
-use mathlib.Core.Bool.{Bool, true, false, cond}
+use mathlib.Core.Bool.{cond}
 use mathlib.Core.List.{List}
 use lib.ListN.{length, getD, drop}
 use lib.Dec.{eqb}
@@ -9,11 +9,6 @@ use Rattle.cows.specs.Kinds.{childrenOf}
 use Rattle.cows.specs.Format.{byte, records}
 use Rattle.cows.specs.Tables.{endOf}
 use Rattle.records.specs.Answers.{placeOr}
-
--- 1 where a test holds, else 0
-abbrev pub oneIf : Bool → ℕ
-oneIf true = 1
-oneIf false = 0
 
 -- the terms that a record wants behind it; the end of the term at place m, one past the number of records where they run out
 abbrev pub wants : List ℕ → ℕ

@@ -18,21 +18,21 @@ pub record Has (s : List ℕ) (i : ℕ) (bs : List ℕ) : Type 0 where
   pub is : drop i s ≡ bs ++ rest
 
 -- the records of the term t stand in s from byte i on
-abbrev pub Stands : List ℕ → ℕ → Term → Type 0
-Stands s i t = Has s i (encode t)
+abbrev pub StandsIn : List ℕ → ℕ → Term → Type 0
+StandsIn s i t = Has s i (encode t)
 
 -- p is the byte behind the term at byte i, whichever stands there: what `ends` tells code that does not go into the term.
 -- `past` and `within` follow; they are here for `omega`.
 pub record Passes (s : List ℕ) (i p : ℕ) : Type 0 where
   pub past : i + 16 ≤ p
   pub within : p ≤ length s
-  pub end : (t : Term) → Stands s i t → p ≡ i + length (encode t)
+  pub end : (t : Term) → StandsIn s i t → p ≡ i + length (encode t)
 
 -- What rewriting asks: some term stands at byte i of s, and d has room from byte j on for what f makes of it.
 -- `inside` and `space` follow; they are here for `omega`.
-pub record Ready (f : Term → Term) (s : List ℕ) (i : ℕ) (d : List ℕ) (j : ℕ) : Type 0 where
+pub record Rewritable (f : Term → Term) (s : List ℕ) (i : ℕ) (d : List ℕ) (j : ℕ) : Type 0 where
   pub term : Term
-  pub stands : Stands s i term
+  pub stands : StandsIn s i term
   pub room : j + length (encode (f term)) ≤ length d
   pub inside : i + 16 ≤ length s
   pub space : j + 16 ≤ length d
@@ -44,14 +44,14 @@ pub record Done (f : Term → Term) (t : Term) (i : ℕ) (d : List ℕ) (j : ℕ
   pub bytes : e ≡ put d j (encode (f t))
 
 -- What rewriting gives: whichever term stands at byte i of s is rewritten.
--- `past` follows from Ready; it is here for `omega`, and for the measure of the next call.
+-- `past` follows from Rewritable; it is here for `omega`, and for the measure of the next call.
 pub record Rewrites (f : Term → Term) (s : List ℕ) (i : ℕ) (d : List ℕ) (j : ℕ) (e : List ℕ) (p q : ℕ) : Type 0 where
   pub past : i + 16 ≤ p
-  pub done : (t : Term) → Stands s i t → Done f t i d j e p q
+  pub done : (t : Term) → StandsIn s i t → Done f t i d j e p q
 
 -- a term kept whole, and nil for any term
-abbrev pub same : Term → Term
-same t = t
+abbrev pub unchanged : Term → Term
+unchanged t = t
 
 abbrev pub gone : Term → Term
 gone t = leaf nil

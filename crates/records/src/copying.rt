@@ -5,7 +5,7 @@ ghost use lib.ListN.{length, take, drop};
 ghost use Rattle.cows.specs.Terms.{nil};
 ghost use Rattle.cows.specs.Kinds.{basic};
 ghost use Rattle.cows.specs.Format.{bytes2, record16};
-ghost use Rattle.records.specs.Rewrites.{put, Passes, Ready, Rewrites, same, gone};
+ghost use Rattle.records.specs.Rewrites.{put, Passes, Rewritable, Rewrites, unchanged, gone};
 
 // Where reading and writing go on.
 pub struct Places(pub usize, pub usize);
@@ -42,9 +42,9 @@ pub fn put_nil(dst: &mut [u8], to: usize)
 
 // Copies the term at byte `at`, which ends at byte `end`.
 pub fn copy_term(src: &[u8], at: usize, end: usize, dst: &mut [u8], to: usize) -> Places
-    requires { ⌜ Ready same (now src) at (now dst) to ⌝ }
+    requires { ⌜ Rewritable unchanged (now src) at (now dst) to ⌝ }
     requires { ⌜ Passes (now src) at end ⌝ }
-    ensures { λ r. ⌜ Rewrites same (now (src .entry)) at (now (dst .entry)) to (now (dst .exit)) (r .0) (r .1) ⌝ }
+    ensures { λ r. ⌜ Rewrites unchanged (now (src .entry)) at (now (dst .entry)) to (now (dst .exit)) (r .0) (r .1) ⌝ }
 {
     let len = end - at;
     copy(src, at, len, dst, to);
@@ -53,7 +53,7 @@ pub fn copy_term(src: &[u8], at: usize, end: usize, dst: &mut [u8], to: usize) -
 
 // Writes nil for the term at byte `at`, which ends at byte `end`.
 pub fn nil_at(src: &[u8], at: usize, end: usize, dst: &mut [u8], to: usize) -> Places
-    requires { ⌜ Ready gone (now src) at (now dst) to ⌝ }
+    requires { ⌜ Rewritable gone (now src) at (now dst) to ⌝ }
     requires { ⌜ Passes (now src) at end ⌝ }
     ensures { λ r. ⌜ Rewrites gone (now (src .entry)) at (now (dst .entry)) to (now (dst .exit)) (r .0) (r .1) ⌝ }
 {

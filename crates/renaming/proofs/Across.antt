@@ -10,7 +10,7 @@ use Rattle.cows.specs.Kinds.{Node}
 use Rattle.cows.specs.Format.{nodes, record16, bytes, encode}
 use Rattle.cows.proofs.Rows.{length-record16}
 use Rattle.cows.proofs.Format.{length-nodes}
-use Rattle.records.specs.Rewrites.{put, Has, Stands}
+use Rattle.records.specs.Rewrites.{put, Has, StandsIn}
 use Rattle.records.proofs.Put.{put-put, has-left, has-right, has-take}
 use Rattle.records.proofs.Pieces.{piece}
 use Rattle.renaming.specs.Mapped.{along, across}
@@ -72,6 +72,6 @@ module _ (g : List ℕ → List ℕ) (h : Node → List ℕ) (same : (n : Node) 
       let e : take 16 (drop (16 * i) s) ≡ record16 n = rw l at (has-take (record16 n) (has-left (record16 n) (bytes ns) k)) in
       rw (e, same n) (ap (λ b. h n ++ b) (across-nodes (suc i) ns (has-right (record16 n) (bytes ns) (16 * suc i) (omega arith) k)))
 
-  pub across-term : (i : ℕ) (t : Term) → Stands s (16 * i) t → across g s i (size t) ≡ flatMap h (nodes t)
+  pub across-term : (i : ℕ) (t : Term) → StandsIn s (16 * i) t → across g s i (size t) ≡ flatMap h (nodes t)
   unfolding encode
   across-term i t k = rw (← length-nodes t) (across-nodes i (nodes t) k)

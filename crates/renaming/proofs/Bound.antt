@@ -19,7 +19,7 @@ use Rattle.records.specs.Atoms.{classOf, numberOf, closedAt}
 use Rattle.records.proofs.Atoms.{class-case}
 use Rattle.records.proofs.Pieces.{piece, word-piece, first-piece}
 use Rattle.renaming.specs.Mapped.{mapRecord}
-use Rattle.renaming.specs.Bound.{takesAtom, imageAtom, takesOne, imageOfAll, goes, boundRecord}
+use Rattle.renaming.specs.Bound.{takesAtom, imageAtom, takesOne, imageOfAll, goes, recordBound}
 use Rattle.renaming.proofs.Mapped.{length-mapRecord}
 
 module _ (t₀ t₁ t₂ t₃ : Takes) where
@@ -74,22 +74,22 @@ module _ (t₀ t₁ t₂ t₃ : Takes) where
 
   -- the three cases
   module _ (b i : ℕ) (r : List ℕ) where
-    pub bound-nil : i ≡ b → boundRecord t₀ t₁ t₂ t₃ b i r ≡ record16 (basic nil)
-    unfolding boundRecord
+    pub bound-nil : i ≡ b → recordBound t₀ t₁ t₂ t₃ b i r ≡ record16 (basic nil)
+    unfolding recordBound
     bound-nil e = rw (eq-eqb i b e)
 
-    pub bound-gone : i ≢ b → goes t₀ t₁ t₂ t₃ r ≡ true → boundRecord t₀ t₁ t₂ t₃ b i r ≡ []
-    unfolding boundRecord
+    pub bound-gone : i ≢ b → goes t₀ t₁ t₂ t₃ r ≡ true → recordBound t₀ t₁ t₂ t₃ b i r ≡ []
+    unfolding recordBound
     bound-gone n e = rw (ne-eqb i b n, e)
 
-    pub bound-kept : i ≢ b → goes t₀ t₁ t₂ t₃ r ≡ false → boundRecord t₀ t₁ t₂ t₃ b i r ≡ mapRecord (imageOfAll t₀ t₁ t₂ t₃) r
-    unfolding boundRecord
+    pub bound-kept : i ≢ b → goes t₀ t₁ t₂ t₃ r ≡ false → recordBound t₀ t₁ t₂ t₃ b i r ≡ mapRecord (imageOfAll t₀ t₁ t₂ t₃) r
+    unfolding recordBound
     bound-kept n e = rw (ne-eqb i b n, e)
 
     -- where a record is written, room for what becomes of it is room for a record
-    pub room-nil : (at n : ℕ) → i ≡ b → at + length (boundRecord t₀ t₁ t₂ t₃ b i r) ≤ n → at + 15 < n
+    pub room-nil : (at n : ℕ) → i ≡ b → at + length (recordBound t₀ t₁ t₂ t₃ b i r) ≤ n → at + 15 < n
     room-nil at n e h = omega (arith, ap length (bound-nil e), length-record16 (basic nil))
 
   pub room-kept : (b i : ℕ) (s : List ℕ) (at n : ℕ) → 16 * i + 15 < length s → i ≢ b → goes t₀ t₁ t₂ t₃ (piece s (16 * i)) ≡ false
-      → at + length (boundRecord t₀ t₁ t₂ t₃ b i (piece s (16 * i))) ≤ n → at + 15 < n
+      → at + length (recordBound t₀ t₁ t₂ t₃ b i (piece s (16 * i))) ≤ n → at + 15 < n
   room-kept b i s at n l e g h = omega (arith, ap length (bound-kept b i (piece s (16 * i)) e g), length-mapRecord (imageOfAll t₀ t₁ t₂ t₃) s (16 * i) l)

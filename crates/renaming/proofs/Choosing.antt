@@ -1,4 +1,4 @@
--- Renaming one delimited atom after the other: the names so far, and the renaming of those that are left, are the whole renaming.
+-- Renaming oneIf delimited atom after the other: the names so far, and the renaming of those that are left, are the whole renaming.
 use mathlib.Core.Path.{_≡_, refl, sym, ap, ap₂, _∙_}
 use mathlib.Core.Logic.{_≢_}
 use mathlib.Core.Bool.{Bool, true, false, cond, _||_}
@@ -9,11 +9,11 @@ use native.Mathlib.Omega.{arith}
 use lib.Dec.{eqb}
 use lib.ListN.{length, getD, set, length-set}
 use borrow.Author.Tests.{eq-eqb, ne-eqb}
-use Rattle.cows.specs.Basics.{any, every, member, holds}
+use Rattle.cows.specs.Basics.{any, every, member, foundWith, oneIf}
 use Rattle.cows.specs.Terms.{nil, kill, invoke, receive, wait, protection, delimitation, replication, choice, parallel, Term, leaf, under, both, atom, size, delimits, delimitsAtom, optional, binders}
 use Rattle.cows.specs.Kinds.{Node, basic, prefix, join}
 use Rattle.cows.specs.Format.{byte, word, nodes, layout, record16}
-use Rattle.cows.specs.Within.{one, counts}
+use Rattle.cows.specs.Within.{counts}
 use Rattle.cows.specs.Moves.{image, fresh, renaming}
 use Rattle.cows.proofs.Basics.{never, bool-case, cond-case, and-true, or-left, or-right}
 use Rattle.cows.proofs.Scopes.{member-counts}
@@ -24,7 +24,7 @@ use Rattle.cows.proofs.Cut.{flatMap-append}
 use Rattle.cows.proofs.Records.{small-atom}
 use Rattle.records.proofs.Pieces.{word-piece, first-piece}
 use Rattle.renaming.specs.Mapped.{across}
-use Rattle.renaming.specs.Names.{leastOf, Marks, Taking, Wanting, Wanted, New, Marking, Marked, Chosen}
+use Rattle.renaming.specs.Names.{leastOf, Marks, Taking, Wanting, AtomWanted, NewAtom, Marking, Marked, Chosen}
 use Rattle.renaming.proofs.Across.{across-next, across-end, across-term}
 use Rattle.renaming.proofs.Occurring.{after-store, not-zero}
 use Rattle.renaming.proofs.Fresh.{new-small, new-apart, taking-store}
@@ -32,7 +32,7 @@ use Rattle.renaming.proofs.Fresh.{new-small, new-apart, taking-store}
 -- how often an atom is in a list; a term's delimitations
 abbrev pub times : ℕ → List ℕ → ℕ
 times a [] = 0
-times a (d ∷ ds) = one (eqb a d) + times a ds
+times a (d ∷ ds) = oneIf (eqb a d) + times a ds
 
 times-append : (a : ℕ) (xs ys : List ℕ) → times a (xs ++ ys) ≡ times a xs + times a ys
 times-append a [] ys = omega arith
@@ -41,10 +41,10 @@ times-append a (x ∷ xs) ys = omega (arith, times-append a xs ys)
 times-member : (a : ℕ) (ds : List ℕ) → member a ds ≡ true → 1 ≤ times a ds
 unfolding member any
 times-member a [] m = never m
-times-member a (d ∷ ds) m = bool-case (1 ≤ one (eqb a d) + times a ds) (eqb a d) (λ e. rw e (omega arith)) (λ e. omega (arith, times-member a ds (unfold member any in (rw e at m))))
+times-member a (d ∷ ds) m = bool-case (1 ≤ oneIf (eqb a d) + times a ds) (eqb a d) (λ e. rw e (omega arith)) (λ e. omega (arith, times-member a ds (unfold member any in (rw e at m))))
 
-times-optional : (a : ℕ) (o : Option ℕ) → times a (optional o) ≡ one (holds (eqb a) o)
-unfolding optional holds
+times-optional : (a : ℕ) (o : Option ℕ) → times a (optional o) ≡ oneIf (foundWith (eqb a) o)
+unfolding optional foundWith
 times-optional a none = refl
 times-optional a (some d) = omega arith
 
@@ -66,7 +66,7 @@ pub record Choosing (known all names next left : List ℕ) : Type 0 where
   pub answer : (a : ℕ) → member a known ≡ true → image (renaming known all) a ≡ cond (member a left) (image (renaming taken left) a) (getD names a 0)
 
 module _ (known all names next : List ℕ) where
-  -- the next one
+  -- the next oneIf
   module _ (d : ℕ) (left : List ℕ) (c : Choosing known all names next (d ∷ left)) where
     pub choosing-wants : Wanting names next (c .taken) d
     unfolding every member any
@@ -105,7 +105,7 @@ module _ (known all names next : List ℕ) where
       where
         go : (a : ℕ) (p : Bool) → eqb a d ≡ p → (q : Bool) → member a left ≡ q
             → cond (p || q) (cond p new (image (renaming (new ∷ c .taken) left) a)) (getD names a 0) ≡ cond q (image (renaming (new ∷ c .taken) left) a) (cond p new (getD names a 0))
-        go a true e true m = absurd (omega (arith, times-member a left m, c .once a, ap one e))
+        go a true e true m = absurd (omega (arith, times-member a left m, c .once a, ap oneIf e))
         go a true e false m = refl
         go a false e true m = refl
         go a false e false m = refl
@@ -218,12 +218,12 @@ module _ (s : List ℕ) (from to : ℕ) (names₀ : List ℕ) where
       here : (body : Term) (taken : List ℕ) → Marking s from to names₀ body taken → Choosing taken (binders body) names next (d ∷ across delimited s (i + 1) (to - (i + 1)))
       here body taken m = rw (e, ← next-delimited s i to l k) (g .choosing body taken m)
 
-      pub going-wants : Wanted names next d
+      pub going-wants : AtomWanted names next d
       going-wants =
           let c = here (g .marked .body) (g .marked .taken) (g .marked .marking) in
           record { taken = c .taken; wanting = choosing-wants _ _ _ _ _ _ c }
 
-      pub going-turn : (names′ next′ : List ℕ) {v : ℕ} → ((taken : List ℕ) → Wanting names next taken d → New names next d names′ next′ v taken) → {d′ : ℕ} → d′ ≡ d → Going s from to names₀ (set names′ d′ v) next′ (i + 1)
+      pub going-turn : (names′ next′ : List ℕ) {v : ℕ} → ((taken : List ℕ) → Wanting names next taken d → NewAtom names next d names′ next′ v taken) → {d′ : ℕ} → d′ ≡ d → Going s from to names₀ (set names′ d′ v) next′ (i + 1)
       going-turn names′ next′ r q = record {
         marked = g .marked;
         choosing = λ body taken m.

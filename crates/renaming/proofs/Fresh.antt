@@ -1,4 +1,4 @@
--- New atoms: the search finds the smallest one that is not taken.
+-- NewAtom atoms: the search finds the smallest one that is not taken.
 use mathlib.Core.Path.{_≡_, refl, sym, ap, _∙_}
 use mathlib.Core.Logic.{_≢_}
 use mathlib.Core.Bool.{Bool, true, false, cond, _||_}
@@ -17,7 +17,7 @@ use Rattle.cows.proofs.Basics.{clash, cond-case, lt-case, or-false, or-left, or
 use Rattle.cows.proofs.Sets.{in-values, in-variables, in-labels, Set, alike-sets, value-range, variable-range, label-range, set-case}
 use Rattle.cows.proofs.Renaming.{fresh-smallest, smallest-least}
 use Rattle.records.specs.Atoms.{classOf}
-use Rattle.renaming.specs.Names.{setOf, leastOf, NextFree, Taking, Wanting, Wanted, New}
+use Rattle.renaming.specs.Names.{setOf, leastOf, NextFree, Taking, Wanting, AtomWanted, NewAtom}
 use Rattle.renaming.proofs.Occurring.{after-store}
 
 -- The sets by their numbers: set k goes from leastOf k to endOf k (not included).
@@ -149,10 +149,10 @@ module _ (names next : List ℕ) (d k r : ℕ) (e : k ≡ setOf d) (f : NextFree
   found-new : (taken : List ℕ) → Wanting names next taken d → r ≡ fresh taken d
   found-new taken w = next-new names next taken d w r (rw (← e) f)
 
-  pub found-small : Wanted names next d → r < 65536
+  pub found-small : AtomWanted names next d → r < 65536
   found-small w = omega (arith, new-small names next (w .taken) d (w .wanting), found-new (w .taken) (w .wanting))
 
-  pub found-taken : (taken : List ℕ) → Wanting names next taken d → New names next d (set names r r) (set next k (r + 1)) r taken
+  pub found-taken : (taken : List ℕ) → Wanting names next taken d → NewAtom names next d (set names r r) (set next k (r + 1)) r taken
   found-taken taken w = record { is = found-new taken w; entered = refl; taking = rw (e, found-new taken w) (new-taking names next taken d w) }
 
 -- a taken atom may get any name

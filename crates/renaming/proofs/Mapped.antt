@@ -15,7 +15,7 @@ use Rattle.cows.specs.Format.{bytes2, word, nodes, layout, record16, bytes, enc
 use Rattle.cows.specs.Moves.{mapBasic, mapPrefix, mapAtoms}
 use Rattle.cows.proofs.Basics.{or-left, or-right, member-append}
 use Rattle.cows.proofs.Fields.{layout-first, layout-second, layout-slot}
-use Rattle.records.specs.Rewrites.{put, Stands}
+use Rattle.records.specs.Rewrites.{put, StandsIn}
 use Rattle.records.proofs.Put.{and-then}
 use Rattle.records.proofs.Pieces.{word-piece}
 use Rattle.renaming.specs.Mapped.{mapNode, tupleBytes, withAtoms, mapRecord, mapped, named}
@@ -99,7 +99,7 @@ module _ (f : ℕ → ℕ) (zero : f 0 ≡ 0) where
   record-mapped (join choice) = none-mapped 5 0
   record-mapped (join parallel) = none-mapped 6 0
 
-  pub mapped-term : (s : List ℕ) (i : ℕ) (t : Term) → Stands s (16 * i) t → mapped f s i (size t) ≡ encode (mapAtoms f t)
+  pub mapped-term : (s : List ℕ) (i : ℕ) (t : Term) → StandsIn s (16 * i) t → mapped f s i (size t) ≡ encode (mapAtoms f t)
   unfolding encode flatMap
   mapped-term s i t h =
       across-term (mapRecord f) (λ n. record16 (mapNode f n)) (λ n. sym (record-mapped n)) s i t h ∙ (bytes-over (nodes t) ∙ ap bytes (sym (nodes-mapped f t)))
@@ -109,7 +109,7 @@ module _ (f : ℕ → ℕ) (zero : f 0 ≡ 0) where
       bytes-over (n ∷ ns) = ap (λ b. record16 (mapNode f n) ++ b) (bytes-over ns)
 
 -- the same by an array that has the name of each atom of the term
-pub mapped-as : (f : ℕ → ℕ) (names s : List ℕ) (i : ℕ) (t : Term) → named names 0 ≡ 0 → Agree (named names) f (atoms t) → Stands s (16 * i) t → mapped (named names) s i (size t) ≡ encode (mapAtoms f t)
+pub mapped-as : (f : ℕ → ℕ) (names s : List ℕ) (i : ℕ) (t : Term) → named names 0 ≡ 0 → Agree (named names) f (atoms t) → StandsIn s (16 * i) t → mapped (named names) s i (size t) ≡ encode (mapAtoms f t)
 mapped-as f names s i t z h k = mapped-term (named names) z s i t k ∙ ap encode (map-agree (named names) f t h)
 
 -- Writing the pieces of a record one after the other writes the record.

@@ -20,7 +20,7 @@ use Rattle.cows.proofs.Format.{length-encode}
 use Rattle.cows.proofs.Fields.{layout-first, layout-second, layout-slot}
 use Rattle.cows.proofs.Cut.{flatMap-append}
 use Rattle.records.specs.Holds.{Holds}
-use Rattle.records.specs.Rewrites.{Stands}
+use Rattle.records.specs.Rewrites.{StandsIn}
 use Rattle.records.proofs.Pieces.{piece, word-piece}
 use Rattle.renaming.specs.Mapped.{across}
 use Rattle.renaming.specs.Names.{fields, entered, Marks}
@@ -203,7 +203,7 @@ marked-term s t h l taken m =
     n : length s / 16 ≡ size t
     n = omega (arith, ap length (h .is) ∙ length-encode t)
 
-    stands : Stands s (16 * 0) t
+    stands : StandsIn s (16 * 0) t
     stands = record { rest = []; is = h .is ∙ sym (append-nil (encode t)) }
 
     same : (b : ℕ) → b ≢ 0 → member b all ≡ member b (atoms t)

@@ -38,9 +38,9 @@ module _ (t₀ t₁ t₂ t₃ : Takes) where
   goes r = eqb (byte r 0) 8 && takesOne (word r 2)
 
   -- what becomes of the record r at place i: nil at place b
-  unfoldable pub boundRecord : (b i : ℕ) → List ℕ → List ℕ
-  boundRecord b i r = cond (eqb i b) (record16 (basic nil)) (cond (goes r) [] (mapRecord imageOfAll r))
+  unfoldable pub recordBound : (b i : ℕ) → List ℕ → List ℕ
+  recordBound b i r = cond (eqb i b) (record16 (basic nil)) (cond (goes r) [] (mapRecord imageOfAll r))
 
   -- and of the n records of s from place i on
-  abbrev pub bound : (b : ℕ) (s : List ℕ) (i n : ℕ) → List ℕ
-  bound b s i n = along (boundRecord b) s i n
+  abbrev pub boundRecords : (b : ℕ) (s : List ℕ) (i n : ℕ) → List ℕ
+  boundRecords b s i n = along (recordBound b) s i n

@@ -15,7 +15,7 @@ use Rattle.records.specs.declared.Atom.{Atom}
 use Rattle.records.specs.declared.Atom.the-variants.{None, Value, Variable, Label}
 use Rattle.records.specs.Atoms.{classOf}
 use Rattle.records.specs.Holds.{Holds}
-use Rattle.records.specs.Rewrites.{Stands}
+use Rattle.records.specs.Rewrites.{StandsIn}
 
 -- the six fields for atoms of a record's 16 bytes
 unfoldable pub fields : List ℕ → List ℕ
@@ -68,19 +68,19 @@ pub record Wanting (names next taken : List ℕ) (d : ℕ) : Type 0 where
   pub few : length taken < 16383
   pub right : atom d ≡ true
 
-pub record Wanted (names next : List ℕ) (d : ℕ) : Type 0 where
+pub record AtomWanted (names next : List ℕ) (d : ℕ) : Type 0 where
   pub taken : List ℕ
   pub wanting : Wanting names next taken d
 
 -- It is r, the smallest atom of the set that is not taken, and this is then taken.
-pub record New (names next : List ℕ) (d : ℕ) (names′ next′ : List ℕ) (r : ℕ) (taken : List ℕ) : Type 0 where
+pub record NewAtom (names next : List ℕ) (d : ℕ) (names′ next′ : List ℕ) (r : ℕ) (taken : List ℕ) : Type 0 where
   pub is : r ≡ fresh taken d
   pub entered : names′ ≡ set names r r
   pub taking : Taking names′ next′ (r ∷ taken)
 
 -- A body stands at places `from` to `to` (not included) of s. It delimits no atom twice, its atoms are among those that the names mark, and few enough are marked.
 pub record Marking (s : List ℕ) (from to : ℕ) (names : List ℕ) (body : Term) (taken : List ℕ) : Type 0 where
-  pub stands : Stands s (16 * from) body
+  pub stands : StandsIn s (16 * from) body
   pub right : Right body
   pub unique : (a : ℕ) → counts a body ≤ 1
   pub end : to ≡ from + size body

@@ -14,7 +14,7 @@ ghost use Rattle.cows.specs.Format.{word};
 ghost use Rattle.records.specs.Atoms.{classOf};
 ghost use Rattle.records.specs.Rewrites.{put};
 ghost use Rattle.renaming.specs.Mapped.{mapRecord};
-ghost use Rattle.renaming.specs.Bound.{takesAtom, imageAtom, imageOfAll, goes, boundRecord, bound};
+ghost use Rattle.renaming.specs.Bound.{takesAtom, imageAtom, imageOfAll, goes, recordBound, boundRecords};
 
 // Whether one of the four takes the atom a.
 fn takes(a: Atom, t0: Takes, t1: Takes, t2: Takes, t3: Takes) -> bool
@@ -112,8 +112,8 @@ fn put_bound(
     dst: &mut [u8],
     at: usize,
 ) -> usize
-    requires { ⌜ (16 * i + 15 < length (now s)) × (at + length (boundRecord t0 t1 t2 t3 b i (take 16 (drop (16 * i) (now s)))) ≤ length (now dst)) ⌝ }
-    ensures { λ r. ⌜ (now (dst .exit) ≡ put (now (dst .entry)) at (boundRecord t0 t1 t2 t3 b i (take 16 (drop (16 * i) (now (s .entry)))))) × (r ≡ at + length (boundRecord t0 t1 t2 t3 b i (take 16 (drop (16 * i) (now (s .entry)))))) ⌝ }
+    requires { ⌜ (16 * i + 15 < length (now s)) × (at + length (recordBound t0 t1 t2 t3 b i (take 16 (drop (16 * i) (now s)))) ≤ length (now dst)) ⌝ }
+    ensures { λ r. ⌜ (now (dst .exit) ≡ put (now (dst .entry)) at (recordBound t0 t1 t2 t3 b i (take 16 (drop (16 * i) (now (s .entry)))))) × (r ≡ at + length (recordBound t0 t1 t2 t3 b i (take 16 (drop (16 * i) (now (s .entry)))))) ⌝ }
 {
     if i == b {
         put_nil(dst, at);
@@ -143,8 +143,8 @@ pub fn write_bound(
     dst: &mut [u8],
     at: usize,
 ) -> usize
-    requires { ⌜ (16 * to ≤ length (now s)) × (at + length (bound t0 t1 t2 t3 b (now s) from (to - from)) ≤ length (now dst)) ⌝ }
-    ensures { λ r. ⌜ (now (dst .exit) ≡ put (now (dst .entry)) at (bound t0 t1 t2 t3 b (now (s .entry)) from (to - from))) × (r ≡ at + length (bound t0 t1 t2 t3 b (now (s .entry)) from (to - from))) ⌝ }
+    requires { ⌜ (16 * to ≤ length (now s)) × (at + length (boundRecords t0 t1 t2 t3 b (now s) from (to - from)) ≤ length (now dst)) ⌝ }
+    ensures { λ r. ⌜ (now (dst .exit) ≡ put (now (dst .entry)) at (boundRecords t0 t1 t2 t3 b (now (s .entry)) from (to - from))) × (r ≡ at + length (boundRecords t0 t1 t2 t3 b (now (s .entry)) from (to - from))) ⌝ }
 {
     let mut i = from;
     let mut next = at;

@@ -9,7 +9,7 @@ ghost use Prim.Native.Nat.{ℕ, _+_, _*_, _<_};
 ghost use lib.ListN.{length, take, drop};
 ghost use Rattle.cows.specs.Terms.{Term, atoms};
 ghost use Rattle.records.specs.Holds.{Holds};
-ghost use Rattle.renaming.specs.Names.{fields, entered, setOf, NextFree, Marks, Wanting, Wanted, New, Marking, Marked, Chosen};
+ghost use Rattle.renaming.specs.Names.{fields, entered, setOf, NextFree, Marks, Wanting, AtomWanted, NewAtom, Marking, Marked, Chosen};
 
 // Enters the six fields of the record at place i under themselves. Those not in use are 0, which is no atom.
 fn mark_record(s: &[u8], i: usize, names: &mut [u16])
@@ -72,8 +72,8 @@ fn next_free(names: &[u16], from: usize) -> usize
 
 // A new atom: the smallest of d's set that is not taken, which it then is; next[k] is where the search in set k goes on.
 pub fn new_atom(d: u16, names: &mut [u16], next: &mut [usize]) -> u16
-    requires { ⌜ Wanted (now names) (now next) d ⌝ }
-    ensures { λ r. ⌜ ((taken : List ℕ) → Wanting (now (names .entry)) (now (next .entry)) taken d → New (now (names .entry)) (now (next .entry)) d (now (names .exit)) (now (next .exit)) r taken) ⌝ }
+    requires { ⌜ AtomWanted (now names) (now next) d ⌝ }
+    ensures { λ r. ⌜ ((taken : List ℕ) → Wanting (now (names .entry)) (now (next .entry)) taken d → NewAtom (now (names .entry)) (now (next .entry)) d (now (names .exit)) (now (next .exit)) r taken) ⌝ }
 {
     let k = set_of(d);
     let free = next_free(names, next[k]);

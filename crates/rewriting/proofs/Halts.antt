@@ -10,7 +10,7 @@ use Rattle.cows.specs.Kinds.{root, kindOf, open-kinds}
 use Rattle.cows.specs.Format.{record16}
 use Rattle.cows.specs.Moves.{haltUnder, haltBoth, halt}
 use Rattle.cows.proofs.Fields.{kind-is}
-use Rattle.records.specs.Rewrites.{Stands, same, gone}
+use Rattle.records.specs.Rewrites.{StandsIn, unchanged, gone}
 use Rattle.records.proofs.Stands.{encode-under, encode-both, stands-kind}
 use Rattle.records.proofs.Rewrites.{Step}
 
@@ -35,7 +35,7 @@ halt-gone (under replication t) h = absurd (omega arith)
 halt-gone (both choice l r) h = refl
 halt-gone (both parallel l r) h = absurd (omega arith)
 
-pub halt-kept : (t : Term) → Kept t → halt t ≡ same t
+pub halt-kept : (t : Term) → Kept t → halt t ≡ unchanged t
 unfolding halt haltUnder
 halt-kept t h = subst (λ r. halt r ≡ r) (sym (kind-is 7 t h)) refl
 
@@ -54,11 +54,11 @@ halt-step (both parallel l r) h = encode-both parallel (halt l) (halt r)
 
 -- the kind, read at a byte, is that of the term there
 module _ {s : List ℕ} {i : ℕ} where
-  pub gone-at : getD s i 0 < 6 → (t : Term) → Stands s i t → Gone t
+  pub gone-at : getD s i 0 < 6 → (t : Term) → StandsIn s i t → Gone t
   gone-at h t x = omega (arith, stands-kind t x)
 
-  pub kept-at : getD s i 0 ≡ 7 → (t : Term) → Stands s i t → Kept t
+  pub kept-at : getD s i 0 ≡ 7 → (t : Term) → StandsIn s i t → Kept t
   kept-at h t x = omega (arith, stands-kind t x)
 
-  pub through-at : 6 ≤ getD s i 0 → getD s i 0 ≢ 7 → (t : Term) → Stands s i t → Through t
+  pub through-at : 6 ≤ getD s i 0 → getD s i 0 ≢ 7 → (t : Term) → StandsIn s i t → Through t
   through-at h h₇ t x = omega (arith, stands-kind t x)

@@ -6,14 +6,14 @@ use Prim.Native.Nat.{ℕ, zero, suc, _+_, _-_, _<_}
 use native.Mathlib.Omega.{arith}
 use lib.Dec.{ltb}
 use borrow.Author.Tests.{eq-eqb}
-use Rattle.cows.specs.Basics.{any, every, holds}
+use Rattle.cows.specs.Basics.{any, every, foundWith, oneIf}
 use Rattle.cows.specs.Terms.{Basic, nil, kill, invoke, Prefix, receive, wait, protection, delimitation, replication, Join, choice, parallel, Term, leaf, under, both, size, delimits, delimitsAtom}
 use Rattle.cows.specs.Kinds.{guard, open-kinds}
-use Rattle.cows.specs.Places.{Frame, inside, leftOf, rightOf, plug, Way, fill, Spot, descend, spot, wayTo, sub, frameDelimits, enclosed, passed}
-use Rattle.cows.specs.Within.{Guarded, one, counts, Within}
+use Rattle.cows.specs.Places.{Frame, inside, leftOf, rightOf, plug, Way, fill, Spot, descend, spotAt, wayTo, sub, frameDelimits, enclosed, passed}
+use Rattle.cows.specs.Within.{Guarded, counts, Within}
 use Rattle.cows.specs.Active.{live, onKind}
 use Rattle.cows.specs.Moves.{haltBeside, haltInside, afterKill}
-use Rattle.cows.specs.Allows.{Stands, Live}
+use Rattle.cows.specs.Allows.{Stands, StandsLive}
 use Rattle.cows.proofs.Basics.{never, cond-case, cond-case₂, and-true, or-false, not-so, every-append}
 use Rattle.cows.specs.Records.{At}
 use Rattle.cows.proofs.Places.{fill-spot, fill-append, descend-way, descend-here, at-part}
@@ -67,8 +67,8 @@ aside-fill w (both parallel s t) (suc n) k g l e =
     cond-case₂ (λ (z : Spot) (r : Term). live (z .way) ≡ true → z .here ≡ leaf (kill k) → fill (map haltBeside (z .way)) (leaf nil) ≡ fill (map haltBeside w) r) (ltb n (size s))
     (λ _. aside-fill (leftOf parallel t ∷ w) s n k (g .1)) (λ _. aside-fill (rightOf parallel s ∷ w) t (n - size s) k (g .2)) l e
 
-pub halt-aside : (t : Term) (n k : ℕ) → Guarded t → Live t n (leaf (kill k)) → fill (map haltBeside (wayTo t n)) (leaf nil) ≡ haltAside n t
-unfolding wayTo sub spot fill
+pub halt-aside : (t : Term) (n k : ℕ) → Guarded t → StandsLive t n (leaf (kill k)) → fill (map haltBeside (wayTo t n)) (leaf nil) ≡ haltAside n t
+unfolding wayTo sub spotAt fill
 halt-aside t n k g l = aside-fill [] t n k g (l .live) (l .at .stands)
 
 -- halting stops at the [k] nearest to the kill
@@ -82,25 +82,25 @@ pub guarded-at : (t : Term) (n : ℕ) → Guarded t → Guarded (sub t n)
 guarded-at = sub-ind Guarded (λ u t h. h) (λ j s t h. (h .1, h .2))
 
 delimits-itself : (k : ℕ) → delimitsAtom k (delimitation k) ≡ true
-unfolding delimitsAtom delimits holds
+unfolding delimitsAtom delimits foundWith
 delimits-itself k = eq-eqb k k refl
 
 -- A live kill at place n inside the [k] at place q, with c the body of [k]; no [k] stands inside another.
-module _ (k : ℕ) (t : Term) (n q : ℕ) (c : Term) (w : Within t) (l : Live t n (leaf (kill k))) (d : Stands t q (under (delimitation k) c))
+module _ (k : ℕ) (t : Term) (n q : ℕ) (c : Term) (w : Within t) (l : StandsLive t n (leaf (kill k))) (d : Stands t q (under (delimitation k) c))
     (low : q < n) (high : n < q + size (under (delimitation k) c)) where
   -- the place of the kill in c
   abbrev m : ℕ
   m = n - q - 1
 
   at-kill : At t n (wayTo c m ++ (inside (delimitation k) ∷ wayTo t q)) (sub c m)
-  unfolding descend wayTo sub spot size
+  unfolding descend wayTo sub spotAt size
   at-kill =
       let f : Way = inside (delimitation k) ∷ wayTo t q in
       subst (λ a. At t a (wayTo c m ++ f) (sub c m)) (omega arith)
       (at-part t q (suc m) (under (delimitation k) c) (wayTo c m ++ f) (sub c m) (d .placed) (d .stands) (omega arith)
       (rw (← descend-way [] f c m, ← descend-here f [] c m)))
 
-  pub live-kill : Live c m (leaf (kill k))
+  pub live-kill : StandsLive c m (leaf (kill k))
   unfolding size
   live-kill = record {
     at = record { placed = omega arith; stands = sym (at-kill .1) ∙ l .at .stands };
@@ -110,7 +110,7 @@ module _ (k : ℕ) (t : Term) (n q : ℕ) (c : Term) (w : Within t) (l : Live t 
   unenclosed : enclosed k (wayTo c m) ≡ false
   unenclosed = not-so λ h. omega (
     arith,
-    ap one (delimits-itself k),
+    ap oneIf (delimits-itself k),
     ap (counts k) (d .stands),
     ap (counts k) (fill-spot t q),
     ap (counts k) (fill-spot c m),

@@ -1,4 +1,4 @@
-pub mod Placed
+pub mod Aligned
 pub mod Children
 pub mod Halts
 pub mod Asides

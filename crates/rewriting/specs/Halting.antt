@@ -7,7 +7,7 @@ use lib.Dec.{ltb}
 use lib.ListN.{getD}
 use Rattle.cows.specs.Terms.{nil, Term, leaf, under, both, size}
 use Rattle.cows.specs.Moves.{halt}
-use Rattle.rewriting.specs.Placed.{Placed}
+use Rattle.rewriting.specs.Aligned.{Aligned}
 
 -- the record at place n becomes nil, and what stands beside the way down to it is halted
 unfoldable pub haltAside : ℕ → Term → Term
@@ -24,7 +24,7 @@ placeIn i a = (a - i) / 16
 
 -- By the ends of terms, byte a is the first byte of a place of the term at byte i.
 pub record PlaceOf (s ends : List ℕ) (i a : ℕ) : Type 0 where
-  pub at : Placed s ends i
+  pub at : Aligned s ends i
   pub from : i ≤ a
   pub before : a < 16 * getD ends (i / 16) 0
   pub whole : a % 16 ≡ 0

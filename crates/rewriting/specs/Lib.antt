@@ -1,2 +1,2 @@
-pub mod Placed
+pub mod Aligned
 pub mod Halting

@@ -11,8 +11,8 @@ ghost use mathlib.Core.Path.{_≡_};
 ghost use Prim.Native.Nat.{_-_};
 ghost use lib.ListN.{getD};
 ghost use Rattle.cows.specs.Moves.{elapse};
-ghost use Rattle.records.specs.Rewrites.{Ready, Rewrites};
-ghost use Rattle.rewriting.specs.Placed.{Placed};
+ghost use Rattle.records.specs.Rewrites.{Rewritable, Rewrites};
+ghost use Rattle.rewriting.specs.Aligned.{Aligned};
 
 // An interval lowered by d, to 0 at least.
 fn lower(n: u16, d: u16) -> u16
@@ -26,8 +26,8 @@ fn lower(n: u16, d: u16) -> u16
 
 // Writes the wait at byte `at` with its interval lowered by d, and its continuation as it is.
 fn lower_at(s: &[u8], ends: &[u16], at: usize, d: u16, dst: &mut [u8], to: usize) -> Places
-    requires { ⌜ Ready (elapse d) (now s) at (now dst) to ⌝ }
-    requires { ⌜ Placed (now s) (now ends) at ⌝ }
+    requires { ⌜ Rewritable (elapse d) (now s) at (now dst) to ⌝ }
+    requires { ⌜ Aligned (now s) (now ends) at ⌝ }
     requires { ⌜ getD (now s) at 0 ≡ 4 ⌝ }
     ensures { λ r. ⌜ Rewrites (elapse d) (now (s .entry)) at (now (dst .entry)) to (now (dst .exit)) (r .0) (r .1) ⌝ }
 {
@@ -38,8 +38,8 @@ fn lower_at(s: &[u8], ends: &[u16], at: usize, d: u16, dst: &mut [u8], to: usize
 
 // Writes the term at byte `at` after the time d: live waits are lowered; receives, replications and what stands behind a wait are kept whole.
 pub fn elapse_at(s: &[u8], ends: &[u16], at: usize, d: u16, dst: &mut [u8], to: usize) -> Places
-    requires { ⌜ Ready (elapse d) (now s) at (now dst) to ⌝ }
-    requires { ⌜ Placed (now s) (now ends) at ⌝ }
+    requires { ⌜ Rewritable (elapse d) (now s) at (now dst) to ⌝ }
+    requires { ⌜ Aligned (now s) (now ends) at ⌝ }
     ensures { λ r. ⌜ Rewrites (elapse d) (now (s .entry)) at (now (dst .entry)) to (now (dst .exit)) (r .0) (r .1) ⌝ }
 {
     let kind = s[at];

@@ -7,14 +7,14 @@ use records::copying::copy_term;
 use records::copying::nil_at;
 use records::kinds;
 ghost use Rattle.cows.specs.Moves.{halt};
-ghost use Rattle.records.specs.Rewrites.{Ready, Rewrites};
-ghost use Rattle.rewriting.specs.Placed.{Placed};
+ghost use Rattle.records.specs.Rewrites.{Rewritable, Rewrites};
+ghost use Rattle.rewriting.specs.Aligned.{Aligned};
 ghost use Rattle.rewriting.specs.Halting.{haltAside, placeIn, PlaceOf};
 
 // Writes the term at byte `at` halted: a protection is kept whole; parallels, delimitations and replications are gone through; all else becomes nil.
 pub fn halt_at(s: &[u8], ends: &[u16], at: usize, dst: &mut [u8], to: usize) -> Places
-    requires { ⌜ Ready halt (now s) at (now dst) to ⌝ }
-    requires { ⌜ Placed (now s) (now ends) at ⌝ }
+    requires { ⌜ Rewritable halt (now s) at (now dst) to ⌝ }
+    requires { ⌜ Aligned (now s) (now ends) at ⌝ }
     ensures { λ r. ⌜ Rewrites halt (now (s .entry)) at (now (dst .entry)) to (now (dst .exit)) (r .0) (r .1) ⌝ }
 {
     let kind = s[at];
@@ -36,7 +36,7 @@ pub fn halt_at(s: &[u8], ends: &[u16], at: usize, dst: &mut [u8], to: usize) -> 
 
 // Writes the term at byte `at` as a kill leaves it that fires at byte `a` of it: nil for the kill, and what stands beside the way down to it halted.
 pub fn aside_at(s: &[u8], ends: &[u16], at: usize, a: usize, dst: &mut [u8], to: usize) -> Places
-    requires { ⌜ Ready (haltAside (placeIn at a)) (now s) at (now dst) to ⌝ }
+    requires { ⌜ Rewritable (haltAside (placeIn at a)) (now s) at (now dst) to ⌝ }
     requires { ⌜ PlaceOf (now s) (now ends) at a ⌝ }
     ensures { λ r. ⌜ Rewrites (haltAside (placeIn at a)) (now (s .entry)) at (now (dst .entry)) to (now (dst .exit)) (r .0) (r .1) ⌝ }
 {

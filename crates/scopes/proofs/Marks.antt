@@ -7,13 +7,12 @@ use Prim.Native.Nat.{ℕ, suc, _+_, _≤_, _<_, max}
 use native.Mathlib.Omega.{arith}
 use lib.Dec.{ltb, leb}
 use borrow.Author.Tests.{lt-ltb, le-ltb, le-leb, lt-leb, ne-eqb}
-use Rattle.cows.specs.Basics.{member, holds}
+use Rattle.cows.specs.Basics.{member, foundWith, oneIf}
 use Rattle.cows.specs.Terms.{delimitation, Term, under, size, prefixed, delimits, binders}
 use Rattle.cows.specs.Kinds.{root, kindOf}
-use Rattle.cows.specs.Places.{spot, sub}
+use Rattle.cows.specs.Places.{spotAt, sub}
 use Rattle.cows.specs.Format.{byte, layout, record16}
 use Rattle.cows.specs.Tables.{delimitedBefore, again}
-use Rattle.cows.specs.Within.{one}
 use Rattle.cows.proofs.Basics.{lt-case}
 use Rattle.cows.proofs.Places.{size-pos}
 use Rattle.cows.proofs.Stands.{delimits-is, prefixed-is, delimited-member}
@@ -38,12 +37,12 @@ entered-none t a = refl
 
 module _ (t : Term) (j : ℕ) (h : kindOf (sub t j) ≢ 8) (a : ℕ) where
   reach-pass : reachOf t a j ≡ reachOf t a (suc j)
-  unfolding reachOf holds
+  unfolding reachOf foundWith
   reach-pass = rw (no-delimits (sub t j) h)
 
   pub entered-pass : enteredOf t j a ≡ enteredOf t (suc j) a
   unfolding enteredOf
-  entered-pass = ap (λ r. one (ltb 0 r)) reach-pass
+  entered-pass = ap (λ r. oneIf (ltb 0 r)) reach-pass
 
   pub mark-pass : markOf t j a ≡ markOf t (suc j) a
   unfolding markOf
@@ -56,7 +55,7 @@ module _ (t : Term) (j d : ℕ) {c : Term} (is : sub t j ≡ under (delimitation
   reach-here = rw (is-delimitsAt d (sub t j) c is)
 
   reach-other : (a : ℕ) → a ≢ d → reachOf t a (suc j) ≡ reachOf t a j
-  unfolding reachOf holds prefixed delimits
+  unfolding reachOf foundWith prefixed delimits
   reach-other a h = rw (is, ne-eqb a d h)
 
   pub entered-here : enteredOf t (suc j) d ≡ 1
@@ -65,14 +64,14 @@ module _ (t : Term) (j d : ℕ) {c : Term} (is : sub t j ≡ under (delimitation
 
   pub entered-other : (a : ℕ) → a ≢ d → enteredOf t (suc j) a ≡ enteredOf t j a
   unfolding enteredOf
-  entered-other a h = ap (λ r. one (ltb 0 r)) (reach-other a h)
+  entered-other a h = ap (λ r. oneIf (ltb 0 r)) (reach-other a h)
 
   pub mark-other : (a : ℕ) → a ≢ d → markOf t (suc j) a ≡ markOf t j a
   unfolding markOf
   mark-other a h = ap (λ r. cond (member a (binders t)) (suc r) 0) (reach-other a h)
 
-  again-here : again t j (spot t j) ≡ delimitedBefore t j d
-  unfolding again sub holds prefixed delimits
+  again-here : again t j (spotAt t j) ≡ delimitedBefore t j d
+  unfolding again sub foundWith prefixed delimits
   again-here = rw is
 
   module _ (l : j < size t) where
@@ -91,11 +90,11 @@ module _ (t : Term) (j d : ℕ) {c : Term} (is : sub t j ≡ under (delimitation
     mark-nearer h = omega (arith, mark-here j, mark-here (suc j), reach-here)
 
     -- a second delimitation of d
-    pub mark-again : leb 2 (markOf t j d) ≡ again t j (spot t j)
+    pub mark-again : leb 2 (markOf t j d) ≡ again t j (spotAt t j)
     mark-again = ap (leb 2) (mark-here j) ∙ (two (reachOf t d j) ∙ (sym (before-reach t d j) ∙ sym again-here))
 
-pub none-again : (t : Term) (j : ℕ) → kindOf (sub t j) ≢ 8 → again t j (spot t j) ≡ false
-unfolding again sub holds
+pub none-again : (t : Term) (j : ℕ) → kindOf (sub t j) ≢ 8 → again t j (spotAt t j) ≡ false
+unfolding again sub foundWith
 none-again t j h = rw (no-delimits (sub t j) h)
 
 -- once every place is entered
@@ -103,6 +102,6 @@ pub entered-all : (t : Term) (a : ℕ) → enteredOf t (size t) a ≡ markOf t 0
 unfolding enteredOf markOf reachOf
 entered-all t a = rw (binders-reach t a) (go (ltb 0 (reachOf t a (size t))))
   where
-    go : (b : Bool) → one b ≡ cond b 1 0
+    go : (b : Bool) → oneIf b ≡ cond b 1 0
     go true = refl
     go false = refl

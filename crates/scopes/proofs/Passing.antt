@@ -12,12 +12,12 @@ use lib.ListN.{length, getD}
 use borrow.Author.Tests.{lt-ltb, le-ltb, eq-eqb, ne-eqb}
 use Rattle.cows.specs.Basics.{any, placeIf, orElse, firstFrom}
 use Rattle.cows.specs.Terms.{Term, size}
-use Rattle.cows.specs.Places.{spot, sub, first}
+use Rattle.cows.specs.Places.{spotAt, sub, first}
 use Rattle.cows.specs.Tables.{unbound, again, escaped, clash}
 use Rattle.cows.proofs.Basics.{cond-case, lt-case, or-none, from-next, from-end}
 use Rattle.records.specs.Holds.{Holds}
 use Rattle.scopes.specs.declared.Scoping.the-variants.{Fine, Open, Clash}
-use Rattle.scopes.specs.Scopes.{scopingOf, Passed, level, firstClash}
+use Rattle.scopes.specs.Scopes.{scopingOf, PassedTo, level, firstClash}
 use Rattle.scopes.proofs.Marks.{none-again}
 use Rattle.records.proofs.Stands.{holds-size}
 use Rattle.scopes.proofs.Uses.{kind-here, none-used}
@@ -42,19 +42,19 @@ first-most c n j false h l = h
 
 -- Before place j of n, with the first clash c so far (n if there is none).
 pub record Going (s pages marks : List ℕ) (n c j : ℕ) (t : Term) : Type 0 where
-  pub passed : Passed s pages marks j t
-  pub opened : first unbound t ≡ firstFrom (λ m. unbound m (spot t m)) j (n - j)
-  pub clashes : first (clash t) t ≡ orElse (placeIf (ltb c n) c) (firstFrom (λ m. clash t m (spot t m)) j (n - j))
+  pub passed : PassedTo s pages marks j t
+  pub opened : first unbound t ≡ firstFrom (λ m. unbound m (spotAt t m)) j (n - j)
+  pub clashes : first (clash t) t ≡ orElse (placeIf (ltb c n) c) (firstFrom (λ m. clash t m (spotAt t m)) j (n - j))
 
-pub going-start : (s pages marks : List ℕ) (n : ℕ) (t : Term) → n ≡ length s / 16 → Passed s pages marks 0 t → Going s pages marks n n 0 t
+pub going-start : (s pages marks : List ℕ) (n : ℕ) (t : Term) → n ≡ length s / 16 → PassedTo s pages marks 0 t → Going s pages marks n n 0 t
 unfolding first placeIf orElse
 going-start s pages marks n t e p =
     let z : n ≡ size t = omega (arith, holds-size s t (p .holds)) in
     record { passed = p; opened = rw (sub-zero n, z); clashes = rw (le-ltb n n (omega arith), sub-zero n, z) }
 
 module _ (s pages marks : List ℕ) (n c j : ℕ) (t : Term) (g : Going s pages marks n c j t) where
-  pub going-turn : (out : List ℕ) (b : Bool) (c′ : ℕ) → c ≤ n → j < n → unbound j (spot t j) ≡ false → clash t j (spot t j) ≡ b → c′ ≡ firstClash c n j b
-      → Passed s pages out (j + 1) t → Going s pages out n c′ (j + 1) t
+  pub going-turn : (out : List ℕ) (b : Bool) (c′ : ℕ) → c ≤ n → j < n → unbound j (spotAt t j) ≡ false → clash t j (spotAt t j) ≡ b → c′ ≡ firstClash c n j b
+      → PassedTo s pages out (j + 1) t → Going s pages out n c′ (j + 1) t
   unfolding placeIf orElse
   going-turn out b c′ h l u e ec p = record {
     passed = p;
@@ -62,7 +62,7 @@ module _ (s pages marks : List ℕ) (n c j : ℕ) (t : Term) (g : Going s pages 
     clashes = g .clashes ∙ (ap (orElse (placeIf (ltb c n) c)) (from-next _ j n l) ∙ (rw (e, ec) (clash-next c n j b _ h l)));
   }
 
-  pub going-open : j < n → unbound j (spot t j) ≡ true → Open j ≡ scopingOf (first unbound t) (first (clash t) t)
+  pub going-open : j < n → unbound j (spotAt t j) ≡ true → Open j ≡ scopingOf (first unbound t) (first (clash t) t)
   unfolding placeIf orElse
   going-open l u = let e : first unbound t ≡ some j = g .opened ∙ (from-next _ j n l ∙ (rw u)) in rw e
 
@@ -92,14 +92,14 @@ level-two f false false e h = absurd (omega arith)
 
 -- What is found at one place: at a delimitation only a second one can clash, elsewhere only the uses.
 module _ (s : List ℕ) (t : Term) (h : Holds s t) (j : ℕ) (l : j < length s / 16) where
-  pub found-delimitation : getD s (16 * j) 0 ≡ 8 → (unbound j (spot t j) ≡ false) × (clash t j (spot t j) ≡ again t j (spot t j))
+  pub found-delimitation : getD s (16 * j) 0 ≡ 8 → (unbound j (spotAt t j) ≡ false) × (clash t j (spotAt t j) ≡ again t j (spotAt t j))
   unfolding unbound clash escaped sub any
   found-delimitation k =
       let e = sym (kind-here s t h j l) ∙ k in
       let z = none-used (sub t j) (λ x. omega arith) (λ x. omega arith) (λ x. omega arith) in
-      rw z (refl, or-none (again t j (spot t j)))
+      rw z (refl, or-none (again t j (spotAt t j)))
 
-  pub found-other : (f : ℕ) → f ≡ level (unbound j (spot t j)) (escaped t j (spot t j)) → f ≢ 2 → getD s (16 * j) 0 ≢ 8 → (unbound j (spot t j) ≡ false) × (clash t j (spot t j) ≡ eqb f 1)
+  pub found-other : (f : ℕ) → f ≡ level (unbound j (spotAt t j)) (escaped t j (spotAt t j)) → f ≢ 2 → getD s (16 * j) 0 ≢ 8 → (unbound j (spotAt t j) ≡ false) × (clash t j (spotAt t j) ≡ eqb f 1)
   unfolding clash
   found-other f e n k =
-      rw (none-again t j (λ x. k (kind-here s t h j l ∙ x)), e) (level-one (unbound j (spot t j)) (escaped t j (spot t j)) (λ x. n (e ∙ x)))
+      rw (none-again t j (λ x. k (kind-here s t h j l ∙ x)), e) (level-one (unbound j (spotAt t j)) (escaped t j (spotAt t j)) (λ x. n (e ∙ x)))

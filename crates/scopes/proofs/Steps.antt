@@ -8,14 +8,14 @@ use native.Mathlib.Numerals.{add-one}
 use lib.Dec.{leb}
 use lib.ListN.{length, getD, set}
 use Rattle.cows.specs.Terms.{delimitation, Term, under, size, below}
-use Rattle.cows.specs.Places.{spot, sub}
+use Rattle.cows.specs.Places.{spotAt, sub}
 use Rattle.cows.specs.Format.{word}
 use Rattle.cows.specs.Tables.{again}
 use Rattle.cows.proofs.Basics.{lt-case, eq-case}
 use Rattle.records.specs.Ends.{endAt, EndsFrom}
 use Rattle.records.specs.Holds.{Holds}
 use Rattle.records.proofs.Shapes.{end-within, end-term}
-use Rattle.scopes.specs.Scopes.{slotOf, Paged, Keeps, enteredOf, markOf, Passed, EndsOf}
+use Rattle.scopes.specs.Scopes.{directorySlot, Paged, Keeps, enteredOf, markOf, PassedTo, EndsOf}
 use Rattle.scopes.proofs.Directory.{keeps-as, store-keeps}
 use Rattle.scopes.proofs.Marks.{entered-pass, mark-pass, entered-here, entered-other, mark-other, mark-there, mark-farther, mark-nearer, mark-again}
 use Rattle.records.proofs.Stands.{holds-size}
@@ -26,14 +26,14 @@ module _ (s pages marks : List ℕ) (j : ℕ) (l : j < length s / 16) (k : getD 
   pub enter-pass : Holds s t → Keeps pages marks (enteredOf t j) → Keeps pages marks (enteredOf t (j + 1))
   enter-pass h = rw (add-one j) (keeps-as pages marks (enteredOf t j) (enteredOf t (suc j)) (entered-pass t j (λ e. k (kind-here s t h j l ∙ e))))
 
-  pub pass-other : Passed s pages marks j t → Passed s pages marks (j + 1) t
+  pub pass-other : PassedTo s pages marks j t → PassedTo s pages marks (j + 1) t
   pass-other p = record {
     holds = p .holds;
     keeps = rw (add-one j) (keeps-as pages marks (markOf t j) (markOf t (suc j)) (mark-pass t j (λ e. k (kind-here s t (p .holds) j l ∙ e))) (p .keeps));
   }
 
 -- The delimitation of a at place j, whose slot is p.
-module _ (s pages marks : List ℕ) (j : ℕ) (l : j < length s / 16) (k : getD s (16 * j) 0 ≡ 8) (a p : ℕ) (ea : a ≡ word s (16 * j + 2)) (ep : p ≡ slotOf pages a) (g : Paged pages marks) (t : Term) (h : Holds s t) where
+module _ (s pages marks : List ℕ) (j : ℕ) (l : j < length s / 16) (k : getD s (16 * j) 0 ≡ 8) (a p : ℕ) (ea : a ≡ word s (16 * j + 2)) (ep : p ≡ directorySlot pages a) (g : Paged pages marks) (t : Term) (h : Holds s t) where
   within : j < size t
   within = place-inside s t j h l
 
@@ -54,14 +54,14 @@ module _ (s pages marks : List ℕ) (j : ℕ) (l : j < length s / 16) (k : getD 
         lt-case (0 < getD pages (a / 256) 0) 0 (getD pages (a / 256) 0) (λ z. z)
         (λ z. absurd (omega (arith, f .empty a (is .1) (omega arith), mark-there t j a (is .0) within)))
 
-    pub pass-again : leb 2 (getD marks p 0) ≡ again t j (spot t j)
+    pub pass-again : leb 2 (getD marks p 0) ≡ again t j (spotAt t j)
     pass-again = rw mark-is (mark-again t j a (is .0) within)
 
     module _ (ends : List ℕ) (o : EndsOf s ends) where
       end-here : getD ends j 0 + 1 ≡ j + size (sub t j) + 1
       end-here = ap (λ n. n + 1) (o .right t h j within)
 
-      pub pass-farther : getD marks p 0 < getD ends j 0 + 1 → Passed s pages (set marks p (getD ends j 0 + 1)) (j + 1) t
+      pub pass-farther : getD marks p 0 < getD ends j 0 + 1 → PassedTo s pages (set marks p (getD ends j 0 + 1)) (j + 1) t
       pass-farther z = record {
         holds = h;
         keeps = rw (ep, add-one j)
@@ -69,7 +69,7 @@ module _ (s pages marks : List ℕ) (j : ℕ) (l : j < length s / 16) (k : getD 
             (mark-farther t j a (is .0) within (omega (arith, mark-is, end-here)) ∙ sym end-here) (mark-other t j a (is .0)) f);
       }
 
-      pub pass-nearer : getD ends j 0 + 1 ≤ getD marks p 0 → Passed s pages marks (j + 1) t
+      pub pass-nearer : getD ends j 0 + 1 ≤ getD marks p 0 → PassedTo s pages marks (j + 1) t
       pass-nearer z = record {
         holds = h;
         keeps = rw (add-one j)

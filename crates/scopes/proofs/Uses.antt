@@ -13,7 +13,7 @@ use borrow.Author.Tests.{lt-ltb, le-ltb, le-leb, lt-leb, ne-eqb, eqb-true, eqb-f
 use Rattle.cows.specs.Basics.{any, every, member}
 use Rattle.cows.specs.Terms.{nil, kill, invoke, receive, wait, protection, delimitation, replication, choice, parallel, Term, leaf, under, both, size, value, variable, label, datum, atom, bindable, below, binders, uses, usesBasic, usesPrefix}
 use Rattle.cows.specs.Kinds.{root, kindOf}
-use Rattle.cows.specs.Places.{spot, wayTo, sub, enclosed}
+use Rattle.cows.specs.Places.{spotAt, wayTo, sub, enclosed}
 use Rattle.cows.specs.Format.{byte, word, layout, record16}
 use Rattle.cows.specs.Tables.{unbound, escaped}
 use Rattle.cows.proofs.Basics.{lt-case, and-true, true-and, or-left, or-right, or-false, or-none, or-case, any-append}
@@ -24,7 +24,7 @@ use Rattle.cows.proofs.Reach.{reaches-on, reach-some, some-reach, enclosed-reac
 use Rattle.records.proofs.Stands.{holds-size, holds-kind, holds-word}
 use Rattle.cows.proofs.Fields.{byte-at, kind-kill, kind-invoke, kind-receive, kind-delimitation, first-kill, first-delimitation, first-invoke, second-invoke, count-invoke, slot-invoke, first-receive, second-receive, count-receive, slot-receive}
 use Rattle.records.specs.Holds.{Holds}
-use Rattle.scopes.specs.Scopes.{slotOf, markOf, Passed, level, opens, strays, faultBy, Levels, worseOf, TupleAt}
+use Rattle.scopes.specs.Scopes.{directorySlot, markOf, PassedTo, level, openUse, strays, faultBy, Levels, worseOf, TupleAt}
 
 -- The places of a table that holds a term.
 pub place-inside : (s : List ℕ) (t : Term) (j : ℕ) → Holds s t → j < length s / 16 → j < size t
@@ -57,7 +57,7 @@ module _ (t : Term) (j : ℕ) (l : j < size t) (a : ℕ) where
       go (suc r) e = rw (lt-ltb 0 (suc r) (omega arith)) (lt-case (ltb (j + 1) (suc (reachOf t a j)) ≡ ltb j (reachOf t a j)) j (reachOf t a j)
           (λ h. rw (lt-ltb (j + 1) (suc (reachOf t a j)) (omega arith), lt-ltb j (reachOf t a j) h)) (λ h. rw (le-ltb (j + 1) (suc (reachOf t a j)) (omega arith), le-ltb j (reachOf t a j) h)))
 
-  pub fault-mark : atom a ≡ true → faultBy (markOf t j a) a j ≡ level (opens t j a) (strays t j a)
+  pub fault-mark : atom a ≡ true → faultBy (markOf t j a) a j ≡ level (openUse t j a) (strays t j a)
   unfolding faultBy level
   fault-mark h =
       let (p, q) = atom-sets a h in
@@ -100,7 +100,7 @@ unfolding level any
 tuple-start p q ws = refl
 
 pub tuple-turn : (s pages marks ws : List ℕ) (j i : ℕ) (p q : ℕ → Bool) → Levels pages marks j p q → TupleAt s j ws → every atom ws ≡ true → i < length ws
-    → (x w f y : ℕ) → x ≡ level (any p (take i ws)) (any q (take i ws)) → w ≡ word s (16 * j + 6 + 2 * i) → f ≡ faultBy (getD marks (slotOf pages w) 0) w j → y ≡ worseOf x f
+    → (x w f y : ℕ) → x ≡ level (any p (take i ws)) (any q (take i ws)) → w ≡ word s (16 * j + 6 + 2 * i) → f ≡ faultBy (getD marks (directorySlot pages w) 0) w j → y ≡ worseOf x f
     → y ≡ level (any p (take (i + 1) ws)) (any q (take (i + 1) ws))
 tuple-turn s pages marks ws j i p q v h e l x w f y ex ew ef ey =
     let z = ew ∙ h .slot i (omega (arith, h .few)) in
@@ -207,20 +207,20 @@ none-used (both choice l r) x y z = refl
 none-used (both parallel l r) x y z = refl
 
 -- The level of a record, by its uses; of one use, of an endpoint with its tuple, of a kill, of any other record.
-level-uses : (t : Term) (j : ℕ) (l : List ℕ) → uses (sub t j) ≡ l → level (any (opens t j) l) (any (strays t j) l) ≡ level (unbound j (spot t j)) (escaped t j (spot t j))
+level-uses : (t : Term) (j : ℕ) (l : List ℕ) → uses (sub t j) ≡ l → level (any (openUse t j) l) (any (strays t j) l) ≡ level (unbound j (spotAt t j)) (escaped t j (spotAt t j))
 unfolding unbound escaped wayTo sub
 level-uses t j l e = rw e
 
-module _ (s pages marks : List ℕ) (j : ℕ) (t : Term) (h : Passed s pages marks j t) (l : j < length s / 16) where
+module _ (s pages marks : List ℕ) (j : ℕ) (t : Term) (h : PassedTo s pages marks j t) (l : j < length s / 16) where
   abbrev fault : ℕ → ℕ
-  fault a = faultBy (getD marks (slotOf pages a) 0) a j
+  fault a = faultBy (getD marks (directorySlot pages a) 0) a j
 
-  pub use-level : Levels pages marks j (opens t j) (strays t j)
+  pub use-level : Levels pages marks j (openUse t j) (strays t j)
   use-level = record { at = λ a e. rw (h .keeps .kept a (atom-small a e)) (fault-mark t j (place-inside s t j (h .holds) l) a e) }
 
   pub endpoint-level : (eqb (getD s (16 * j) 0) 2 || eqb (getD s (16 * j) 0) 3) ≡ true
-      → (f : ℕ) → ((ws : List ℕ) → TupleAt s j ws → every atom ws ≡ true → f ≡ level (any (opens t j) ws) (any (strays t j) ws))
-      → worseOf (fault (word s (16 * j + 2))) (worseOf (fault (word s (16 * j + 4))) f) ≡ level (unbound j (spot t j)) (escaped t j (spot t j))
+      → (f : ℕ) → ((ws : List ℕ) → TupleAt s j ws → every atom ws ≡ true → f ≡ level (any (openUse t j) ws) (any (strays t j) ws))
+      → worseOf (fault (word s (16 * j + 2))) (worseOf (fault (word s (16 * j + 4))) f) ≡ level (unbound j (spotAt t j)) (escaped t j (spotAt t j))
   unfolding any
   endpoint-level k f g =
       let (p, o, ws, e) = endpoint-here s t (h .holds) j l (rw (kind-here s t (h .holds) j l) at k) in
@@ -230,19 +230,19 @@ module _ (s pages marks : List ℕ) (j : ℕ) (t : Term) (h : Passed s pages mar
         g ws (e .tuple) (e .tuple-atoms),
         use-level .at p (e .partner-atom),
         use-level .at o (e .operation-atom),
-        level-worse (opens t j o) (strays t j o) (any (opens t j) ws) (any (strays t j) ws),
-        level-worse (opens t j p) (strays t j p) (opens t j o || any (opens t j) ws) (strays t j o || any (strays t j) ws),
+        level-worse (openUse t j o) (strays t j o) (any (openUse t j) ws) (any (strays t j) ws),
+        level-worse (openUse t j p) (strays t j p) (openUse t j o || any (openUse t j) ws) (strays t j o || any (strays t j) ws),
       )
       (level-uses t j (p ∷ o ∷ ws) (e .used))
 
-  pub kill-level : getD s (16 * j) 0 ≡ 1 → fault (word s (16 * j + 2)) ≡ level (unbound j (spot t j)) (escaped t j (spot t j))
+  pub kill-level : getD s (16 * j) 0 ≡ 1 → fault (word s (16 * j + 2)) ≡ level (unbound j (spotAt t j)) (escaped t j (spotAt t j))
   unfolding any
   kill-level k =
       let (e, u) = kill-here s t (h .holds) j l (sym (kind-here s t (h .holds) j l) ∙ k) in
       let x = word s (16 * j + 2) in
-      use-level .at x e ∙ (rw (or-none (opens t j x), or-none (strays t j x)) at (level-uses t j (x ∷ []) u))
+      use-level .at x e ∙ (rw (or-none (openUse t j x), or-none (strays t j x)) at (level-uses t j (x ∷ []) u))
 
-  pub none-level : (eqb (getD s (16 * j) 0) 2 || eqb (getD s (16 * j) 0) 3) ≡ false → getD s (16 * j) 0 ≢ 1 → 0 ≡ level (unbound j (spot t j)) (escaped t j (spot t j))
+  pub none-level : (eqb (getD s (16 * j) 0) 2 || eqb (getD s (16 * j) 0) 3) ≡ false → getD s (16 * j) 0 ≢ 1 → 0 ≡ level (unbound j (spotAt t j)) (escaped t j (spotAt t j))
   unfolding any level
   none-level y x =
       let k = kind-here s t (h .holds) j l in

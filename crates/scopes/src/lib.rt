@@ -12,11 +12,11 @@ ghost use Prim.Native.Nat.{ℕ, _+_, _*_, _/_, _<_, _≤_};
 ghost use lib.ListN.{length, getD};
 ghost use Rattle.cows.specs.Basics.{any, every};
 ghost use Rattle.cows.specs.Terms.{Term, atom};
-ghost use Rattle.cows.specs.Places.{first, spot};
+ghost use Rattle.cows.specs.Places.{first, spotAt};
 ghost use Rattle.cows.specs.Tables.{unbound, again, escaped, clash};
 ghost use Rattle.records.specs.Ends.{EndsFrom};
 ghost use Rattle.records.specs.Holds.{Holds};
-ghost use Rattle.scopes.specs.Scopes.{scopingOf, slotOf, Paged, Growing, Blank, Given, Entered, Passed, EndsOf, level, faultBy, Levels, worseOf, TupleAt, firstClash};
+ghost use Rattle.scopes.specs.Scopes.{scopingOf, directorySlot, Paged, GrowingDirectory, BlankDirectory, PageGiven, AllEntered, PassedTo, EndsOf, level, faultBy, Levels, worseOf, TupleAt, firstClash};
 
 // The first use outside every delimitation (refusal 6), or else the first clash (refusal 7).
 pub enum Scoping {
@@ -40,7 +40,7 @@ fn wide32(x: u32) -> usize
 // Where the directory keeps the atom a.
 fn slot_of(pages: &[u32], a: u16) -> usize
     requires { ⌜ length (now pages) ≡ 256 ⌝ }
-    ensures { λ r. ⌜ r ≡ slotOf (now (pages .entry)) a ⌝ }
+    ensures { λ r. ⌜ r ≡ directorySlot (now (pages .entry)) a ⌝ }
 {
     wide32(pages[wide16(a / 256)]) + wide16(a % 256)
 }
@@ -48,7 +48,7 @@ fn slot_of(pages: &[u32], a: u16) -> usize
 // Gives out a page from `top` on if a's page is not there; the new top, or 0 if there is no room.
 fn give_page(pages: &mut [u32], a: u16, top: usize, room: usize) -> usize
     requires { ⌜ (length (now pages) ≡ 256) × (top ≤ 65792) ⌝ }
-    ensures { λ r. ⌜ ((marks : List ℕ) → length marks ≡ room → Growing (now (pages .entry)) marks top → Given (now (pages .entry)) (now (pages .exit)) marks a r) ⌝ }
+    ensures { λ r. ⌜ ((marks : List ℕ) → length marks ≡ room → GrowingDirectory (now (pages .entry)) marks top → PageGiven (now (pages .entry)) (now (pages .exit)) marks a r) ⌝ }
 {
     let p = wide16(a / 256);
     if pages[p] != 0 {
@@ -63,8 +63,8 @@ fn give_page(pages: &mut [u32], a: u16, top: usize, room: usize) -> usize
 
 // Enters every atom that the table delimits; false if there are more pages than room.
 fn enter_all(s: &[u8], pages: &mut [u32], marks: &mut [u16]) -> bool
-    requires { ⌜ Blank (now pages) (now marks) ⌝ }
-    ensures { λ r. ⌜ Entered (now (s .entry)) (now (pages .exit)) (now (marks .exit)) r ⌝ }
+    requires { ⌜ BlankDirectory (now pages) (now marks) ⌝ }
+    ensures { λ r. ⌜ AllEntered (now (s .entry)) (now (pages .exit)) (now (marks .exit)) r ⌝ }
 {
     let n = s.len() / 16;
     let mut top: usize = 256;
@@ -89,7 +89,7 @@ fn enter_all(s: &[u8], pages: &mut [u32], marks: &mut [u16]) -> bool
 // The use of a at place j: 0 in order, 1 a delimited value outside, 2 a variable or a label outside.
 fn use_fault(pages: &[u32], marks: &[u16], a: u16, j: usize) -> u8
     requires { ⌜ Paged (now pages) (now marks) × (j < 2048) ⌝ }
-    ensures { λ r. ⌜ r ≡ faultBy (getD (now (marks .entry)) (slotOf (now (pages .entry)) a) 0) a j ⌝ }
+    ensures { λ r. ⌜ r ≡ faultBy (getD (now (marks .entry)) (directorySlot (now (pages .entry)) a) 0) a j ⌝ }
 {
     let v = wide16(marks[slot_of(pages, a)]);
     if j + 1 < v {
@@ -131,7 +131,7 @@ fn tuple_fault(s: &[u8], pages: &[u32], marks: &[u16], j: usize) -> u8
 // The worst use of the record at place j.
 fn record_fault(s: &[u8], pages: &[u32], marks: &[u16], j: usize) -> u8
     requires { ⌜ Paged (now pages) (now marks) × (j < 2048) × (j < length (now s) / 16) ⌝ }
-    ensures { λ r. ⌜ ((t : Term) → Passed (now (s .entry)) (now (pages .entry)) (now (marks .entry)) j t → r ≡ level (unbound j (spot t j)) (escaped t j (spot t j))) ⌝ }
+    ensures { λ r. ⌜ ((t : Term) → PassedTo (now (s .entry)) (now (pages .entry)) (now (marks .entry)) j t → r ≡ level (unbound j (spotAt t j)) (escaped t j (spotAt t j))) ⌝ }
 {
     let k = s[16 * j];
     if (k == kinds::INVOKE) | (k == kinds::RECEIVE) {
@@ -148,7 +148,7 @@ fn record_fault(s: &[u8], pages: &[u32], marks: &[u16], j: usize) -> u8
 // Passes the delimitation at place j; whether one of its atom was passed before.
 fn pass_delimitation(s: &[u8], ends: &[u16], pages: &[u32], marks: &mut [u16], j: usize) -> bool
     requires { ⌜ EndsOf (now s) (now ends) × Paged (now pages) (now marks) × (j < length (now s) / 16) × (getD (now s) (16 * j) 0 ≡ 8) ⌝ }
-    ensures { λ r. ⌜ Paged (now (pages .entry)) (now (marks .exit)) × ((t : Term) → Passed (now (s .entry)) (now (pages .entry)) (now (marks .entry)) j t → Passed (now (s .entry)) (now (pages .entry)) (now (marks .exit)) (j + 1) t × (r ≡ again t j (spot t j))) ⌝ }
+    ensures { λ r. ⌜ Paged (now (pages .entry)) (now (marks .exit)) × ((t : Term) → PassedTo (now (s .entry)) (now (pages .entry)) (now (marks .entry)) j t → PassedTo (now (s .entry)) (now (pages .entry)) (now (marks .exit)) (j + 1) t × (r ≡ again t j (spotAt t j))) ⌝ }
 {
     let p = slot_of(pages, word_at(s, 16 * j + 2));
     let v = marks[p];
@@ -169,7 +169,7 @@ fn first_clash(c: usize, n: usize, j: usize, here: bool) -> usize
 // Both refusals over a table whose atoms are entered.
 fn pass(s: &[u8], ends: &[u16], pages: &[u32], marks: &mut [u16]) -> Scoping
     requires { ⌜ EndsOf (now s) (now ends) × Paged (now pages) (now marks) ⌝ }
-    ensures { λ r. ⌜ ((t : Term) → Passed (now (s .entry)) (now (pages .entry)) (now (marks .entry)) 0 t → r ≡ scopingOf (first unbound t) (first (clash t) t)) ⌝ }
+    ensures { λ r. ⌜ ((t : Term) → PassedTo (now (s .entry)) (now (pages .entry)) (now (marks .entry)) 0 t → r ≡ scopingOf (first unbound t) (first (clash t) t)) ⌝ }
 {
     let n = s.len() / 16;
     let mut clash = n;

@@ -1,7 +1,7 @@
 -- Refusal 13 for a whole meeting, slot by slot.
 use mathlib.Core.Path.{_≡_, refl, subst}
 use mathlib.Core.Bool.{true, false, _&&_}
-use mathlib.Core.List.{List, _∷_}
+use mathlib.Core.List.{List}
 use Prim.Native.Nat.{ℕ, zero, suc, _+_, _*_}
 use lib.Dec.{eqb}
 use lib.ListN.{getD}
@@ -16,10 +16,10 @@ use Rattle.cows.proofs.Basics.{never, clash, and-true, or-left, or-right, or-fa
 use Rattle.cows.proofs.Sets.{datum-value}
 use Rattle.cows.proofs.Stands.{right-at}
 use Rattle.cows.proofs.Meeting.{Fits, fit-fits}
-use Rattle.matching.specs.Matching.{slotTest, EndsAt}
+use Rattle.matching.specs.Matching.{slotTest, ActionAt}
 use Rattle.matching.proofs.Matches.{matches-every}
 use Rattle.matching.proofs.Parties.{receive-ends, invoke-ends}
-use Rattle.scoping.specs.Scopes.{Meets, SlotSends}
+use Rattle.scoping.specs.Scopes.{MatchedParties, SlotSends}
 
 -- what a variable takes is a value of the tuple sent
 slot-sent : {ws vs : List ℕ} {σ : Substitution} → Matches ws vs σ → every datum vs ≡ true → any variable vs ≡ false → (i : ℕ) → variable (getD ws i 0) ≡ true
@@ -36,14 +36,14 @@ slot-sent (equals {v = v} {vs = vs} x m) d n (suc i) e =
     let (f, k) = slot-sent m (and-true (datum v) (every datum vs) d .1) (or-false (variable v) (any variable vs) n .1) i e in
     (f, or-right (eqb (getD vs i 0) v) _ k)
 
-module _ (s : List ℕ) (a b : ℕ) (receiver : List ℕ) (k : ℕ) (sender : List ℕ) (n : ℕ) (t : Term) (σ : Substitution) (h : Meets s a b receiver k sender n t σ) where
+module _ (s : List ℕ) (a b : ℕ) (receiver : List ℕ) (k : ℕ) (sender : List ℕ) (n : ℕ) (t : Term) (σ : Substitution) (h : MatchedParties s a b receiver k sender n t σ) where
   fitted : Fits (h .receive) (h .invoke) σ
   fitted = fit-fits (h .receive) (h .invoke) σ (h .fits)
 
-  ends-a : EndsAt s a (h .receive)
+  ends-a : ActionAt s a (h .receive)
   ends-a = receive-ends s t a (h .to-receiver .holds) (h .to-receiver .inside) (h .receive) _ (h .receives)
 
-  ends-b : EndsAt s b (h .invoke)
+  ends-b : ActionAt s b (h .invoke)
   ends-b = invoke-ends s t b (h .to-sender .holds) (h .to-sender .inside) (h .invoke) (h .invokes)
 
   -- a slot of the two tuples

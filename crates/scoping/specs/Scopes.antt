@@ -4,7 +4,7 @@ use mathlib.Core.Bool.{true}
 use mathlib.Core.List.{List}
 use Prim.Native.Nat.{ℕ}
 use Rattle.cows.specs.Basics.{member}
-use Rattle.cows.specs.Terms.{Term, leaf, under, Ends, value, variable, below, uses, receiveOf, invokeOf}
+use Rattle.cows.specs.Terms.{Term, leaf, under, Action, value, variable, below, uses, receiveOf, invokeOf}
 use Rattle.cows.specs.Places.{sub}
 use Rattle.cows.specs.Within.{Within}
 use Rattle.cows.specs.Moves.{Substitution, binds, fit}
@@ -19,12 +19,12 @@ pub record Sends (s way-a : List ℕ) (k : ℕ) (way-b : List ℕ) (n v : ℕ) (
   pub used : member v (uses (sub t b)) ≡ true
 
 -- The ways to a receive at place a and to an invoke at place b of a term within the limits, and what the two bind.
-pub record Meets (s : List ℕ) (a b : ℕ) (receiver : List ℕ) (k : ℕ) (sender : List ℕ) (n : ℕ) (t : Term) (σ : Substitution) : Type 0 where
+pub record MatchedParties (s : List ℕ) (a b : ℕ) (receiver : List ℕ) (k : ℕ) (sender : List ℕ) (n : ℕ) (t : Term) (σ : Substitution) : Type 0 where
   pub within : Within t
   pub to-receiver : Walks s receiver k t a
   pub to-sender : Walks s sender n t b
-  pub receive : Ends
-  pub invoke : Ends
+  pub receive : Action
+  pub invoke : Action
   pub receives : sub t a ≡ under (receiveOf receive) (below (sub t a))
   pub invokes : sub t b ≡ leaf (invokeOf invoke)
   pub fits : fit receive invoke ≡ binds σ

@@ -15,7 +15,7 @@ ghost use Rattle.matching.specs.Matching.{slotTest};
 ghost use Rattle.cows.specs.Terms.{Term};
 ghost use Rattle.cows.specs.Moves.{Substitution, inScope};
 ghost use Rattle.ways.specs.Ways.{Walk};
-ghost use Rattle.scoping.specs.Scopes.{Sends, Meets, SlotSends};
+ghost use Rattle.scoping.specs.Scopes.{Sends, MatchedParties, SlotSends};
 
 // The variable x of the receive and the value v of the invoke, by the ways to both.
 fn in_scope(
@@ -72,7 +72,7 @@ pub fn all_in_scope(
     n: usize,
 ) -> bool
     requires { ⌜ Walk (now s) (now receiver) k × Walk (now s) (now sender) n × (16 * a + 15 < length (now s)) × (16 * b + 15 < length (now s)) ⌝ }
-    ensures { λ r. ⌜ ((t : Term) (σ : Substitution) → Meets (now (s .entry)) a b (now (receiver .entry)) k (now (sender .entry)) n t σ → r ≡ every (inScope t a b) σ) ⌝ }
+    ensures { λ r. ⌜ ((t : Term) (σ : Substitution) → MatchedParties (now (s .entry)) a b (now (receiver .entry)) k (now (sender .entry)) n t σ → r ≡ every (inScope t a b) σ) ⌝ }
 {
     let p = 16 * a;
     let q = 16 * b;

@@ -1,4 +1,4 @@
--- From a plan and what writing gives to the reply and the output of a step (specs/Replies): the same for every move m with the place of its plan.
+-- From a plan and what writing gives to the replyTo and the output of a step (specs/Replies): the same for every move m with the place of its plan.
 use mathlib.Core.Path.{_≡_, refl, sym, ap, _∙_}
 use mathlib.Core.Logic.{_≢_}
 use mathlib.Core.Bool.{Bool, true, false}
@@ -12,7 +12,7 @@ use borrow.Author.Tests.{ltb-false, le-ltb, lt-ltb}
 use Rattle.cows.specs.Basics.{placeIf, Result, refuse, accept, _>>=_, _>>_, forbid}
 use Rattle.cows.specs.Terms.{Term, size}
 use Rattle.cows.specs.Format.{encode}
-use Rattle.cows.specs.Step.{overLimits, fitted, reply, written}
+use Rattle.cows.specs.Step.{overLimits, fitted, replyTo, written}
 use Rattle.cows.proofs.Basics.{bool-case, bind-accept, forbid-accept, placeIf-none, same-accept}
 use Rattle.cows.proofs.Format.{length-encode}
 use Rattle.records.specs.Rewrites.{put}
@@ -32,9 +32,9 @@ fitting-not room n h = rw (lt-ltb room (16 * n) h)
 pub fitting-so : (room n : ℕ) → 16 * n ≤ room → record { answer = 0; place = 0; records = n } ≡ replyIn room (accept n)
 fitting-so room n h = rw (le-ltb room (16 * n) h)
 
--- the reply to a move's judgement is the reply to its result
-pub reply-fitted : (room : ℕ) (m : Result Term) → replyIn room (limited m) ≡ replyOf (reply (m >>= fitted room))
-unfolding limited fitted reply _>>=_ _>>_ forbid placeIf
+-- the replyTo to a move's judgement is the replyTo to its result
+pub reply-fitted : (room : ℕ) (m : Result Term) → replyIn room (limited m) ≡ replyOf (replyTo (m >>= fitted room))
+unfolding limited fitted replyTo _>>=_ _>>_ forbid placeIf
 reply-fitted room (refuse n p) = refl
 reply-fitted room (accept s) =
     bool-case _ (overLimits s) (λ e. rw e)
@@ -85,7 +85,7 @@ put-encode out s h =
     sets-eq (encode s) out 0 (omega arith) ∙ ap (λ n. encode s ++ drop n out) (let z : 0 + length (encode s) ≡ 16 * size s = omega arith in z)
 
 module _ {m : Result Term} {place : ℕ} {plan : Plan} (planned : Planned m place plan) (out : List ℕ) (r : Reply) (replied : r ≡ replyIn (length out) (resultOf (plan .judgement))) where
-  replies : r ≡ replyOf (reply (m >>= fitted (length out)))
+  replies : r ≡ replyOf (replyTo (m >>= fitted (length out)))
   replies = replied ∙ (ap (replyIn (length out)) (planned .judged) ∙ reply-fitted (length out) m)
 
   pub plan-fits : r .answer ≡ 0 → Fits m (length out)
@@ -102,10 +102,10 @@ module _ {m : Result Term} {place : ℕ} {plan : Plan} (planned : Planned m plac
 
   -- a refused move, which writes nothing
   pub moved-refused : r .answer ≢ 0 → Answers (m >>= fitted (length out)) out out r
-  unfolding reply written
+  unfolding replyTo written
   moved-refused z = record { replies = replies; output = go (m >>= fitted (length out)) (λ e. z (ap (λ q. q .answer) replies ∙ e)) }
     where
-      go : (x : Result Term) → reply x .answer ≢ 0 → out ≡ written x out
+      go : (x : Result Term) → replyTo x .answer ≢ 0 → out ≡ written x out
       go (refuse n p) h = refl
       go (accept s) h = absurd (h refl)
 

@@ -8,10 +8,10 @@ use native.Mathlib.Omega.{arith}
 use lib.ListN.{length}
 use Rattle.cows.specs.Basics.{Result, refuse, accept, _>>=_, _>>_}
 use Rattle.cows.specs.Terms.{Term}
-use Rattle.cows.specs.Format.{Bytes}
+use Rattle.cows.specs.Format.{AreBytes}
 use Rattle.cows.specs.Tables.{judge}
 use Rattle.cows.specs.Moves.{Move}
-use Rattle.cows.specs.Step.{readMove, stepTerm, judgeStep, reply, written, stepReply, stepOutput}
+use Rattle.cows.specs.Step.{readMove, stepTerm, judgeStep, replyTo, written, stepReply, stepOutput}
 use Rattle.cows.proofs.Basics.{accept-bind}
 use Rattle.cows.proofs.Format.{length-encode}
 use Rattle.cows.proofs.Tables.{judge-encode, judge-within}
@@ -23,7 +23,7 @@ use Rattle.stepper.specs.Replies.{Answers, Stepped}
 
 -- 1 to 7: a refused table
 pub table-refused : (s ends m out : List ℕ) (r : Reply) → Checked s ends r → r .answer ≢ 0 → Stepped s m out out r
-unfolding stepReply stepOutput judgeStep _>>=_ reply written
+unfolding stepReply stepOutput judgeStep _>>=_ replyTo written
 table-refused s ends m out r h z = go (judge s) refl
   where
     go : (x : Result Term) → judge s ≡ x → Stepped s m out out r
@@ -36,7 +36,7 @@ pub record Read (s ends : List ℕ) : Type 0 where
   pub judged : judge s ≡ accept term
   pub table : Table s ends term
 
-pub table-read : (s ends : List ℕ) (r : Reply) → Bytes s → Checked s ends r → r .answer ≡ 0 → Read s ends
+pub table-read : (s ends : List ℕ) (r : Reply) → AreBytes s → Checked s ends r → r .answer ≡ 0 → Read s ends
 table-read s ends r b h z = go (judge s) refl
   where
     go : (x : Result Term) → judge s ≡ x → Read s ends

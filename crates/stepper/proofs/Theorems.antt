@@ -6,15 +6,15 @@ use Prim.Native.Nat.{ℕ}
 use lib.ListN.{length}
 use Rattle.cows.specs.Basics.{Result, refuse, accept}
 use Rattle.cows.specs.Terms.{Term}
-use Rattle.cows.specs.Format.{Bytes}
-use Rattle.cows.specs.Step.{judgeStep, reply, written, stepReply, stepOutput}
+use Rattle.cows.specs.Format.{AreBytes}
+use Rattle.cows.specs.Step.{judgeStep, replyTo, written, stepReply, stepOutput}
 use Rattle.cows.specs.Accepts.{Accepts}
 use Rattle.cows.proofs.Theorems.{step-accepted, answer-zero, one-accepted, accepted-within, refused-untouched}
 use Rattle.tables.specs.declared.Reply.{Reply}
 use Rattle.stepper.specs.Replies.{replyOf, Stepped}
 use Rattle.stepper.specs.Demand.{Demand2}
 
-module _ (table m out after : List ℕ) (r : Reply) (bytes : Bytes table) (stepped : Stepped table m out after r) where
+module _ (table m out after : List ℕ) (r : Reply) (bytes : AreBytes table) (stepped : Stepped table m out after r) where
   -- the answer is that of the definition
   same-answer : r .answer ≡ stepReply table m out .answer
   same-answer = ap (λ (x : Reply). x .answer) (stepped .replies)
@@ -22,12 +22,12 @@ module _ (table m out after : List ℕ) (r : Reply) (bytes : Bytes table) (stepp
   judged : (s : Term) → Accepts table m (length out) s → judgeStep table m (length out) ≡ accept s
   judged s a = step-accepted table m (length out) s bytes .1 a
 
-  no-records : (x : Result Term) → reply x .answer ≢ 0 → reply x .records ≡ 0
-  unfolding reply
+  no-records : (x : Result Term) → replyTo x .answer ≢ 0 → replyTo x .records ≡ 0
+  unfolding replyTo
   no-records (refuse n p) z = refl
   no-records (accept s) z = absurd (z refl)
 
-  replied : (s : Term) → judgeStep table m (length out) ≡ accept s → r ≡ replyOf (reply (accept s))
+  replied : (s : Term) → judgeStep table m (length out) ≡ accept s → r ≡ replyOf (replyTo (accept s))
   unfolding stepReply
   replied s e = stepped .replies ∙ rw e
 
@@ -44,7 +44,7 @@ module _ (table m out after : List ℕ) (r : Reply) (bytes : Bytes table) (stepp
       (ap (λ (x : Reply). x .records) (stepped .replies) ∙ no-records (judgeStep table m (length out)) (differs z), stepped .output ∙ refused-untouched table m out (differs z))
 
   pub demand-2 : Demand2 table m out after r
-  unfolding reply written
+  unfolding replyTo written
   demand-2 = record {
     accepted = (
       (λ e. let (s, j) = answer-zero table m out .0 (sym same-answer ∙ e) in (s, step-accepted table m (length out) s bytes .0 j)),

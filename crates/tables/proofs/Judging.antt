@@ -10,7 +10,7 @@ use lib.ListN.{length, getD}
 use Rattle.cows.specs.Basics.{placeIf, _>>_, forbid}
 use Rattle.cows.specs.Terms.{Term, size}
 use Rattle.cows.specs.Places.{first}
-use Rattle.cows.specs.Format.{Bytes, node, records, decode}
+use Rattle.cows.specs.Format.{AreBytes, readNode, records, decode}
 use Rattle.cows.specs.Tables.{wrongLength, firstWrong, unbound, clash, judgeTerm, judge}
 use Rattle.cows.proofs.Tables.{records-hold}
 use Rattle.records.specs.Holds.{Holds}
@@ -21,7 +21,7 @@ use Rattle.scopes.specs.declared.Scoping.the-variants.{Fine, Open, Clash}
 use Rattle.tables.specs.declared.Verdict.{Verdict}
 use Rattle.tables.specs.declared.Verdict.the-variants.{Accepted, Length, Record, Shape, Deep, Choice, Open as OpenUse, Clash as Clashes}
 use Rattle.scopes.specs.Scopes.{scopingOf}
-use Rattle.index.specs.Index.{bound}
+use Rattle.index.specs.Index.{ScopesRight}
 use Rattle.tables.specs.Verdict.{verdictReply, checkReply, judgeScopes, judgeShape}
 use Rattle.readers.proofs.Readings.{Tells}
 
@@ -41,7 +41,7 @@ scoping-clash none none i e = (refl, cc)
 scoping-clash none (some q) i e = (refl, cc)
 scoping-clash (some p) q i e = (cc, cc)
 
-pub judge-bound : (t : Term) (n : ℕ) → bound t → n ≡ size t → verdictReply (Accepted n) ≡ checkReply (judgeScopes t)
+pub judge-bound : (t : Term) (n : ℕ) → ScopesRight t → n ≡ size t → verdictReply (Accepted n) ≡ checkReply (judgeScopes t)
 unfolding judgeScopes _>>_ forbid
 judge-bound t n b h = rw (b .0, b .1, h)
 
@@ -74,7 +74,7 @@ judge-rest t r n v h e l f q =
     rw (d, h .guarded d (f ∙ e)) q
 
 -- the bytes of a slice are bytes
-pub slice-bytes : (s : List ℕ) → ((k : ℕ) → getD s k 0 < 256) → Bytes s
+pub slice-bytes : (s : List ℕ) → ((k : ℕ) → getD s k 0 < 256) → AreBytes s
 slice-bytes [] h = tt
 slice-bytes (x ∷ s) h = (h 0, slice-bytes s (λ k. h (suc k)))
 
@@ -88,13 +88,13 @@ module _ (b : List ℕ) (e : ℕ) (right : firstWrong 0 (records b) ≡ none) (e
   unfolding judgeShape _>>_ forbid
   judge-late l = rw (end-shape b right .2 (omega arith))
 
-  pub judge-whole : Bytes b → length b % 16 ≡ 0 → length b / 16 ≤ e → e ≤ length b / 16 → (v : Verdict) → ((t : Term) → Holds b t → verdictReply v ≡ checkReply (judgeTerm t))
+  pub judge-whole : AreBytes b → length b % 16 ≡ 0 → length b / 16 ≤ e → e ≤ length b / 16 → (v : Verdict) → ((t : Term) → Holds b t → verdictReply v ≡ checkReply (judgeTerm t))
       → verdictReply v ≡ checkReply (judgeShape b)
   unfolding judgeShape _>>_ forbid
   judge-whole k z l m v f =
       let q = end-shape b right .0 (omega arith) in
       let (y, g) = records-hold b k z right q in
-      rw q (f (decode (map node (records b))) (record { is = sym y; right = g }))
+      rw q (f (decode (map readNode (records b))) (record { is = sym y; right = g }))
 
 -- 1 and 2
 pub judge-length : (b : List ℕ) → wrongLength b ≡ true → verdictReply Length ≡ checkReply (judge b)

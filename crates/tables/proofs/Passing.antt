@@ -16,7 +16,7 @@ use Rattle.records.specs.Ends.{endAt, EndsFrom}
 use Rattle.records.proofs.Shapes.{ends-start}
 use Rattle.records.proofs.Stands.{holds-size}
 use Rattle.readers.specs.Reads.{Reading}
-use Rattle.readers.specs.Terms.{placed, Passed}
+use Rattle.readers.specs.Terms.{reachedPlace, ReadTo}
 use Rattle.readers.proofs.Seeking.{deep-below}
 use Rattle.readers.proofs.Readings.{Tells, reads-tells}
 use Rattle.tables.specs.declared.Verdict.{Verdict}
@@ -25,13 +25,13 @@ use Rattle.tables.specs.Verdict.{verdictReply, checkReply, judgeScopes}
 use Rattle.tables.proofs.Judging.{judge-deep, judge-choice, judge-rest}
 
 -- where it stands, by what the service reader found: at the end of the term, past the records by that, or past that too by the fault
-placed-case : (A : Type 0) (n end fault : ℕ) → (n < end → placed n end fault ≡ end → A) → (end ≤ n → fault ≡ n → placed n end fault ≡ end → A)
-    → (end ≤ n → fault ≢ n → placed n end fault ≡ 2 * n + 2 + fault → A) → A
+placed-case : (A : Type 0) (n end fault : ℕ) → (n < end → reachedPlace n end fault ≡ end → A) → (end ≤ n → fault ≡ n → reachedPlace n end fault ≡ end → A)
+    → (end ≤ n → fault ≢ n → reachedPlace n end fault ≡ 2 * n + 2 + fault → A) → A
 placed-case A n end fault past fine bad =
     lt-case A n end (λ h. past h (rw (lt-ltb n end h)))
     (λ h. bool-case A (eqb fault n) (λ q. fine h (eqb-true fault n q) (rw (le-ltb n end h, q))) (λ q. bad h (eqb-false fault n q) (rw (le-ltb n end h, q))))
 
-module _ (s d d′ : List ℕ) (at : ℕ) (x : Passed s 0 d d′ at) where
+module _ (s d d′ : List ℕ) (at : ℕ) (x : ReadTo s 0 d d′ at) where
   abbrev n : ℕ
   n = length s / 16
 

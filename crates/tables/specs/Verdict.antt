@@ -7,10 +7,10 @@ use lib.ListN.{length}
 use Rattle.cows.specs.Basics.{Result, refuse, accept, _>>=_, _>>_, forbid}
 use Rattle.cows.specs.Terms.{Term, size}
 use Rattle.cows.specs.Places.{first}
-use Rattle.cows.specs.Format.{node, records, decode}
+use Rattle.cows.specs.Format.{readNode, records, decode}
 use Rattle.cows.specs.Tables.{firstWrong, misshapen, unbound, clash, judgeTerm, judge}
 use Rattle.records.specs.Ends.{EndsFrom}
-use Rattle.readers.specs.Terms.{Passed}
+use Rattle.readers.specs.Terms.{ReadTo}
 use Rattle.tables.specs.declared.Verdict.{Verdict}
 use Rattle.tables.specs.declared.Verdict.the-variants.{Accepted, Length, Record, Shape, Deep, Choice, Open, Clash}
 use Rattle.tables.specs.declared.Reply.{Reply}
@@ -49,8 +49,8 @@ judgeScopes t = do
 -- shape and all that comes behind it, of records that are right
 unfoldable pub judgeShape : List ℕ → Result Term
 judgeShape b = do
-  forbid 3 (misshapen (map node (records b)))
-  judgeTerm (decode (map node (records b)))
+  forbid 3 (misshapen (map readNode (records b)))
+  judgeTerm (decode (map readNode (records b)))
 
 -- the bytes are whole records, not too many, and each is right: refusals 1 and 2 do not apply, but for an empty table
 pub record RightRecords (b : List ℕ) : Type 0 where
@@ -62,5 +62,5 @@ pub record RightRecords (b : List ℕ) : Type 0 where
 pub record Stood (b ends : List ℕ) (at : ℕ) : Type 0 where
   pub before : List ℕ
   pub after : List ℕ
-  pub passed : Passed b 0 before after at
+  pub passed : ReadTo b 0 before after at
   pub end : at ≡ length b / 16 → EndsFrom b ends 0

@@ -28,7 +28,7 @@ use Rattle.cows.proofs.Ways.{encode-replaced, depth-part, depth-most, size-swap
 use Rattle.cows.proofs.Stands.{replicates-is, prefixed-is, wanted-is, wanted-live, live-wanted}
 use Rattle.cows.proofs.Recordwise.{size-map}
 use Rattle.cows.proofs.Binds.{depth-mapped}
-use Rattle.records.specs.Rewrites.{put, Stands}
+use Rattle.records.specs.Rewrites.{put, StandsIn}
 use Rattle.records.proofs.Put.{and-then}
 use Rattle.records.proofs.Stands.{encode-both, holds-stands}
 use Rattle.ways.specs.Known.{Table, Known}
@@ -144,7 +144,7 @@ module _ (s way : List ℕ) (t : Term) (a k : ℕ) (h : LiveAt s way a 9 t k) wh
       (record { at = record { placed = h .walks .inside; stands = replication-at }; live = h .live }))
 
   -- the replication ends at place `end`, and its depth is b
-  module _ (ends : List ℕ) (z : Table s ends t) (end b : ℕ) (e : end ≡ getD ends a 0) (f : ((u : Term) → Stands s (16 * a) u → b ≡ depth u)) where
+  module _ (ends : List ℕ) (z : Table s ends t) (end b : ℕ) (e : end ≡ getD ends a 0) (f : ((u : Term) → StandsIn s (16 * a) u → b ≡ depth u)) where
     abbrev n : ℕ
     n = length s / 16 + (end - a)
 

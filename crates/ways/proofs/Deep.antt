@@ -9,7 +9,7 @@ use Rattle.cows.specs.Terms.{Join, Term, leaf, under, both, size, depth}
 use Rattle.cows.specs.Kinds.{childrenOf}
 use Rattle.cows.proofs.Format.{length-encode}
 use Rattle.records.specs.Ends.{EndsFrom}
-use Rattle.records.specs.Rewrites.{Stands}
+use Rattle.records.specs.Rewrites.{StandsIn}
 use Rattle.records.proofs.Stands.{long, stands-children, stands-fits, stands-under, stands-left, stands-right}
 use Rattle.records.proofs.Shapes.{end-stands}
 use Rattle.ways.specs.Depths.{Standing}
@@ -20,19 +20,19 @@ depth-size (leaf x) = omega arith
 depth-size (under u t) = omega (arith, depth-size t)
 depth-size (both j s t) = omega (arith, depth-size s, depth-size t)
 
-pub standing : {s ends : List ℕ} {i : ℕ} (t : Term) → Stands s (16 * i) t → EndsFrom s ends 0 → Standing s ends i
+pub standing : {s ends : List ℕ} {i : ℕ} (t : Term) → StandsIn s (16 * i) t → EndsFrom s ends 0 → Standing s ends i
 standing t h e = record { term = t; stands = h; end = e; inside = omega (arith, stands-fits t h, long t) }
 
 -- what is read is no deeper than the table is long
-pub depth-few : {s ends : List ℕ} {i : ℕ} (q : Standing s ends i) (d : ℕ) → ((t : Term) → Stands s (16 * i) t → d ≡ depth t) → d ≤ 2048
+pub depth-few : {s ends : List ℕ} {i : ℕ} (q : Standing s ends i) (d : ℕ) → ((t : Term) → StandsIn s (16 * i) t → d ≡ depth t) → d ≤ 2048
 depth-few q d f = omega (arith, f (q .term) (q .stands), depth-size (q .term), length-encode (q .term), stands-fits (q .term) (q .stands), q .end .few)
 
 -- The record at place i has c children.
 module _ (s ends : List ℕ) (i c : ℕ) (q : Standing s ends i) (k : c ≡ childrenOf (getD s (16 * i) 0)) where
-  first : (t : Term) → Stands s (16 * i + 16) t → Stands s (16 * (i + 1)) t
-  first t h = subst (λ k. Stands s k t) (omega arith) h
+  first : (t : Term) → StandsIn s (16 * i + 16) t → StandsIn s (16 * (i + 1)) t
+  first t h = subst (λ k. StandsIn s k t) (omega arith) h
 
-  pub depth-none : c ≡ 0 → (t : Term) → Stands s (16 * i) t → 1 ≡ depth t
+  pub depth-none : c ≡ 0 → (t : Term) → StandsIn s (16 * i) t → 1 ≡ depth t
   unfolding depth
   depth-none e (leaf x) h = refl
   depth-none e (under u t) h = absurd (omega (arith, stands-children (under u t) h))
@@ -41,20 +41,20 @@ module _ (s ends : List ℕ) (i c : ℕ) (q : Standing s ends i) (k : c ≡ chil
   pub first-standing : c ≢ 0 → Standing s ends (i + 1)
   first-standing e = go (q .term) (q .stands)
     where
-      go : (t : Term) → Stands s (16 * i) t → Standing s ends (i + 1)
+      go : (t : Term) → StandsIn s (16 * i) t → Standing s ends (i + 1)
       go (leaf x) h = absurd (e (k ∙ stands-children (leaf x) h))
       go (under u t) h = standing t (first t (stands-under u t h)) (q .end)
       go (both o l r) h = standing l (first l (stands-left o l r h)) (q .end)
 
-  module _ (d : ℕ) (f : (t : Term) → Stands s (16 * (i + 1)) t → d ≡ depth t) where
-    pub depth-one : c ≡ 1 → (t : Term) → Stands s (16 * i) t → 1 + d ≡ depth t
+  module _ (d : ℕ) (f : (t : Term) → StandsIn s (16 * (i + 1)) t → d ≡ depth t) where
+    pub depth-one : c ≡ 1 → (t : Term) → StandsIn s (16 * i) t → 1 + d ≡ depth t
     unfolding depth
     depth-one e (leaf x) h = absurd (omega (arith, stands-children (leaf x) h))
     depth-one e (under u t) h = omega (arith, f t (first t (stands-under u t h)))
     depth-one e (both o l r) h = absurd (omega (arith, stands-children (both o l r) h))
 
     module _ (no : c ≢ 0) (not : c ≢ 1) (p : ℕ) (at : p ≡ getD ends (i + 1) 0) where
-      second : (o : Join) (l r : Term) → Stands s (16 * i) (both o l r) → (p ≡ i + 1 + size l) × Stands s (16 * p) r
+      second : (o : Join) (l r : Term) → StandsIn s (16 * i) (both o l r) → (p ≡ i + 1 + size l) × StandsIn s (16 * p) r
       second o l r h =
           let z : p ≡ i + 1 + size l = at ∙ (q .end .end (i + 1) (omega arith) (omega (arith, q .inside)) ∙ end-stands s l (i + 1) (first l (stands-left o l r h))) in
           (z, stands-right o l r (16 * p) (omega (arith, length-encode l)) h)
@@ -62,12 +62,12 @@ module _ (s ends : List ℕ) (i c : ℕ) (q : Standing s ends i) (k : c ≡ chil
       pub second-standing : Standing s ends p × (i < p)
       second-standing = go (q .term) (q .stands)
         where
-          go : (t : Term) → Stands s (16 * i) t → Standing s ends p × (i < p)
+          go : (t : Term) → StandsIn s (16 * i) t → Standing s ends p × (i < p)
           go (leaf x) h = absurd (no (k ∙ stands-children (leaf x) h))
           go (under u t) h = absurd (not (k ∙ stands-children (under u t) h))
           go (both o l r) h = let (z, y) = second o l r h in (standing r y (q .end), omega arith)
 
-      pub depth-two : (g : ℕ) → ((t : Term) → Stands s (16 * p) t → g ≡ depth t) → (t : Term) → Stands s (16 * i) t → 1 + max d g ≡ depth t
+      pub depth-two : (g : ℕ) → ((t : Term) → StandsIn s (16 * p) t → g ≡ depth t) → (t : Term) → StandsIn s (16 * i) t → 1 + max d g ≡ depth t
       unfolding depth
       depth-two g e (leaf x) h = absurd (no (k ∙ stands-children (leaf x) h))
       depth-two g e (under u t) h = absurd (not (k ∙ stands-children (under u t) h))

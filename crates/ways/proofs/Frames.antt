@@ -9,10 +9,10 @@ use native.Mathlib.Omega.{arith}
 use lib.Dec.{eqb}
 use lib.ListN.{length, getD, take, drop, drop-of-length-le}
 use borrow.Author.Tests.{eq-eqb, ne-eqb, eqb-true}
-use Rattle.cows.specs.Basics.{every, holds}
+use Rattle.cows.specs.Basics.{every, foundWith}
 use Rattle.cows.specs.Terms.{nil, kill, invoke, receive, wait, protection, delimitation, replication, choice, parallel, Term, leaf, under, both, size, prefixed, delimits, delimitsAtom, delimitsAt}
-use Rattle.cows.specs.Kinds.{root, kindOf, liveKind, kind}
-use Rattle.cows.specs.Places.{Frame, inside, leftOf, rightOf, plug, fill, wayTo, sub, frameDelimits, frameChooses, passed}
+use Rattle.cows.specs.Kinds.{root, kindOf, liveKind}
+use Rattle.cows.specs.Places.{Frame, inside, leftOf, rightOf, plug, fill, wayTo, sub, frameDelimits, frameChooses}
 use Rattle.cows.specs.Format.{word, record16}
 use Rattle.cows.specs.Active.{live, onKind}
 use Rattle.cows.proofs.Basics.{same-test}
@@ -38,7 +38,7 @@ frame-choice (rightOf choice t) s = refl
 frame-choice (rightOf parallel t) s = refl
 
 pub frame-delimits : (d : ℕ) (f : Frame) (s : Term) → frameDelimits d f ≡ delimitsAt d (plug f s)
-unfolding frameDelimits plug delimitsAtom prefixed holds
+unfolding frameDelimits plug delimitsAtom prefixed foundWith
 frame-delimits d (inside u) s = refl
 frame-delimits d (leftOf j t) s = refl
 frame-delimits d (rightOf j t) s = refl
@@ -48,7 +48,7 @@ pub eqb-flip : (a b : ℕ) → eqb a b ≡ eqb b a
 eqb-flip a b = same-test (λ e. eq-eqb b a (sym (eqb-true a b e))) (λ e. eq-eqb a b (sym (eqb-true b a e)))
 
 delimits-record : (s : Term) (d : ℕ) → (eqb (kindOf s) 8 && eqb (word (record16 (root s)) 2) d) ≡ delimitsAt d s
-unfolding kindOf root prefixed delimits holds
+unfolding kindOf root prefixed delimits foundWith
 delimits-record (leaf nil) d = refl
 delimits-record (leaf (kill k)) d = refl
 delimits-record (leaf (invoke p o ws)) d = refl

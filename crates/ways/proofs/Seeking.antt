@@ -8,11 +8,11 @@ use native.Mathlib.Omega.{arith}
 use native.Mathlib.Numerals.{add-one}
 use lib.Dec.{ltb, eqb}
 use lib.ListN.{length, getD}
-use Rattle.cows.specs.Basics.{every, holds, firstFrom, placeIf, orElse}
+use Rattle.cows.specs.Basics.{every, foundWith, firstFrom, placeIf, orElse}
 use Rattle.cows.specs.Terms.{nil, kill, invoke, receive, wait, protection, delimitation, replication, choice, parallel, Term, leaf, under, both, size, prefixed, waits}
 use Rattle.cows.specs.Kinds.{root, kindOf}
 use Rattle.cows.specs.Format.{word, record16}
-use Rattle.cows.specs.Places.{Spot, spot, wayTo, sub, first}
+use Rattle.cows.specs.Places.{Spot, spotAt, wayTo, sub, first}
 use Rattle.cows.proofs.Basics.{from-next, from-end, from-skip}
 use Rattle.cows.proofs.Fields.{interval-wait}
 use Rattle.cows.proofs.Places.{size-pos, spot-fits, descend-first}
@@ -28,7 +28,7 @@ module _ (P : ℕ → Bool) (test : Term → Bool) where
   picks n z = active P (z .way) && test (z .here)
 
   abbrev pub from : Term → ℕ → Option ℕ
-  from t i = firstFrom (λ n. picks n (spot t n)) i (size t - i)
+  from t i = firstFrom (λ n. picks n (spotAt t n)) i (size t - i)
 
   -- The walk is at place i, which is active, or at the end.
   pub record Seeking (t : Term) (i : ℕ) : Type 0 where
@@ -38,7 +38,7 @@ module _ (P : ℕ → Bool) (test : Term → Bool) where
 
   module _ (t : Term) where
     pub seeking-start : Seeking t 0
-    unfolding first every wayTo spot
+    unfolding first every wayTo spotAt
     seeking-start = record {
       few = omega arith;
       active = λ l. ap (λ (z : Spot). active P (z .way)) (descend-first [] t);
@@ -96,8 +96,8 @@ module _ (s ends : List ℕ) (t : Term) (h : Table s ends t) (i : ℕ) (l : i < 
     table-over e next at = rw (at, table-ended s ends t h i inside) (seeking-over P test t i k inside no (kind-is ∙ e))
 
 -- a wait that is shorter, by its bytes
-shorter-record : (s : Term) (d : ℕ) → (eqb (kindOf s) 4 && ltb (word (record16 (root s)) 14) d) ≡ holds (λ i. ltb i d) (prefixed waits s)
-unfolding kindOf root prefixed waits holds
+shorter-record : (s : Term) (d : ℕ) → (eqb (kindOf s) 4 && ltb (word (record16 (root s)) 14) d) ≡ foundWith (λ i. ltb i d) (prefixed waits s)
+unfolding kindOf root prefixed waits foundWith
 shorter-record (leaf nil) d = refl
 shorter-record (leaf (kill k)) d = refl
 shorter-record (leaf (invoke p o ws)) d = refl
@@ -109,5 +109,5 @@ shorter-record (under replication t) d = refl
 shorter-record (both choice l r) d = refl
 shorter-record (both parallel l r) d = refl
 
-pub shorter-bytes : (s : List ℕ) (t : Term) (p d : ℕ) → Holds s t → p < size t → (eqb (getD s (16 * p) 0) 4 && ltb (word s (16 * p + 14)) d) ≡ holds (λ i. ltb i d) (prefixed waits (sub t p))
+pub shorter-bytes : (s : List ℕ) (t : Term) (p d : ℕ) → Holds s t → p < size t → (eqb (getD s (16 * p) 0) 4 && ltb (word s (16 * p + 14)) d) ≡ foundWith (λ i. ltb i d) (prefixed waits (sub t p))
 shorter-bytes s t p d h l = rw (holds-kind s t p h l, holds-word s t p 14 h l (omega arith)) (shorter-record (sub t p) d)

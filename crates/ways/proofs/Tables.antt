@@ -17,8 +17,8 @@ use Rattle.cows.proofs.Format.{encode-injective}
 use Rattle.records.specs.declared.Found.the-variants.{At, Nothing}
 use Rattle.records.proofs.Stands.{holds-size, holds-kind, holds-stands}
 use Rattle.records.proofs.Shapes.{end-stands}
-use Rattle.ways.specs.Known.{Table, Known, Ended}
-use Rattle.ways.specs.Ways.{Climbs, Placed, Walks, Walk, LiveAt, Lives}
+use Rattle.ways.specs.Known.{Table, Known, EndPlaces}
+use Rattle.ways.specs.Ways.{Climbs, Climbable, Walks, Walk, LiveAt, Lives}
 use Rattle.ways.proofs.Climbing.{way-short}
 use Rattle.ways.proofs.Frames.{way-inside}
 
@@ -29,7 +29,7 @@ one-table s ends t u h k = encode-injective t u (h .holds .right) (k .holds .rig
 pub table-size : (s ends : List ℕ) (t : Term) → Table s ends t → length s / 16 ≡ size t
 table-size s ends t h = holds-size s t (h .holds)
 
-pub table-ended : (s ends : List ℕ) (t : Term) → Table s ends t → Ended ends t
+pub table-ended : (s ends : List ℕ) (t : Term) → Table s ends t → EndPlaces ends t
 table-ended s ends t h j l =
     h .end .end j (omega arith) (omega (arith, table-size s ends t h)) ∙ end-stands s (sub t j) j (holds-stands s t j (h .holds) l)
 
@@ -38,7 +38,7 @@ table-inside s ends t h a l = omega (arith, table-size s ends t h)
 
 -- the places that climbing put down are those of the way
 pub table-walks : (s ends : List ℕ) (t : Term) → Table s ends t → (a : ℕ) → a < length s / 16 → (way : List ℕ) (n : ℕ)
-    → ((t : Term) → Ended ends t → a < size t → Climbs t a way n) → Walks s way n t a
+    → ((t : Term) → EndPlaces ends t → a < size t → Climbs t a way n) → Walks s way n t a
 table-walks s ends t h a l way n f =
     let i = table-inside s ends t h a l in
     record { holds = h .holds; inside = i; climbs = f t (table-ended s ends t h) i }
@@ -58,7 +58,7 @@ walk-known s ends k a way n r w =
     }
 
 module _ (s ends : List ℕ) (k : Known s ends) (a : ℕ) (l : a < length s / 16) where
-  pub known-placed : Placed ends a
+  pub known-placed : Climbable ends a
   known-placed = record {
     term = k .term;
     end = table-ended s ends (k .term) (k .table);
@@ -68,7 +68,7 @@ module _ (s ends : List ℕ) (k : Known s ends) (a : ℕ) (l : a < length s / 16
     few = omega (arith, k .few);
   }
 
-  pub known-walk : (way : List ℕ) (n : ℕ) → length way ≡ 256 → ((t : Term) → Ended ends t → a < size t → Climbs t a way n) → Walk s way n
+  pub known-walk : (way : List ℕ) (n : ℕ) → length way ≡ 256 → ((t : Term) → EndPlaces ends t → a < size t → Climbs t a way n) → Walk s way n
   known-walk way n r f = walk-known s ends k a way n r (table-walks s ends (k .term) (k .table) a l way n f)
 
 -- no live record of the kind: past the end, of another kind, or not live

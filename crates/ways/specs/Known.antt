@@ -24,5 +24,5 @@ pub record Known (s ends : List ℕ) : Type 0 where
   pub room : length s / 16 + 1 < length ends
 
 -- the end of the term at each place
-abbrev pub Ended : List ℕ → Term → Type 0
-Ended ends t = (j : ℕ) → j < size t → getD ends j 0 ≡ j + size (sub t j)
+abbrev pub EndPlaces : List ℕ → Term → Type 0
+EndPlaces ends t = (j : ℕ) → j < size t → getD ends j 0 ≡ j + size (sub t j)

@@ -15,7 +15,7 @@ use Rattle.cows.specs.Records.{ahead}
 use Rattle.records.specs.Holds.{Holds}
 use Rattle.records.specs.declared.Found.{Found}
 use Rattle.records.specs.declared.Found.the-variants.{At, Nothing}
-use Rattle.ways.specs.Known.{Ended}
+use Rattle.ways.specs.Known.{EndPlaces}
 
 -- The record of the frame with number k on the way to place a stands at place p.
 pub record OnWay (t : Term) (a k p : ℕ) : Type 0 where
@@ -30,9 +30,9 @@ pub record Climbs (t : Term) (a : ℕ) (way : List ℕ) (n : ℕ) : Type 0 where
   pub step : (k : ℕ) → k < n → OnWay t a k (getD way k 0)
 
 -- Place a is one of a term that is not too deep, whose ends are at hand.
-pub record Placed (ends : List ℕ) (a : ℕ) : Type 0 where
+pub record Climbable (ends : List ℕ) (a : ℕ) : Type 0 where
   pub term : Term
-  pub end : Ended ends term
+  pub end : EndPlaces ends term
   pub shallow : depth term ≤ 256
   pub inside : a < size term
   pub room : a < length ends

@@ -4,7 +4,7 @@ use records::wide16;
 ghost use mathlib.Core.Path.{_≡_};
 ghost use Prim.Native.Nat.{_*_, max};
 ghost use Rattle.cows.specs.Terms.{Term, depth};
-ghost use Rattle.records.specs.Rewrites.{Stands};
+ghost use Rattle.records.specs.Rewrites.{StandsIn};
 ghost use Rattle.ways.specs.Depths.{Standing};
 
 fn larger(a: usize, b: usize) -> usize
@@ -16,7 +16,7 @@ fn larger(a: usize, b: usize) -> usize
 // The depth of the term at place i, its own record's being 1.
 pub fn depth_at(s: &[u8], ends: &[u16], i: usize) -> usize
     requires { ⌜ Standing (now s) (now ends) i ⌝ }
-    ensures { λ r. ⌜ ((t : Term) → Stands (now (s .entry)) (16 * i) t → r ≡ depth t) ⌝ }
+    ensures { λ r. ⌜ ((t : Term) → StandsIn (now (s .entry)) (16 * i) t → r ≡ depth t) ⌝ }
 {
     let c = children(s[16 * i]);
     if c == 0 {

@@ -17,13 +17,13 @@ ghost use Rattle.cows.specs.Active.{live};
 ghost use Rattle.records.specs.Atoms.{numberOf};
 ghost use Rattle.records.specs.Holds.{Holds};
 ghost use Rattle.records.specs.Answers.{foundOf};
-ghost use Rattle.ways.specs.Known.{Table, Known, Ended};
-ghost use Rattle.ways.specs.Ways.{Climbs, Placed, Walks, Walk, startOf, scopeOf, Lives};
+ghost use Rattle.ways.specs.Known.{Table, Known, EndPlaces};
+ghost use Rattle.ways.specs.Ways.{Climbs, Climbable, Walks, Walk, startOf, scopeOf, Lives};
 
 // The places of the records on the way to place a, the nearest first, and how many there are: those that begin before it and end behind it.
 pub fn climb(ends: &[u16], a: usize, out: &mut [u16]) -> usize
-    requires { ⌜ Placed (now ends) a × (256 ≤ length (now out)) ⌝ }
-    ensures { λ n. ⌜ ((t : Term) → Ended (now (ends .entry)) t → a < size t → Climbs t a (now (out .exit)) n) ⌝ }
+    requires { ⌜ Climbable (now ends) a × (256 ≤ length (now out)) ⌝ }
+    ensures { λ n. ⌜ ((t : Term) → EndPlaces (now (ends .entry)) t → a < size t → Climbs t a (now (out .exit)) n) ⌝ }
 {
     let mut n = 0;
     let mut c = a;

@@ -5,7 +5,7 @@ use Prim.Native.Nat.{ℕ, _+_, _-_, _≤_, _<_}
 use native.Mathlib.Omega.{arith}
 use Rattle.cows.specs.Basics.{firstFrom, placeIf, orElse}
 use Rattle.cows.specs.Terms.{Term, size}
-use Rattle.cows.specs.Places.{spot, first}
+use Rattle.cows.specs.Places.{spotAt, first}
 use Rattle.cows.specs.Moves.{heldBack}
 use Rattle.cows.proofs.Basics.{from-next, from-end}
 use Rattle.records.specs.Answers.{foundOf}
@@ -16,7 +16,7 @@ use Rattle.holding.proofs.first_marked.Tie as tie
 
 abbrev Inv-loop : tie.InvT-loop
 Inv-loop s ends a b marks count n₀ n =
-    (n ≤ count) × ((t : Term) → Parties s ends marks a b t → first (heldBack a b) t ≡ firstFrom (λ m. heldBack a b m (spot t m)) n (size t - n))
+    (n ≤ count) × ((t : Term) → Parties s ends marks a b t → first (heldBack a b) t ≡ firstFrom (λ m. heldBack a b m (spotAt t m)) n (size t - n))
 
 abbrev μ-loop : tie.MeasureT-loop
 μ-loop s ends a b marks count n₀ n = count - n

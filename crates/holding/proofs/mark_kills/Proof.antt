@@ -7,7 +7,7 @@ use Rattle.cows.specs.Terms.{Term}
 use Rattle.cows.specs.Kinds.{readyKind}
 use Rattle.records.proofs.Atoms.{is-label}
 use Rattle.ways.specs.Known.{Table}
-use Rattle.holding.specs.Holding.{Blank}
+use Rattle.holding.specs.Holding.{Unmarked}
 use Rattle.ways.proofs.Tables.{table-size}
 use Rattle.ways.proofs.Seeking.{table-through, table-next, table-over}
 use Rattle.records.proofs.Atoms.{no-label}
@@ -16,7 +16,7 @@ use Rattle.holding.proofs.mark_kills.Statement.{statement}
 use Rattle.holding.proofs.mark_kills.Tie as tie
 
 abbrev Inv-loop : tie.InvT-loop
-Inv-loop s ends marks₀ n i₀ marks i = (i ≤ n) × (length marks ≡ 16384) × ((t : Term) → Table s ends t → Blank marks₀ → Marking marks t i)
+Inv-loop s ends marks₀ n i₀ marks i = (i ≤ n) × (length marks ≡ 16384) × ((t : Term) → Table s ends t → Unmarked marks₀ → Marking marks t i)
 
 abbrev μ-loop : tie.MeasureT-loop
 μ-loop s ends marks₀ n i₀ marks i = n - i

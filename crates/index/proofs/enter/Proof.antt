@@ -2,14 +2,14 @@ use mathlib.Core.Path.{_≡_, refl, _∙_}
 use Prim.Native.Nat.{_+_, _*_, _-_, _≤_}
 use native.Mathlib.Omega.{arith}
 use lib.ListN.{length, length-set}
-use Rattle.index.specs.Index.{Growing}
+use Rattle.index.specs.Index.{GrowingIndex}
 use Rattle.index.proofs.Growth.{turn}
 use Rattle.index.proofs.enter.Statement.{statement}
 use Rattle.index.proofs.enter.Tie as tie
 
 abbrev Inv-loop : tie.InvT-loop
 Inv-loop s list m pages₀ marks₀ top₀ i₀ pages marks top i =
-    (i ≤ m) × (length pages ≡ length pages₀) × (length marks ≡ length marks₀) × Growing s pages marks top × (top ≤ 32 + 32 * i)
+    (i ≤ m) × (length pages ≡ length pages₀) × (length marks ≡ length marks₀) × GrowingIndex s pages marks top × (top ≤ 32 + 32 * i)
 
 abbrev μ-loop : tie.MeasureT-loop
 μ-loop s list m pages₀ marks₀ top₀ i₀ pages marks top i = m - i

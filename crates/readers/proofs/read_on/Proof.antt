@@ -39,7 +39,7 @@ use denote.Triple.Table.{entered, cited}
 use denote.Triple.Walked.{says, Stays, stay-none, stay-none-slice, gave-slice, walkOf, AllGo, goes-none, goes-none-slice, goes-gave-slice, Walks, ends-at, walked, walk-meets, needs}
 use denote.Exit.{yes}
 use denote.Triple.Clauses.{ensured, lasts}
-use Rattle.readers.specs.Terms.{Passed}
+use Rattle.readers.specs.Terms.{ReadTo}
 use Rattle.readers.specs.declared.Reader.{Reader}
 use Rattle.readers.proofs.Reader as T
 use Rattle.readers.proofs.Reader.Laws as T′
@@ -115,7 +115,7 @@ module _ {M : Type 1} (𝓤 : URA M) (H : Heap 𝓤) (A : Atoms 𝓤) (W : Given
   Stood r = (r .table ≡ s) × (r .at ≡ k)
 
   abbrev Went : Reader → Reader → List ℕ → Type 0
-  Went r r′ zs = (r′ .table ≡ r .table) × Passed (now (r .table)) (r .at) ys zs (r′ .at)
+  Went r r′ zs = (r′ .table ≡ r .table) × ReadTo (now (r .table)) (r .at) ys zs (r′ .at)
 
   -- the call of `stand`
   abbrev to-stand : Stand 𝓤 H A mem run .Ghost
@@ -162,11 +162,11 @@ module _ {M : Type 1} (𝓤 : URA M) (H : Heap 𝓤) (A : Atoms 𝓤) (W : Given
   small : (r : Reader) → Stood r → (length (now (r .table)) / 16 ≤ 2048) × (length (now (r .table)) / 16 < length ys)
   small r e = subst⁻¹ (λ (t : RefT (List ℕ)). (length (now t) / 16 ≤ 2048) × (length (now t) / 16 < length ys)) (e .0) ok
 
-  found : (r r′ : Reader) (j : ℕ) (zs : List ℕ) → Stood r → Went r r′ zs → j ≡ r′ .at → Passed (now s) k ys zs j
-  found r r′ j zs e e′ e″ = subst⁻¹ (λ (i : ℕ). Passed (now s) k ys zs i) e″ (subst (λ (t : RefT (List ℕ)). Passed (now t) k ys zs (r′ .at)) (e .0) (subst (λ (i : ℕ). Passed (now
+  found : (r r′ : Reader) (j : ℕ) (zs : List ℕ) → Stood r → Went r r′ zs → j ≡ r′ .at → ReadTo (now s) k ys zs j
+  found r r′ j zs e e′ e″ = subst⁻¹ (λ (i : ℕ). ReadTo (now s) k ys zs i) e″ (subst (λ (t : RefT (List ℕ)). ReadTo (now t) k ys zs (r′ .at)) (e .0) (subst (λ (i : ℕ). ReadTo (now
       (r .table)) i ys zs (r′ .at)) (e .1) (e′ .1)))
 
-  exits : (j : ℕ) (zs : List ℕ) (u : Val) → Passed (now s) k ys zs j → length zs ≡ length ys
+  exits : (j : ℕ) (zs : List ℕ) (u : Val) → ReadTo (now s) k ys zs j → length zs ≡ length ys
       → ent 𝓤 (⋆ 𝓤 H A (‵ (usize .own j (u ∷ [])) ∷ (‵ (flft κ q) ⊛ ‵ ftrue) ∷ (‵ (flft κ″ q″) ⊛ ‵ ftrue) ∷ ‵ (finally u16 γ″ zs) ∷ ‵ Own ∷ [])) (Post u)
   exits j zs u e l =
       qed W (‵ (usize .own j (u ∷ [])) ∷ (‵ (flft κ q) ⊛ ‵ ftrue) ∷ (‵ (flft κ″ q″) ⊛ ‵ ftrue) ∷ ‵ (finally u16 γ″ zs) ∷ ‵ Own ∷ []) ∵

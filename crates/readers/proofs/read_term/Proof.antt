@@ -43,7 +43,7 @@ use denote.Triple.Table.{entered, cited}
 use denote.Triple.Walked.{says, Stays, stay-none, gave-slice, walkOf, goes-none, goes-gave-slice, Walks, ends-at, walked, walk-meets, needs}
 use denote.Exit.{yes}
 use denote.Triple.Clauses.{ensured, lasts}
-use Rattle.readers.specs.Terms.{Passed}
+use Rattle.readers.specs.Terms.{ReadTo}
 use Rattle.readers.specs.declared.Reader.{Reader}
 use Rattle.readers.proofs.Reader as T
 use Rattle.readers.proofs.Reader.Laws as T′
@@ -85,7 +85,7 @@ module _ {M : Type 1} (𝓤 : URA M) (H : Heap 𝓤) (A : Atoms 𝓤) (W : Given
   v = sliceVal (d .table .ptr) (length (d .table .now))
 
   abbrev Says : ℕ → List ℕ → Type 0
-  Says r zs = Passed (now (d .table)) (d .at) ys zs r
+  Says r zs = ReadTo (now (d .table)) (d .at) ys zs r
 
   -- the result, at the place r
   abbrev made : ℕ → Reader

@@ -6,7 +6,7 @@ use lib.ListN.{length, length-set}
 use Rattle.cows.specs.Terms.{Term, size}
 use Rattle.cows.proofs.Basics.{never}
 use Rattle.records.specs.Holds.{Holds}
-use Rattle.scopes.specs.Scopes.{Keeps, Growing, enteredOf}
+use Rattle.scopes.specs.Scopes.{Keeps, GrowingDirectory, enteredOf}
 use Rattle.scopes.proofs.Directory.{keeps-as, growing-top, blank-growing, blank-keeps, store-growing}
 use Rattle.scopes.proofs.Marks.{entered-none, entered-all}
 use Rattle.records.proofs.Stands.{holds-size}
@@ -20,7 +20,7 @@ Inv-loop s pages₀ marks₀ n top₀ d₀ pages marks top d =
     × (d ≤ n)
     × (length pages ≡ length pages₀)
     × (length marks ≡ length marks₀)
-    × Growing pages marks top
+    × GrowingDirectory pages marks top
     × ((t : Term) → Holds s t → Keeps pages marks (enteredOf t d))
 
 abbrev μ-loop : tie.MeasureT-loop

@@ -3,7 +3,7 @@ use Prim.Native.Nat.{_/_, _-_, _≤_}
 use native.Mathlib.Omega.{arith}
 use lib.ListN.{length}
 use Rattle.cows.specs.Terms.{Term}
-use Rattle.scopes.specs.Scopes.{Paged, Passed}
+use Rattle.scopes.specs.Scopes.{Paged, PassedTo}
 use Rattle.scopes.proofs.Steps.{pass-other}
 use Rattle.scopes.proofs.Passing.{first-most, Going, going-start, going-turn, going-open, going-clash, going-fine, level-two, found-delimitation, found-other}
 use Rattle.scopes.proofs.pass.Statement.{statement}
@@ -16,7 +16,7 @@ Inv-loop s ends pages marks₀ n clash₀ j₀ marks clash j =
     × (clash ≤ n)
     × (length marks ≡ length marks₀)
     × Paged pages marks
-    × ((t : Term) → Passed s pages marks₀ 0 t → Going s pages marks n clash j t)
+    × ((t : Term) → PassedTo s pages marks₀ 0 t → Going s pages marks n clash j t)
 
 abbrev μ-loop : tie.MeasureT-loop
 μ-loop s ends pages marks₀ n clash₀ j₀ marks clash j = n - j

@@ -3,14 +3,14 @@ use Prim.Native.Nat.{_-_, _≤_, _<_}
 use native.Mathlib.Omega.{arith}
 use lib.ListN.{length, length-set}
 use Rattle.cows.specs.Terms.{Term, size}
-use Rattle.ways.specs.Known.{Ended}
+use Rattle.ways.specs.Known.{EndPlaces}
 use Rattle.ways.proofs.Climbing.{Going, going-start, going-pass, going-few, going-found, going-end, way-short}
 use Rattle.ways.proofs.climb.Statement.{statement}
 use Rattle.ways.proofs.climb.Tie as tie
 
 abbrev Inv-loop : tie.InvT-loop
 Inv-loop ends a out₀ n₀ c₀ i₀ out n c i =
-    (i ≤ a) × (n < 256) × (length out ≡ length out₀) × ((t : Term) → Ended ends t → a < size t → Going t a out n c i)
+    (i ≤ a) × (n < 256) × (length out ≡ length out₀) × ((t : Term) → EndPlaces ends t → a < size t → Going t a out n c i)
 
 abbrev μ-loop : tie.MeasureT-loop
 μ-loop ends a out₀ n₀ c₀ i₀ out n c i = i

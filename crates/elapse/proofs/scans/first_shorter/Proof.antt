@@ -4,7 +4,7 @@ use Prim.Native.Nat.{ℕ, _-_, _≤_}
 use native.Mathlib.Omega.{arith}
 use mathlib.Core.Bool.{Bool}
 use lib.Dec.{ltb}
-use Rattle.cows.specs.Basics.{holds}
+use Rattle.cows.specs.Basics.{foundWith}
 use Rattle.cows.specs.Terms.{Term, prefixed, waits}
 use Rattle.cows.specs.Kinds.{liveKind}
 use Rattle.cows.specs.Active.{live}
@@ -18,7 +18,7 @@ use Rattle.elapse.proofs.scans.first_shorter.Tie as tie
 
 -- the test of a record
 abbrev short : ℕ → Term → Bool
-short d r = holds (λ i. ltb i d) (prefixed waits r)
+short d r = foundWith (λ i. ltb i d) (prefixed waits r)
 
 abbrev Inv-loop : tie.InvT-loop
 Inv-loop s ends d n i₀ i = (i ≤ n) × ((t : Term) → Table s ends t → Seeking liveKind (short d) t i)

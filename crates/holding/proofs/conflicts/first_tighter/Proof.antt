@@ -3,13 +3,13 @@ use mathlib.Core.Path.{_≡_, sym, ap, _∙_}
 use mathlib.Core.Bool.{true}
 use Prim.Native.Nat.{_-_, _≤_}
 use native.Mathlib.Omega.{arith}
-use Rattle.cows.specs.Terms.{Term, Ends}
+use Rattle.cows.specs.Terms.{Term, Action}
 use Rattle.cows.specs.Kinds.{readyKind}
 use Rattle.cows.specs.Active.{ready}
-use Rattle.cows.specs.Moves.{closedEnds, tighter}
+use Rattle.cows.specs.Moves.{closedAction, tighter}
 use Rattle.records.specs.Answers.{foundOf}
 use Rattle.ways.specs.Known.{Table}
-use Rattle.matching.specs.Matching.{EndsAt}
+use Rattle.matching.specs.Matching.{ActionAt}
 use Rattle.ways.proofs.Tables.{table-inside, table-size}
 use Rattle.ways.proofs.Seeking.{Seeking, seeking-start, seeking-found, seeking-end, table-through, table-next, table-over}
 use Rattle.holding.proofs.Marking.{}
@@ -18,7 +18,7 @@ use Rattle.holding.proofs.conflicts.first_tighter.Statement.{statement}
 use Rattle.holding.proofs.conflicts.first_tighter.Tie as tie
 
 abbrev Inv-loop : tie.InvT-loop
-Inv-loop s ends b l n i₀ i = (i ≤ n) × ((t : Term) (m : Ends) → Table s ends t → EndsAt s b m → closedEnds m ≡ true → Seeking readyKind (tightening l m) t i)
+Inv-loop s ends b l n i₀ i = (i ≤ n) × ((t : Term) (m : Action) → Table s ends t → ActionAt s b m → closedAction m ≡ true → Seeking readyKind (tightening l m) t i)
 
 abbrev μ-loop : tie.MeasureT-loop
 μ-loop s ends b l n i₀ i = n - i

@@ -5,8 +5,8 @@ use Prim.Native.Nat.{ℕ, _<_, _-_, _/_, _+_, _*_}
 use native.Mathlib.Omega.{arith}
 use borrow.Author.Needs.{needs}
 use lib.ListN.{length, length-set, getD}
+use Rattle.cows.specs.Basics.{oneIf}
 use Rattle.cows.specs.Kinds.{guardKind, open-kinds}
-use Rattle.records.specs.Ends.{oneIf}
 use Rattle.records.proofs.Laws.{test-small}
 use Rattle.readers.specs.Reads.{byGuard}
 use Rattle.readers.proofs.Readings.{kindAt}

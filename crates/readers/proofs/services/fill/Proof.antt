@@ -2,13 +2,13 @@ use mathlib.Core.Path.{_≡_, refl}
 use Prim.Native.Nat.{_-_, _≤_}
 use native.Mathlib.Omega.{arith}
 use lib.ListN.{length, length-set}
-use Rattle.readers.specs.Chains.{Put}
+use Rattle.readers.specs.Chains.{FilledWith}
 use Rattle.readers.proofs.Chains.{put-none, put-more}
 use Rattle.readers.proofs.services.fill.Statement.{statement}
 use Rattle.readers.proofs.services.fill.Tie as tie
 
 abbrev Inv-loop : tie.InvT-loop
-Inv-loop ends₀ at to end i₀ ends i = (length ends ≡ length ends₀) × (at ≤ i) × (i ≤ to) × Put ends₀ ends at i end
+Inv-loop ends₀ at to end i₀ ends i = (length ends ≡ length ends₀) × (at ≤ i) × (i ≤ to) × FilledWith ends₀ ends at i end
 
 abbrev μ-loop : tie.MeasureT-loop
 μ-loop ends₀ at to end i₀ ends i = to - i

@@ -2,13 +2,13 @@ use borrow.Author.Needs.{needs}
 use mathlib.Core.Path.{refl}
 use Prim.Native.Nat.{_-_}
 use native.Mathlib.Omega.{arith}
-use Rattle.renaming.specs.Bound.{boundRecord}
+use Rattle.renaming.specs.Bound.{recordBound}
 use Rattle.renaming.proofs.Across.{Writing, writing-start, writing-room, writing-turn, writing-end}
 use Rattle.renaming.proofs.binding.write_bound.Statement.{statement}
 use Rattle.renaming.proofs.binding.write_bound.Tie as tie
 
 abbrev Inv-loop : tie.InvT-loop
-Inv-loop s from to b t0 t1 t2 t3 dst₀ at i₀ next₀ dst i next = Writing (boundRecord t0 t1 t2 t3 b) s dst₀ at from to dst i next
+Inv-loop s from to b t0 t1 t2 t3 dst₀ at i₀ next₀ dst i next = Writing (recordBound t0 t1 t2 t3 b) s dst₀ at from to dst i next
 
 abbrev μ-loop : tie.MeasureT-loop
 μ-loop s from to b t0 t1 t2 t3 dst₀ at i₀ next₀ dst i next = to - i

@@ -5,9 +5,9 @@ use borrow.Author.Needs.{needs}
 use lib.ListN.{length, getD}
 use Rattle.cows.proofs.Rows.{children-some}
 use Rattle.cows.specs.Moves.{elapse}
-use Rattle.records.specs.Rewrites.{same}
+use Rattle.records.specs.Rewrites.{unchanged}
 use Rattle.records.proofs.Rewrites.{as-asks, as-gives}
-use Rattle.rewriting.proofs.Placed.{passes-placed}
+use Rattle.rewriting.proofs.Aligned.{passes-placed}
 use Rattle.rewriting.proofs.Children.{first-child, second-child, two-children, one-child}
 use Rattle.rewriting.proofs.Elapses.{one-of, none-of, Still, Passed, Through, elapse-still, elapse-through, still-at, through-at}
 use borrow.Fn.Kinds.{In}
@@ -52,9 +52,9 @@ pub +elapse-at-spec : {M : Type 1} → statement M
     elapse-at.Post
     (λ c. search needs)
     (λ c κs. search needs)
-    (λ c κs. let r = c .before .before .before .before .before .before .before .pre .1 in (as-asks _ same Still (elapse-still _) (r .0) (still-at (λ l. omega (arith, one-of _ _ _ (c .before .before .if1 .taken) l))), passes-placed (r .1) (r .0) (search needs)))
+    (λ c κs. let r = c .before .before .before .before .before .before .before .pre .1 in (as-asks _ unchanged Still (elapse-still _) (r .0) (still-at (λ l. omega (arith, one-of _ _ _ (c .before .before .if1 .taken) l))), passes-placed (r .1) (r .0) (search needs)))
     (λ c. search needs)
-    (λ c. as-gives _ same Still (elapse-still _) (c .before .before .copy-term .ensures) (still-at (λ l. omega (arith, one-of _ _ _ (c .before .before .before .before .before .if1 .taken) l))))
+    (λ c. as-gives _ unchanged Still (elapse-still _) (c .before .before .copy-term .ensures) (still-at (λ l. omega (arith, one-of _ _ _ (c .before .before .before .before .before .if1 .taken) l))))
     (λ c κs. search needs)
     (λ c. search needs)
     (λ c. search needs)

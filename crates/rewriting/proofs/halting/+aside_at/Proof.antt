@@ -4,7 +4,7 @@ use borrow.Author.Needs.{needs}
 use lib.ListN.{length}
 use Rattle.records.specs.Rewrites.{gone}
 use Rattle.records.proofs.Rewrites.{as-asks, as-gives}
-use Rattle.rewriting.proofs.Placed.{passes-placed}
+use Rattle.rewriting.proofs.Aligned.{passes-placed}
 use Rattle.rewriting.proofs.Asides.{aside-here, way-first-asks, halt-second-asks, way-first-both, way-first-one, halt-first-asks, way-second-asks, way-second-both}
 use borrow.Fn.Kinds.{In}
 use borrow.Fn.PlainCycle.{Measures, is, falls, and}

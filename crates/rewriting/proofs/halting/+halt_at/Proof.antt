@@ -4,9 +4,9 @@ use borrow.Author.Needs.{needs}
 use lib.ListN.{length}
 use Rattle.cows.proofs.Rows.{children-some}
 use Rattle.cows.specs.Moves.{halt}
-use Rattle.records.specs.Rewrites.{same, gone}
+use Rattle.records.specs.Rewrites.{unchanged, gone}
 use Rattle.records.proofs.Rewrites.{as-asks, as-gives}
-use Rattle.rewriting.proofs.Placed.{passes-placed}
+use Rattle.rewriting.proofs.Aligned.{passes-placed}
 use Rattle.rewriting.proofs.Children.{first-child, second-child, two-children, one-child}
 use Rattle.rewriting.proofs.Halts.{Gone, Kept, Through, halt-gone, halt-kept, halt-step, gone-at, kept-at, through-at}
 use borrow.Fn.Kinds.{In}
@@ -54,9 +54,9 @@ pub +halt-at-spec : {M : Type 1} → statement M
     (λ c. search needs)
     (λ c. as-gives halt gone Gone halt-gone (search needs) (gone-at (search needs)))
     (λ c κs. search needs)
-    (λ c κs. let r = c .before .before .before .before .before .before .before .before .pre .1 in (as-asks halt same Kept halt-kept (r .0) (kept-at (search needs)), passes-placed (r .1) (r .0) (search needs)))
+    (λ c κs. let r = c .before .before .before .before .before .before .before .before .pre .1 in (as-asks halt unchanged Kept halt-kept (r .0) (kept-at (search needs)), passes-placed (r .1) (r .0) (search needs)))
     (λ c. search needs)
-    (λ c. as-gives halt same Kept halt-kept (search needs) (kept-at (search needs)))
+    (λ c. as-gives halt unchanged Kept halt-kept (search needs) (kept-at (search needs)))
     (λ c κs. search needs)
     (λ c. search needs)
     (λ c. search needs)
