@@ -27,7 +27,7 @@ use Rattle.plans.proofs.Continuing.{span}
 use Rattle.communicate.proofs.Meets.{Met, accepted-met}
 use Rattle.communicate.proofs.Replacing.{metRecords, part-bound}
 
--- The bytes ahead of the choice, those of the continuation and those behind the choice, each of them boundRecords, fit the output, and are the table of r.
+-- The bytes ahead of the choice, those of the continuation and those behind the choice, each of them bound, fit the output, and are the table of r.
 pub record Parts (front body back out : List ℕ) (r : Term) : Type 0 where
   pub front-fits : length front ≤ length out
   pub body-fits : length front + length body ≤ length out

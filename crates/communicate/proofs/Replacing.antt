@@ -1,4 +1,4 @@
--- What the four slots of a receive take (matching, specs/Taking) is the substitution of its matching, and the records of a table so boundRecords are its boundNodes (crate cows, proofs/Binds).
+-- What the four slots of a receive take (matching, specs/Taking) is the substitution of its matching, and the records of a table so bound are its boundNodes (crate cows, proofs/Binds).
 use mathlib.Core.Path.{_≡_, refl, sym, ap, ap₂, subst, _∙_}
 use mathlib.Core.Logic.{_≢_}
 use mathlib.Core.Bool.{Bool, true, false, cond}
@@ -131,7 +131,7 @@ module _ (t₀ t₁ t₂ t₃ : Takes) (σ : Substitution) (same : (a : ℕ) →
       (ap₂ _++_ (node-bound b i n (r .0)) (records-bound b s (suc i) ns (r .1) (has-right (record16 n) (bytes ns) (16 * suc i) (omega arith) k))
       ∙ sym (append-bytes (bindNode σ (cond (eqb i b) (basic nil) n)) (boundNodes σ (silenced b (suc i) ns))))
 
--- The n records of s from place i on, as they are written: the invoke at place b is silenced, and what the receive at place a takes from it is boundRecords.
+-- The n records of s from place i on, as they are written: the invoke at place b is silenced, and what the receive at place a takes from it is bound.
 abbrev pub metRecords : (s : List ℕ) (a b i n : ℕ) → List ℕ
 metRecords s a b i n =
     boundRecords (takesOf (word s (16 * a + 6)) (word s (16 * b + 6))) (takesOf (word s (16 * a + 8)) (word s (16 * b + 8))) (takesOf (word s (16 * a + 10)) (word s (16 * b + 10)))

@@ -1,5 +1,5 @@
--- The successor that the moves compute (specs/Moves) is the oneIf that the rules allow (specs/Allows), on every term within the limits:
--- successor-allows and allows-successor; so the rules allow at most oneIf successor of a move, allows-unique.
+-- The successor that the moves compute (specs/Moves) is the one that the rules allow (specs/Allows), on every term within the limits:
+-- successor-allows and allows-successor; so the rules allow at most one successor of a move, allows-unique.
 use mathlib.Core.Path.{_≡_, refl, sym, ap, subst, _∙_}
 use mathlib.Core.Bool.{true, false, not, _||_}
 use mathlib.Core.Option.{Option, none, some}
@@ -41,7 +41,7 @@ kill-fires t s a e =
     let (k, ek, es) = bind-accept (wanted kills t a) _ s e in
     (k, wanted-live kills t a k _ (kills-is (sub t a) k) ek, same-accept es)
 
--- there is but oneIf [k]
+-- there is but one [k]
 kill-once : (t s : Term) (a k : ℕ) (v w : Way) → Within t → sub t a ≡ s → wayTo t a ≡ v ++ (inside (delimitation k) ∷ w) → enclosed k v ≡ false
 unfolding delimitsAtom delimits foundWith
 kill-once t s a k v w h q e =

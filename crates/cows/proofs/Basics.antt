@@ -24,7 +24,7 @@ pub cond-case : {A : Type 0} (P : A → Type 0) (b : Bool) {x y : A} → (b ≡ 
 cond-case P true f g = f refl
 cond-case P false f g = g refl
 
--- both of two conds by the sameList test
+-- both of two conds by the same test
 pub cond-case₂ : {A B : Type 0} (P : A → B → Type 0) (b : Bool) {x y : A} {u v : B} → (b ≡ true → P x u) → (b ≡ false → P y v) → P (cond b x y) (cond b u v)
 cond-case₂ P true f g = f refl
 cond-case₂ P false f g = g refl

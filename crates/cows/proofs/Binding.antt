@@ -40,7 +40,7 @@ value-local a h l =
 instead-weakens : (x v : ℕ) (K L : ℕ → Bool) → Inside L K → Weakens (Instead x v (Need K)) (Instead x v (Need L))
 instead-weakens x v K L k a E F i h e = need-weakens K L k v E F i (h e)
 
--- a prefix delimits oneIf atom
+-- a prefix delimits one atom
 pub delimits-one : (a b : ℕ) (u : Prefix) → delimitsAtom a u ≡ true → delimitsAtom b u ≡ true → a ≡ b
 unfolding delimitsAtom
 delimits-one a b u h k =
@@ -57,7 +57,7 @@ pub record Binds (t : Term) (p : ℕ × ℕ) : Type 0 where
 abbrev pub AllBind : Term → Substitution → Type 0
 AllBind t σ = All (Binds t) σ
 
--- what a change of the term keeps of oneIf pair, it keeps of all
+-- what a change of the term keeps of one pair, it keeps of all
 all-bind : (t r : Term) → ((y w : ℕ) → variable y ≡ true → value w ≡ true → Used (Instead y w (Need (restricted t))) nowhere t → Used (Instead y w (Need (restricted r))) nowhere r)
     → (σ : Substitution) → AllBind t σ → AllBind r σ
 all-bind t r k [] h = tt
@@ -71,7 +71,7 @@ module _ (x v : ℕ) (vx : variable x ≡ true) (vv : value v ≡ true) where
   abbrev at : ℕ → ℕ
   at = image ((x, v) ∷ [])
 
-  -- what foundWith of v, and of each atom but x, foundWith of the images
+  -- what holds of v, and of each atom but x, holds of the images
   at-case : (P : ℕ → Type 0) (a : ℕ) → (eqb a x ≡ true → P v) → (eqb a x ≡ false → P a) → P (at a)
   unfolding image
   at-case P a f g = cond-case P (eqb a x) f g

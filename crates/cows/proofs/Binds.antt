@@ -30,7 +30,7 @@ depth-mapped f (leaf x) = refl
 depth-mapped f (under u t) = ap suc (depth-mapped f t)
 depth-mapped f (both j s t) = rw (depth-mapped f s, depth-mapped f t)
 
--- two lists of records, oneIf behind the other
+-- two lists of records, one behind the other
 pub bound-append : (σ : Substitution) (ms ns : List Node) → boundNodes σ (ms ++ ns) ≡ boundNodes σ ms ++ boundNodes σ ns
 bound-append σ = flatMap-append (bindNode σ)
 

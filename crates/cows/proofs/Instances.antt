@@ -52,7 +52,7 @@ module _ (x v : ℕ) where
   fill-counts : (a n : ℕ) (w : Way) (s r : Term) → counts a r ≡ counts a s + n → counts a (fill w r) ≡ counts a (fill w s) + n
   fill-counts a n w s r e = fill-ind (λ s r. counts a r ≡ counts a s + n) (λ f s r h. counts-plug f s r a n h) w s r e
 
-  -- oneIf delimitation goes
+  -- one delimitation goes
   module _ (w : Way) (r : Term) (once : counts x (fill w (under (delimitation x) r)) ≤ 1) where
     self : oneIf (delimitsAtom x (delimitation x)) ≡ 1
     unfolding delimitsAtom delimits foundWith

@@ -53,7 +53,7 @@ delimits-image f protection a h = h
 delimits-image f (delimitation d) a h = eq-eqb (f a) (f d) (ap f (eqb-true a d h))
 delimits-image f replication a h = h
 
--- Of the atoms of which M foundWith: where oneIf is in E, its image is in F.
+-- Of the atoms of which M holds: where one is in E, its image is in F.
 abbrev pub Carries : (ℕ → ℕ) → (ℕ → Type 0) → (ℕ → Bool) → (ℕ → Bool) → Type 0
 Carries f M E F = (a : ℕ) → M a → E a ≡ true → F (f a) ≡ true
 
@@ -94,7 +94,7 @@ counts-at x v t z a =
     counts-mapped (image ((x, v) ∷ [])) a a t
     (λ d l. cond-case (λ c. eqb a c ≡ eqb a d) (eqb d x) (λ e. absurd (omega (arith, ap (λ c. counts c t) (eqb-true d x e)))) (λ e. refl))
 
--- every atom delimited afterwards is the image of oneIf delimited before
+-- every atom delimited afterwards is the image of one delimited before
 delimits-source : (f : ℕ → ℕ) (b : ℕ) (u : Prefix) → delimitsAtom b (mapPrefix f u) ≡ true → (d : ℕ) × (delimitsAtom d u ≡ true) × (b ≡ f d)
 unfolding delimitsAtom delimits foundWith mapPrefix
 delimits-source f b (receive p o ws) h = never h
@@ -120,7 +120,7 @@ counts-source f b (both j s t) h = go (counts b (mapAtoms f s)) refl (counts-sou
     go zero e k l = let (d, q, i) = l (omega arith) in (d, omega arith, i)
     go (suc n) e k l = let (d, q, i) = k (omega arith) in (d, omega arith, i)
 
--- A map that keeps the table of kinds: values and labels stay such, variables stay data, and among the atoms of which M foundWith none becomes the same variable as another.
+-- A map that keeps the table of kinds: values and labels stay such, variables stay data, and among the atoms of which M holds none becomes the same variable as another.
 pub record Fits (f : ℕ → ℕ) (M : ℕ → Type 0) : Type 0 where
   pub values : (a : ℕ) → value a ≡ true → value (f a) ≡ true
   pub variables : (a : ℕ) → variable a ≡ true → datum (f a) ≡ true

@@ -130,7 +130,7 @@ reaches-inScope t a b [] h = refl
 reaches-inScope t a b (p ∷ σ) h =
     true-and (true-and (true-and (h .0 .receiver) (h .0 .sender)) (nested-outside t (p .1) (p .0) (h .0 .nested))) (reaches-inScope t a b σ (h .1))
 
--- 14: no [k] around either party foundWith a ready kill of k
+-- 14: no [k] around either party holds a ready kill of k
 held : Spot → Bool
 held z = foundWith (λ k. found (first (readyKill k) (z .here))) (prefixed delimits (z .here))
 

@@ -26,7 +26,7 @@ pub data Lowered : Prefix → Prefix → Type 0 where
   lowered : {m n : ℕ} → n ≤ m → Lowered (wait m) (wait n)
 
 -- Part g t r: r is what is left of t. Subterms have become nil, intervals are lowered, prefixes that delimit nothing and other sides of choices are gone,
--- and a delimitation has changed places with its parent. If g foundWith and t is a guard, so is r.
+-- and a delimitation has changed places with its parent. If g holds and t is a guard, so is r.
 pub data Part : Bool → Term → Term → Type 0 where
   whole : {t : Term} → Part true t t
   cut : {t : Term} → Part true t (leaf nil)

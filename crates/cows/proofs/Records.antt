@@ -1,4 +1,4 @@
--- Laws of one record (specs/Format): its 16 bytes are right exactly if they are a right readNode's, and then each is read off the other.
+-- Laws of one record (specs/Format): its 16 bytes are right exactly if they are a right node's, and then each is read off the other.
 use mathlib.Core.Path.{_≡_, refl, sym, ap, _∙_}
 use mathlib.Core.Bool.{true, _&&_}
 use mathlib.Core.List.{List, [], _∷_, _++_, map}
@@ -82,7 +82,7 @@ right-pattern4 : (ws : List ℕ) → RightTuple ws → distinct ws ≡ true → 
 unfolding pattern4
 right-pattern4 ws h k = true-and (right-data4 ws h) (rw (take-pad ws (h .0)) k)
 
--- AreBytes and the 16-bit numbers that they say.
+-- Bytes and the 16-bit numbers that they say.
 byte-small : (b : List ℕ) (i : ℕ) → AreBytes b → byte b i < 256
 unfolding byte
 byte-small [] i h = omega arith
@@ -187,7 +187,7 @@ right-record b l k h =
     let (r, n) = right-kind b (byte b 0) refl (ltb-true (byte b 0) (length kinds) m) (fits (rowOf (byte b 0) .holds) b f) in
     (r ∙ raw-bytes b l k, n)
 
--- The other way: a right readNode's bytes are a right record, and the readNode is read off them.
+-- The other way: a right node's bytes are a right record, and the node is read off them.
 layout-right : (k a c i : ℕ) (ws : List ℕ) → ltb k (length kinds) ≡ true → rowOf k .holds .first a ≡ true → rowOf k .holds .second c ≡ true → rowOf k .holds .tuple (length ws) (pad ws) ≡ true → rowOf k .holds .interval i ≡ true
     → rightRecord (layout k a c ws i) ≡ true
 unfolding rightRecord rightContents layout bytes2 word byte slots
@@ -219,7 +219,7 @@ node-record16 (prefix replication) h = refl
 node-record16 (join choice) h = refl
 node-record16 (join parallel) h = refl
 
--- A right readNode's bytes are bytes.
+-- A right node's bytes are bytes.
 pub small-atom : (a : ℕ) → atom a ≡ true → a < 65536
 small-atom a h = set-case (a < 65536) a h (λ e. omega (arith, value-range a e)) (λ e. omega (arith, variable-range a e)) (λ e. omega (arith, label-range a e))
 

@@ -106,7 +106,7 @@ unfolding any
 any-bound K E [] h = tt
 any-bound K E (a ∷ l) h = let (p, q) = or-false (K a && not (E a)) _ h in ((λ e. not-false (E a) (ap (λ c. c && not (E a)) (sym e) ∙ p)), any-bound K E l q)
 
--- the test for a use, not enclosed, of an atom of which K foundWith
+-- the test for a use, not enclosed, of an atom of which K holds
 module _ (K : ℕ → Bool) where
   abbrev stray : ℕ → Spot → Bool
   stray n z = any (λ a. K a && not (enclosed a (z .way))) (uses (z .here))

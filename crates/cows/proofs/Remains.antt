@@ -39,7 +39,7 @@ use Rattle.cows.proofs.Binding.{AllBind}
 use Rattle.cows.proofs.Preserving.{meeting-binds}
 use Rattle.cows.proofs.Allows.{communicate-meets, meets-communicate}
 
--- The whole choice around the guard at place a: where it begins, what it is, and that it foundWith the guard.
+-- The whole choice around the guard at place a: where it begins, what it is, and that it holds the guard.
 ahead-append : (v w : Way) → length (ahead (v ++ w)) ≡ length (ahead w) + length (ahead v)
 unfolding ahead
 ahead-append [] w = omega arith

@@ -1,4 +1,4 @@
--- The atoms chosen for a copy (specs/Moves, fresh and renaming): not taken, of the same set, the firstFree such, and different from each other.
+-- The atoms chosen for a copy (specs/Moves, fresh and renaming): not taken, of the same set, the smallest such, and different from each other.
 use mathlib.Core.Path.{_≡_, refl, sym, ap, subst, _∙_}
 use mathlib.Core.Bool.{Bool, true, false, cond, _||_}
 use mathlib.Core.List.{List, [], _∷_}
@@ -73,7 +73,7 @@ fresh-free : (taken : List ℕ) (d : ℕ) → member (fresh taken d) taken ≡ f
 unfolding fresh
 fresh-free taken d = smallest-free (suc (length taken)) (least d) taken (omega (arith, hits-le (least d) (suc (length taken)) taken))
 
--- and the firstFree such
+-- and the smallest such
 pub smallest-least : (k n : ℕ) (taken : List ℕ) (m : ℕ) → n ≤ m → m < firstFree k n taken → member m taken ≡ true
 unfolding firstFree
 smallest-least zero n taken m h l = absurd (omega arith)
@@ -109,7 +109,7 @@ image-other taken (d ∷ ds) a h =
     let (h₁, h₂) = or-false (eqb a d) (any (eqb a) ds) h in
     rw h₁ (image-other (fresh taken d ∷ taken) ds a h₂)
 
--- those listed become firstFree ones
+-- those listed become smallest ones
 pub image-free : (taken ds : List ℕ) (a : ℕ) → member a ds ≡ true → member (image (renaming taken ds) a) taken ≡ false
 unfolding image renaming member any
 image-free taken [] a h = never h
@@ -135,7 +135,7 @@ member-cons : (a b : ℕ) (l : List ℕ) → member a l ≡ true → member a (b
 unfolding member any
 member-cons a b l h = or-right (eqb a b) (any (eqb a) l) h
 
--- an atom in use is not renamed to oneIf just fresh
+-- an atom in use is not renamed to one just fresh
 image-not : (taken ds : List ℕ) (f b : ℕ) → member f taken ≡ false → member b taken ≡ true → eqb f (image (renaming (f ∷ taken) ds) b) ≡ false
 unfolding member any
 image-not taken ds f b hf hb = go (member b ds) refl

@@ -1,4 +1,4 @@
--- Laws of specs/Within: what foundWith of every atom that a term uses, with the atoms delimited around the use; guards, scopes and kinds along a way; and how often an atom is delimited.
+-- Laws of specs/Within: what holds of every atom that a term uses, with the atoms delimited around the use; guards, scopes and kinds along a way; and how often an atom is delimited.
 use mathlib.Core.Path.{_≡_, refl, sym, ap, ap₂, _∙_}
 use mathlib.Core.Bool.{Bool, true, false, _||_}
 use mathlib.Core.Option.{Option, none, some}
@@ -35,7 +35,7 @@ Used P E (both j s t) = Used P E s × Used P E t
 abbrev pub local : ℕ → Bool
 local a = variable a || label a
 
--- The rule of Scoped: an atom of which K foundWith is delimited.
+-- The rule of Scoped: an atom of which K holds is delimited.
 abbrev pub Need : (ℕ → Bool) → Rule
 Need K a E = K a ≡ true → E a ≡ true
 
@@ -49,7 +49,7 @@ used-scoped K E (leaf x) h = h
 used-scoped K E (under u t) h = (h .0, used-scoped K (inner u E) t (h .1))
 used-scoped K E (both j s t) h = (used-scoped K E s (h .0), used-scoped K E t (h .1))
 
--- oneIf set of atoms inside another; a rule that asks less, with more atoms around
+-- one set of atoms inside another; a rule that asks less, with more atoms around
 abbrev pub Inside : (ℕ → Bool) → (ℕ → Bool) → Type 0
 Inside E F = (a : ℕ) → E a ≡ true → F a ≡ true
 
@@ -200,7 +200,7 @@ unfolding fill
 counts-fill [] s a = omega arith
 counts-fill (f ∷ w) s a = omega (arith, counts-frame f s a, counts-fill w (plug f s) a)
 
--- a delimitation on the way is oneIf more
+-- a delimitation on the way is one more
 pub counts-enclosed : (w : Way) (s : Term) (a : ℕ) → enclosed a w ≡ true → 1 + counts a s ≤ counts a (fill w s)
 unfolding fill enclosed any
 counts-enclosed [] s a h = absurd (omega (arith, ap oneIf h))

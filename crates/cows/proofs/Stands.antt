@@ -1,4 +1,4 @@
--- What stands at a place: a property that children inherit foundWith at every place; a record wanted at a place is one that is live there and of the
+-- What stands at a place: a property that children inherit holds at every place; a record wanted at a place is one that is live there and of the
 -- kind; a search that finds nothing has failed at each record; the delimitations of a term; a used atom is enclosed on the way to its use.
 use mathlib.Core.Path.{_≡_, refl, sym, ap, subst, _∙_}
 use mathlib.Core.Bool.{Bool, true, false, _&&_}

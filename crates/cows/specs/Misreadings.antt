@@ -115,7 +115,7 @@ misreadings =
     -- M22: halting makes nil of invokes and kills, and of whole receives, waits and choices
     ∷ accepted (new k (stop ∣ po! v ∣ stop ∣ po?then v ⟦ qo! v ⟧ ∣ waitFor 3 ⟦ qo! v ⟧ ∣ (po? v ⊕ waitFor 1 𝟘))) (killing 2) (new k (𝟘 ∣ 𝟘 ∣ 𝟘 ∣ 𝟘 ∣ 𝟘 ∣ 𝟘))
     (0 ∷ 1 ∷ 0 ∷ 0 ∷ [])
-    -- M23: it goes through delimitations and replications, which stay, and keeps a protection whole; the kill stands on the rightNight
+    -- M23: it goes through delimitations and replications, which stay, and keeps a protection whole; the kill stands on the right
     ∷ accepted (new k ((new n (new x (po! x ∣ ⟦ qo! n ⟧)) ∣ rep (new j (⟦ stop ⟧ ∣ leaf (kill j) ∣ po! v))) ∣ stop)) (killing 17)
     (new k ((new n (new x (𝟘 ∣ ⟦ qo! n ⟧)) ∣ rep (new j (⟦ stop ⟧ ∣ 𝟘 ∣ 𝟘))) ∣ 𝟘)) (0 ∷ 1 ∷ 0 ∷ 2 ∷ [])
     -- M24: a protection and a delimitation of another atom on the way shelter nothing and stay; outside [k] nothing is halted
@@ -171,7 +171,7 @@ misreadings =
     -- M40: the copy is renamed in every field and every part; an atom that is delimited outside the body stays
     ∷ accepted (⟦ new n (po? n ∣ rep (body 6 x)) ⟧) (unfold-at 5) (⟦ new n (po? n ∣ body 3 y ∣ rep (body 6 x)) ⟧) (0 ∷ 0 ∷ 0 ∷ 9 ∷ [])
     -- Extrude.
-    -- M41: a delimitation floats over a delimitation, out of a left and a rightNight side, and over a protection; at the root it stays
+    -- M41: a delimitation floats over a delimitation, out of a left and a right side, and over a protection; at the root it stays
     ∷ night (⟦ qo! v ∣ new k (new n (po! n)) ∣ 𝟘 ⟧) (float 5 ∷ float 4 ∷ float 3 ∷ float 1 ∷ float 0 ∷ [])
     (says 0 0 8 ∷ says 0 0 8 ∷ says 0 0 8 ∷ says 0 0 8 ∷ says 18 0 8 ∷ []) (new n ⟦ qo! v ∣ new k (po! n) ∣ 𝟘 ⟧) (0 ∷ 0 ∷ 0 ∷ 2 ∷ [])
     -- M42: 18: a label does not float; a variable does

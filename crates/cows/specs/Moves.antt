@@ -79,7 +79,7 @@ match n [] vs = binds []
 match n (w ∷ ws) [] = binds []
 match n (w ∷ ws) (v ∷ vs) = let rest = match (suc n) ws vs in cond (variable w) (besides w v rest) (provided (eqb w v) (otherValue n) rest)
 
--- The receive r fits the invoke m: m foundWith no variable; endpoints and tuple counts are equal; so is each value in the pattern to the value sent.
+-- The receive r fits the invoke m: m holds no variable; endpoints and tuple counts are equal; so is each value in the pattern to the value sent.
 unfoldable pub closedAction : Action → Bool
 closedAction m = not (any variable (m .partner ∷ m .operation ∷ m .tuple))
 
@@ -104,7 +104,7 @@ inScope t a b p =
     enclosed (p .0) (wayTo t a) && enclosed (p .0) (wayTo t b)
     && (not (member (p .1) (binders t)) || not (found (first (outside (p .1) (p .0)) t)))
 
--- 14: a [k] that encloses either party and foundWith a ready kill of k.
+-- 14: a [k] that encloses either party and holds a ready kill of k.
 unfoldable pub readyKill : ℕ → ℕ → Spot → Bool
 readyKill k n z = ready (z .way) && foundWith (eqb k) (kills (z .here))
 
@@ -209,7 +209,7 @@ elapseBy t d = do
   forbid 17 (first (shorter d) t)
   accept (elapse d t)
 
--- Unfold. The firstFree atom from n on that is not taken, within so many tries; the first atom of an atom's set.
+-- Unfold. The smallest atom from n on that is not taken, within so many tries; the first atom of an atom's set.
 unfoldable pub firstFree : ℕ → ℕ → List ℕ → ℕ
 firstFree zero n taken = n
 firstFree (suc tries) n taken = let r = firstFree tries (suc n) taken in cond (member n taken) r n

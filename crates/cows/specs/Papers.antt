@@ -70,7 +70,7 @@ abbrev pub ⟦_⟧ : Term → Term
 abbrev pub rep : Term → Term
 rep t = under replication t
 
--- the six bytes of each moveBytes
+-- the six bytes of each move
 abbrev pub moveBytes : ℕ → ℕ → ℕ → List ℕ
 moveBytes kind a b = kind ∷ 0 ∷ bytes2 a ++ bytes2 b
 

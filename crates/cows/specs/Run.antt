@@ -1,4 +1,4 @@
--- A list of moves (01, A night playFrom): the run, which is the paper's night book, and play's replies, outputs and tally.
+-- A list of moves (01, A night played): the run, which is the paper's night book, and play's replies, outputs and tally.
 use mathlib.Core.Bool.{_||_}
 use mathlib.Core.List.{List, [], _∷_, _++_, flatMap}
 use mathlib.Core.Option.{Option, none, some}

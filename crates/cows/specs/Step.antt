@@ -1,4 +1,4 @@
--- One move on any bytes: refusals 10, 20 and 21, the replyTo and every output byte (01, Moves and Who can cause which refusal).
+-- One move on any bytes: refusals 10, 20 and 21, the reply and every output byte (01, Moves and Who can cause which refusal).
 use mathlib.Core.Bool.{Bool, _&&_, _||_}
 use mathlib.Core.List.{List, [], _∷_, _++_}
 use mathlib.Core.Option.{Option}
@@ -50,7 +50,7 @@ judgeStep table m room = do
   t ← judge table
   stepTerm t (readMove m) room
 
--- The replyTo; the output as it then is: the successor from its start and the rest untouched, or all untouched.
+-- The reply; the output as it then is: the successor from its start and the rest untouched, or all untouched.
 pub record Reply : Type 0 where
   pub answer : ℕ
   pub place : ℕ

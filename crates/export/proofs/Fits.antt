@@ -1,4 +1,4 @@
--- That every replyTo fits its number: places are below 2^16, records and loads at most 2,048.
+-- That every reply fits its number: places are below 2^16, records and loads at most 2,048.
 use mathlib.Core.Path.{_≡_, refl, ap}
 use mathlib.Core.List.{List}
 use Prim.Native.Nat.{ℕ, suc, _<_, _≤_}

@@ -1,4 +1,4 @@
--- Refusal 14 by labels: no atom is delimited twice, so a [k] that encloses a live place foundWith a ready kill of k exactly if the table does.
+-- Refusal 14 by labels: no atom is delimited twice, so a [k] that encloses a live place holds a ready kill of k exactly if the table does.
 use mathlib.Core.Path.{_≡_, refl, sym, ap, subst, _∙_}
 use mathlib.Core.Bool.{Bool, true, false, _&&_, _||_}
 use mathlib.Core.List.{[], _++_}
@@ -97,7 +97,7 @@ module _ (t : Term) (w : Within t) (a n k : ℕ) (la : a < size t) (v : live (wa
   pub held-whole : found (first (readyKill k) (sub t n)) ≡ found (first (readyKill k) t)
   held-whole = same-test to-whole from-whole
 
--- The record at place n by the ready kills of the table: no delimitation foundWith back, or it is one of k.
+-- The record at place n by the ready kills of the table: no delimitation holds back, or it is one of k.
 pub held-none : (t : Term) (a b n : ℕ) → prefixed delimits (sub t n) ≡ none → heldBack a b n (spotAt t n) ≡ false
 unfolding heldBack foundWith sub
 held-none t a b n e = rw e (and-none (encloses n (sub t n) a || encloses n (sub t n) b))

@@ -18,7 +18,7 @@ ghost use Rattle.records.specs.Answers.{foundOf};
 ghost use Rattle.ways.specs.Known.{Table, Known};
 ghost use Rattle.matching.specs.Matching.{ActionAt};
 
-// Whether the record at place i is a receive that fits the invoke at place b, which foundWith no variable, and binds fewer than l variables.
+// Whether the record at place i is a receive that fits the invoke at place b, which holds no variable, and binds fewer than l variables.
 fn tighter(s: &[u8], i: usize, b: usize, l: usize) -> bool
     requires { ⌜ (16 * i + 15 < length (now s)) × (16 * b + 15 < length (now s)) ⌝ }
     ensures { λ r. ⌜ ((t : Term) (m : Action) → Holds (now (s .entry)) t → i < size t → ActionAt (now (s .entry)) b m → closedAction m ≡ true → r ≡ foundWith (λ q. fewer l (fit q m)) (prefixed receives (sub t i))) ⌝ }

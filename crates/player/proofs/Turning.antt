@@ -89,7 +89,7 @@ module _ (s ends : List ℕ) {m : code.Move} (h : Accepted s ends m) {a : ℕ} (
     few = few;
   }
 
--- what a replyTo says of the result that it answers
+-- what a reply says of the result that it answers
 answer-refused : (x : Result Term) (r : Reply) → r ≡ replyOf (replyTo x) → r .answer ≢ 0 → (n : ℕ) × (p : ℕ) × (x ≡ refuse n p)
 unfolding replyTo
 answer-refused (refuse n p) r e h = (n, p, refl)

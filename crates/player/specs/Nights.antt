@@ -1,4 +1,4 @@
--- A list of moves on a table (document 01, A night playFrom): what play replies and leaves in its two buffers.
+-- A list of moves on a table (document 01, A night played): what play replies and leaves in its two buffers.
 use mathlib.Core.Path.{_≡_}
 use mathlib.Core.List.{List, _++_}
 use mathlib.Core.Option.{Option}

@@ -1,4 +1,4 @@
--- Renaming oneIf delimited atom after the other: the names so far, and the renaming of those that are left, are the whole renaming.
+-- Renaming one delimited atom after the other: the names so far, and the renaming of those that are left, are the whole renaming.
 use mathlib.Core.Path.{_≡_, refl, sym, ap, ap₂, _∙_}
 use mathlib.Core.Logic.{_≢_}
 use mathlib.Core.Bool.{Bool, true, false, cond, _||_}
@@ -66,7 +66,7 @@ pub record Choosing (known all names next left : List ℕ) : Type 0 where
   pub answer : (a : ℕ) → member a known ≡ true → image (renaming known all) a ≡ cond (member a left) (image (renaming taken left) a) (getD names a 0)
 
 module _ (known all names next : List ℕ) where
-  -- the next oneIf
+  -- the next one
   module _ (d : ℕ) (left : List ℕ) (c : Choosing known all names next (d ∷ left)) where
     pub choosing-wants : Wanting names next (c .taken) d
     unfolding every member any

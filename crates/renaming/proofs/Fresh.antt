@@ -1,4 +1,4 @@
--- NewAtom atoms: the search finds the smallest one that is not taken.
+-- New atoms: the search finds the smallest one that is not taken.
 use mathlib.Core.Path.{_≡_, refl, sym, ap, _∙_}
 use mathlib.Core.Logic.{_≢_}
 use mathlib.Core.Bool.{Bool, true, false, cond, _||_}

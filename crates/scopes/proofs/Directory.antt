@@ -1,4 +1,4 @@
--- Laws of the directory: at the start it keeps 0 for each atom; to give out a page changes no number; a store changes that of oneIf atom.
+-- Laws of the directory: at the start it keeps 0 for each atom; to give out a page changes no number; a store changes that of one atom.
 use mathlib.Core.Path.{_≡_, refl, sym, ap, _∙_}
 use mathlib.Core.Logic.{_≢_}
 use mathlib.Core.Bool.{Bool, true, false}

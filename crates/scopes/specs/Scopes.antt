@@ -15,7 +15,7 @@ use Rattle.records.specs.Holds.{Holds}
 use Rattle.scopes.specs.declared.Scoping.{Scoping}
 use Rattle.scopes.specs.declared.Scoping.the-variants.{Fine, Open, Clash}
 
--- refusal 6 if there is oneIf, else refusal 7
+-- refusal 6 if there is one, else refusal 7
 abbrev pub scopingOf : Option ℕ → Option ℕ → Scoping
 scopingOf (some p) q = Open p
 scopingOf none (some p) = Clash p
@@ -25,7 +25,7 @@ scopingOf none none = Fine
 abbrev pub directorySlot : List ℕ → ℕ → ℕ
 directorySlot pages a = getD pages (a / 256) 0 + a % 256
 
--- Every atom has a slot; oneIf in a page that is given out has it for itself.
+-- Every atom has a slot; one in a page that is given out has it for itself.
 pub record Paged (pages marks : List ℕ) : Type 0 where
   pub wide : length pages ≡ 256
   pub inside : (a : ℕ) → a < 65536 → directorySlot pages a < length marks
@@ -63,7 +63,7 @@ pub record PageGiven (pages out marks : List ℕ) (a top : ℕ) : Type 0 where
   pub paged : Paged out marks
 
 -- Before the pass, once the places below d are entered: 1 for the atoms delimited there. In the pass, before place j: 0 for an atom that the term
--- does not delimit, else oneIf more than the farthest end of a delimitation of it below j (0 if there is none).
+-- does not delimit, else one more than the farthest end of a delimitation of it below j (0 if there is none).
 unfoldable pub enteredOf : Term → ℕ → ℕ → ℕ
 enteredOf t d a = oneIf (ltb 0 (reachOf t a d))
 
@@ -81,14 +81,14 @@ pub record PassedTo (s pages marks : List ℕ) (j : ℕ) (t : Term) : Type 0 whe
   pub holds : Holds s t
   pub keeps : Keeps pages marks (markOf t j)
 
--- the ends of terms, for every table that holds oneIf
+-- the ends of terms, for every table that holds one
 pub record EndsOf (s ends : List ℕ) : Type 0 where
   pub few : length s / 16 ≤ 2048
   pub room : length s / 16 ≤ length ends
   pub small : (j : ℕ) → j < length s / 16 → getD ends j 0 < 65535
   pub right : (t : Term) → Holds s t → (j : ℕ) → j < size t → getD ends j 0 ≡ j + size (sub t j)
 
--- How bad uses are: 2 if oneIf is of a variable or a label outside its delimitations, else 1 if oneIf is of a delimited value outside, else 0.
+-- How bad uses are: 2 if one is of a variable or a label outside its delimitations, else 1 if one is of a delimited value outside, else 0.
 unfoldable pub level : Bool → Bool → ℕ
 level p q = cond p 2 (cond q 1 0)
 
@@ -98,7 +98,7 @@ openUse t j a = bindable a && not (enclosed a (wayTo t j))
 abbrev pub strays : Term → ℕ → ℕ → Bool
 strays t j a = (value a && member a (binders t)) && not (enclosed a (wayTo t j))
 
--- the same for oneIf atom, by its mark v
+-- the same for one atom, by its mark v
 unfoldable pub faultBy : ℕ → ℕ → ℕ → ℕ
 faultBy v a j = cond (ltb (j + 1) v) 0 (cond (leb 32768 a) 2 (cond (eqb v 0) 0 1))
 
@@ -115,6 +115,6 @@ pub record TupleAt (s : List ℕ) (j : ℕ) (ws : List ℕ) : Type 0 where
   pub count : byte s (16 * j + 1) ≡ length ws
   pub slot : (i : ℕ) → i < 4 → word s (16 * j + 6 + 2 * i) ≡ getD ws i 0
 
--- the first clash: c if there is oneIf before place j, else j if there is oneIf there, else n
+-- the first clash: c if there is one before place j, else j if there is one there, else n
 unfoldable pub firstClash : ℕ → ℕ → ℕ → Bool → ℕ
 firstClash c n j b = cond (b && eqb c n) j c

@@ -1,4 +1,4 @@
--- From a plan and what writing gives to the replyTo and the output of a step (specs/Replies): the same for every move m with the place of its plan.
+-- From a plan and what writing gives to the reply and the output of a step (specs/Replies): the same for every move m with the place of its plan.
 use mathlib.Core.Path.{_≡_, refl, sym, ap, _∙_}
 use mathlib.Core.Logic.{_≢_}
 use mathlib.Core.Bool.{Bool, true, false}
@@ -32,7 +32,7 @@ fitting-not room n h = rw (lt-ltb room (16 * n) h)
 pub fitting-so : (room n : ℕ) → 16 * n ≤ room → record { answer = 0; place = 0; records = n } ≡ replyIn room (accept n)
 fitting-so room n h = rw (le-ltb room (16 * n) h)
 
--- the replyTo to a move's judgement is the replyTo to its result
+-- the reply to a move's judgement is the reply to its result
 pub reply-fitted : (room : ℕ) (m : Result Term) → replyIn room (limited m) ≡ replyOf (replyTo (m >>= fitted room))
 unfolding limited fitted replyTo _>>=_ _>>_ forbid placeIf
 reply-fitted room (refuse n p) = refl

@@ -1,4 +1,4 @@
--- What a step answers and leaves in the output: document 01's replyTo as the code has it.
+-- What a step answers and leaves in the output: document 01's reply as the code has it.
 use mathlib.Core.Path.{_≡_}
 use mathlib.Core.Bool.{cond}
 use mathlib.Core.List.{List}
@@ -11,16 +11,16 @@ use Rattle.cows.specs.Step as meaning
 use Rattle.tables.specs.declared.Reply.{Reply}
 use Rattle.tables.specs.Verdict.{refusal}
 
--- a replyTo, as the code has it
+-- a reply, as the code has it
 abbrev pub replyOf : meaning.Reply → Reply
 replyOf r = record { answer = r .answer; place = r .place; records = r .records }
 
--- the replyTo to a judgement, with room for so many bytes: 21 if the successor's records do not fit
+-- the reply to a judgement, with room for so many bytes: 21 if the successor's records do not fit
 abbrev pub replyIn : ℕ → Result ℕ → Reply
 replyIn room (refuse n p) = refusal n p
 replyIn room (accept n) = cond (ltb room (16 * n)) (refusal 21 0) (record { answer = 0; place = 0; records = n })
 
--- The replyTo r and every byte of the output are those of a result.
+-- The reply r and every byte of the output are those of a result.
 pub record Answers (x : Result Term) (out after : List ℕ) (r : Reply) : Type 0 where
   pub replies : r ≡ replyOf (replyTo x)
   pub output : after ≡ written x out
