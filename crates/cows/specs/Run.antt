@@ -32,7 +32,7 @@ noTally = counted 0 0 0 0
 unfoldable pub sum : Tally → Tally → Tally
 sum c d = counted (c .communications + d .communications) (c .kills + d .kills) (c .timeouts + d .timeouts) (c .copied + d .copied)
 
--- What an accepted move that copies the load l adds to the tally: a meeting, a stop or an expiry 1 in its count, and each l.
+-- What an accepted move adds to the tally, if it copies the load l: 1 to the meetings, the stops or the expiries, if it is one, and l.
 unfoldable pub adds : ℕ → Move → Tally
 adds l (Kill a) = counted 0 1 0 l
 adds l (Communicate a b) = counted 1 0 0 l

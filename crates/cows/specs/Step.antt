@@ -33,14 +33,14 @@ proposed m t = do
 unfoldable pub overLimits : Term → Bool
 overLimits s = ltb maxRecords (size s) || ltb maxDepth (depth s)
 
--- A successor with room for so many bytes: 20; 21, output shorter than the successor.
+-- The successor, with room for so many bytes: 20; 21, output shorter than the successor.
 unfoldable pub fitted : ℕ → Term → Result Term
 fitted room s = do
   forbid 20 (placeIf (overLimits s) 0)
   forbid 21 (placeIf (ltb room (16 * size s)) 0)
   accept s
 
--- A move on a term: refusals 10 to 21.
+-- A move on a term, with room for so many bytes: refusals 10 to 21.
 unfoldable pub stepTerm : Term → Option Move → ℕ → Result Term
 stepTerm t m room = proposed m t >>= fitted room
 
