@@ -1,5 +1,5 @@
 -- That every reply fits its number: places are below 2^16, records and loads at most 2,048.
-use mathlib.Core.Path.{_≡_, refl, ap}
+use mathlib.Core.Path.{_≡_, refl, sym, ap, subst}
 use mathlib.Core.List.{List}
 use Prim.Native.Nat.{ℕ, suc, _<_, _≤_}
 use native.Mathlib.Omega.{arith}
@@ -8,6 +8,7 @@ use Rattle.cows.specs.Basics.{Result, refuse, accept}
 use Rattle.cows.specs.Terms.{Term, size}
 use Rattle.cows.specs.Format.{AreBytes, byte, word}
 use Rattle.cows.specs.Tables.{judge}
+use Rattle.cows.specs.Load.{load}
 use Rattle.cows.specs.Step.{readMove, judgeStep, replyTo, stepReply}
 use Rattle.cows.specs.Run.{movesOf, PlayEnd, playFrom, judgePlay, playedReply, play}
 use Rattle.cows.proofs.Basics.{bind-accept, forbid-accept, same-accept}
@@ -15,7 +16,8 @@ use Rattle.cows.proofs.Tables.{judge-within}
 use Rattle.cows.proofs.Bounds.{Below, below-judge, below-judgeStep, below-judgePlay}
 use Rattle.cows.proofs.Preserving.{step-within}
 use Rattle.cows.proofs.Theorems.{tables-within}
-use Rattle.tables.specs.Verdict.{checkReply}
+use Rattle.tables.specs.declared.Reply.{Reply}
+use Rattle.tables.specs.Verdict.{refusal, checkReply}
 use Rattle.stepper.specs.Replies.{replyOf}
 use Rattle.player.specs.Loads.{loadReply}
 use Rattle.player.proofs.Loading.{load-size}
@@ -25,24 +27,11 @@ word-small : (b : List ℕ) (i : ℕ) → ((k : ℕ) → getD b k 0 < 256) → w
 unfolding word byte
 word-small b i h = omega (arith, h i, h (suc i))
 
--- The replies.
-fits-check : (x : Result Term) → Below 65536 x → ((t : Term) → x ≡ accept t → size t ≤ 2048) → Fits (checkReply x)
-fits-check (refuse n p) h f = record { place = omega (arith, h .1); records = omega arith }
-fits-check (accept t) h f = record { place = omega arith; records = omega (arith, f t refl) }
-
-fits-load : (x : Result Term) → Below 65536 x → ((t : Term) → x ≡ accept t → size t ≤ 2048) → Fits (loadReply x)
-fits-load (refuse n p) h f = record { place = omega (arith, h .1); records = omega arith }
-fits-load (accept t) h f = record { place = omega arith; records = omega (arith, load-size t, f t refl) }
-
-fits-reply : (x : Result Term) → Below 65536 x → ((t : Term) → x ≡ accept t → size t ≤ 2048) → Fits (replyOf (replyTo x))
-unfolding replyTo
-fits-reply (refuse n p) h f = record { place = omega (arith, h .1); records = omega arith }
-fits-reply (accept t) h f = record { place = omega arith; records = omega (arith, f t refl) }
-
-fits-played : (x : Result PlayEnd) → Below 65536 x → ((r : PlayEnd) → x ≡ accept r → size (r .last .table) ≤ 2048) → Fits (replyOf (playedReply x))
-unfolding playedReply
-fits-played (refuse n p) h f = record { place = omega (arith, h .1); records = omega arith }
-fits-played (accept r) h f = record { place = omega arith; records = omega (arith, f r refl) }
+-- a reply f that is 0, 0 and a count of at most 2,048, or a refusal
+fits : {A : Type 0} (f : Result A → Reply) (count : A → ℕ) → ((n p : ℕ) → f (refuse n p) ≡ refusal n p) → ((a : A) → f (accept a) ≡ record { answer = 0; place = 0; records = count a })
+    → (x : Result A) → Below 65536 x → ((a : A) → x ≡ accept a → count a ≤ 2048) → Fits (f x)
+fits f count e k (refuse n p) h l = subst Fits (sym (e n p)) (record { place = omega (arith, h .1); records = omega arith })
+fits f count e k (accept a) h l = subst Fits (sym (k a)) (record { place = omega arith; records = omega (arith, l a refl) })
 
 -- the last table of a play is within the limits
 last-small : (table moves : List ℕ) (room slots : ℕ) (r : PlayEnd) → AreBytes table → judgePlay table moves room slots ≡ accept r → size (r .last .table) ≤ 2048
@@ -54,20 +43,22 @@ last-small table moves room slots r k e =
     omega (arith, tables-within t (movesOf moves) (judge-within table t k et) .small, ap (λ (q : PlayEnd). size (q .last .table)) (same-accept e₃))
 
 pub check-fits : (b : List ℕ) → AreBytes b → Fits (checkReply (judge b))
-check-fits b k = fits-check (judge b) (below-judge 65536 (omega arith) b) (λ t e. judge-within b t k e .small)
+check-fits b k = fits checkReply size (λ n p. refl) (λ t. refl) (judge b) (below-judge 65536 (omega arith) b) (λ t e. judge-within b t k e .small)
 
 pub load-fits : (b : List ℕ) → AreBytes b → Fits (loadReply (judge b))
-load-fits b k = fits-load (judge b) (below-judge 65536 (omega arith) b) (λ t e. judge-within b t k e .small)
+load-fits b k = fits loadReply load (λ n p. refl) (λ t. refl) (judge b) (below-judge 65536 (omega arith) b) (λ t e. omega (arith, load-size t, judge-within b t k e .small))
 
 pub step-fits : (table m out : List ℕ) → AreBytes table → ((k : ℕ) → getD m k 0 < 256) → Fits (replyOf (stepReply table m out))
-unfolding stepReply judgeStep
+unfolding stepReply judgeStep replyTo
 step-fits table m out k h =
-    fits-reply (judgeStep table m (length out))
+    fits (λ x. replyOf (replyTo x)) size (λ n p. refl) (λ s. refl) (judgeStep table m (length out))
     (below-judgeStep 65536 (omega arith) table m (length out) (word-small m 2 h) (word-small m 4 h) (λ t e. omega (arith, judge-within table t k e .small)))
     (λ s e. let (t, et, es) = bind-accept (judge table) _ s e in
     step-within t s (readMove m) (length out) (judge-within table t k et) es .small)
 
 pub play-fits : (table moves out slots : List ℕ) → AreBytes table → Fits (replyOf (playedReply (play table moves out slots)))
-unfolding play
-play-fits table moves out slots k = fits-played (judgePlay table moves (length out) (length slots)) (below-judgePlay 65536 (omega arith) table moves (length out) (length slots))
+unfolding play playedReply
+play-fits table moves out slots k =
+    fits (λ x. replyOf (playedReply x)) (λ r. size (r .last .table)) (λ n p. refl) (λ r. refl) (judgePlay table moves (length out) (length slots))
+    (below-judgePlay 65536 (omega arith) table moves (length out) (length slots))
     (λ r e. last-small table moves (length out) (length slots) r k e)
