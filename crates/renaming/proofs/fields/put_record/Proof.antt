@@ -20,4 +20,10 @@ put-record-spec =
     (λ c. search needs)
     (λ c κs. search needs)
     (λ c. search needs)
-    (λ c. record-written _ _ _ _ _ _ _ _ _ _ (c .before .before .before .before .before .before .before .before .before .before .before .before .before .before .before .before .before .before .before .before .before .before .pre .0) (c .before .before .before .before .before .before .before .before .before .before .before .before .before .before .before .before .before .before .copy .ensures) (c .before .before .before .before .before .before .before .before .before .before .before .before .before .before .put-atom .ensures) (c .before .before .before .before .before .before .before .before .before .before .put-atom2 .ensures) (c .before .before .before .before .before .before .put-tuple .ensures) (c .before .before .copy2 .ensures)))
+    (λ c.
+    let e = c .before .before in
+    let d = e .before .before .before .before in
+    let b = d .before .before .before .before in
+    let a = b .before .before .before .before in
+    let o = a .before .before .before .before in
+    record-written _ _ _ _ _ _ _ _ _ _ (o .before .before .before .before .pre .0) (o .copy .ensures) (a .put-atom .ensures) (b .put-atom2 .ensures) (d .put-tuple .ensures) (e .copy2 .ensures)))

@@ -15,4 +15,9 @@ put-tuple-spec =
     (λ c. search needs)
     (λ c κs. search needs)
     (λ c. search needs)
-    (λ c. tuple-written _ _ _ _ _ _ (c .before .before .before .before .before .before .before .before .before .before .before .before .before .before .put-atom .ensures) (c .before .before .before .before .before .before .before .before .before .before .put-atom2 .ensures) (c .before .before .before .before .before .before .put-atom3 .ensures) (c .before .before .put-atom4 .ensures)))
+    (λ c.
+    let e = c .before .before in
+    let d = e .before .before .before .before in
+    let b = d .before .before .before .before in
+    let a = b .before .before .before .before in
+    tuple-written _ _ _ _ _ _ (a .put-atom .ensures) (b .put-atom2 .ensures) (d .put-atom3 .ensures) (e .put-atom4 .ensures)))

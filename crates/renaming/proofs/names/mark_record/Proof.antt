@@ -42,5 +42,8 @@ mark-record-spec =
     (λ c. simp length-set (omega arith))
     (λ c. simp length-set)
     (λ c.
-    rw (c .wide166 .ensures .0, c .before .wide165 .ensures .0, c .before .before .wide164 .ensures .0, c .before .before .before .wide163 .ensures .0, c .before .before .before .before .wide162 .ensures .0, c .before .before .before .before .before .wide16 .ensures .0)
-    (record-entered _ _ _ (c .before .before .before .before .before .before .before .before .before .before .before .word-at .ensures) (c .before .before .before .before .before .before .before .before .before .before .word-at2 .ensures) (c .before .before .before .before .before .before .before .before .before .word-at3 .ensures) (c .before .before .before .before .before .before .before .before .word-at4 .ensures) (c .before .before .before .before .before .before .before .word-at5 .ensures) (c .before .before .before .before .before .before .word-at6 .ensures))))
+    let d = c .before .before .before in
+    let e = d .before .before .before in
+    let f = e .before .before .before in
+    rw (c .wide166 .ensures .0, c .before .wide165 .ensures .0, c .before .before .wide164 .ensures .0, d .wide163 .ensures .0, d .before .wide162 .ensures .0, d .before .before .wide16 .ensures .0)
+    (record-entered _ _ _ (f .before .before .word-at .ensures) (f .before .word-at2 .ensures) (f .word-at3 .ensures) (e .before .before .word-at4 .ensures) (e .before .word-at5 .ensures) (e .word-at6 .ensures))))
