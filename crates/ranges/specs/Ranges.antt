@@ -1,109 +1,61 @@
--- Ranges of the eight 16-bit fields of a record: kind and count, first atom, second atom, four slots, interval.
-use mathlib.Core.Bool.{Bool, _&&_}
-use mathlib.Core.List.{List, [], _∷_}
-use Prim.Native.Nat.{ℕ, _+_, _%_}
+-- Ranges of the eight 16-bit fields of a record: kind and count, first atom, second atom, four slots, interval. A range is the lowest and the greatest number.
+use mathlib.Core.Bool.{Bool, true, _&&_}
+use mathlib.Core.List.{List, [], _∷_, _++_, map}
+use Prim.Native.Nat.{ℕ, zero, suc, _+_, _*_, _-_, _%_}
 use lib.Dec.{leb, ltb}
-use lib.ListN.{getD}
+use lib.ListN.{getD, replicate}
+use Rattle.cows.specs.Limits.{firstVariable, firstLabel, maxSlots}
 use Rattle.cows.specs.Kinds.{distinct}
 use Rattle.cows.specs.Format.{word}
 
--- the lowest and the greatest number in each field, by the kind (those from 10 on are told apart by themselves) ..
-unfoldable pub kindLowest : List (List ℕ)
-kindLowest =
-    (0 ∷ 0 ∷ 0 ∷ 0 ∷ 0 ∷ 0 ∷ 0 ∷ 0 ∷ [])
-    ∷ (1 ∷ 49152 ∷ 0 ∷ 0 ∷ 0 ∷ 0 ∷ 0 ∷ 0 ∷ [])
-    ∷ (2 ∷ 1 ∷ 1 ∷ 0 ∷ 0 ∷ 0 ∷ 0 ∷ 0 ∷ [])
-    ∷ (3 ∷ 1 ∷ 1 ∷ 0 ∷ 0 ∷ 0 ∷ 0 ∷ 0 ∷ [])
-    ∷ (4 ∷ 0 ∷ 0 ∷ 0 ∷ 0 ∷ 0 ∷ 0 ∷ 0 ∷ [])
-    ∷ (5 ∷ 0 ∷ 0 ∷ 0 ∷ 0 ∷ 0 ∷ 0 ∷ 0 ∷ [])
-    ∷ (6 ∷ 0 ∷ 0 ∷ 0 ∷ 0 ∷ 0 ∷ 0 ∷ 0 ∷ [])
-    ∷ (7 ∷ 0 ∷ 0 ∷ 0 ∷ 0 ∷ 0 ∷ 0 ∷ 0 ∷ [])
-    ∷ (8 ∷ 1 ∷ 0 ∷ 0 ∷ 0 ∷ 0 ∷ 0 ∷ 0 ∷ [])
-    ∷ (9 ∷ 0 ∷ 0 ∷ 0 ∷ 0 ∷ 0 ∷ 0 ∷ 0 ∷ [])
-    ∷ (10 ∷ 0 ∷ 0 ∷ 0 ∷ 0 ∷ 0 ∷ 0 ∷ 0 ∷ [])
-    ∷ (11 ∷ 0 ∷ 0 ∷ 0 ∷ 0 ∷ 0 ∷ 0 ∷ 0 ∷ [])
-    ∷ (12 ∷ 0 ∷ 0 ∷ 0 ∷ 0 ∷ 0 ∷ 0 ∷ 0 ∷ [])
-    ∷ (13 ∷ 0 ∷ 0 ∷ 0 ∷ 0 ∷ 0 ∷ 0 ∷ 0 ∷ [])
-    ∷ (14 ∷ 0 ∷ 0 ∷ 0 ∷ 0 ∷ 0 ∷ 0 ∷ 0 ∷ [])
-    ∷ (15 ∷ 0 ∷ 0 ∷ 0 ∷ 0 ∷ 0 ∷ 0 ∷ 0 ∷ [])
-    ∷ []
+-- an unused field; any number
+abbrev pub zeroOnly : ℕ × ℕ
+zeroOnly = (0, 0)
 
-unfoldable pub kindGreatest : List (List ℕ)
-kindGreatest =
-    (0 ∷ 0 ∷ 0 ∷ 65535 ∷ 65535 ∷ 65535 ∷ 65535 ∷ 0 ∷ [])
-    ∷ (1 ∷ 65535 ∷ 0 ∷ 65535 ∷ 65535 ∷ 65535 ∷ 65535 ∷ 0 ∷ [])
-    ∷ (1026 ∷ 49151 ∷ 49151 ∷ 65535 ∷ 65535 ∷ 65535 ∷ 65535 ∷ 0 ∷ [])
-    ∷ (1027 ∷ 32767 ∷ 32767 ∷ 65535 ∷ 65535 ∷ 65535 ∷ 65535 ∷ 0 ∷ [])
-    ∷ (4 ∷ 0 ∷ 0 ∷ 65535 ∷ 65535 ∷ 65535 ∷ 65535 ∷ 65535 ∷ [])
-    ∷ (5 ∷ 0 ∷ 0 ∷ 65535 ∷ 65535 ∷ 65535 ∷ 65535 ∷ 0 ∷ [])
-    ∷ (6 ∷ 0 ∷ 0 ∷ 65535 ∷ 65535 ∷ 65535 ∷ 65535 ∷ 0 ∷ [])
-    ∷ (7 ∷ 0 ∷ 0 ∷ 65535 ∷ 65535 ∷ 65535 ∷ 65535 ∷ 0 ∷ [])
-    ∷ (8 ∷ 65535 ∷ 0 ∷ 65535 ∷ 65535 ∷ 65535 ∷ 65535 ∷ 0 ∷ [])
-    ∷ (9 ∷ 0 ∷ 0 ∷ 65535 ∷ 65535 ∷ 65535 ∷ 65535 ∷ 0 ∷ [])
-    ∷ (10 ∷ 0 ∷ 0 ∷ 65535 ∷ 65535 ∷ 65535 ∷ 65535 ∷ 0 ∷ [])
-    ∷ (11 ∷ 0 ∷ 0 ∷ 65535 ∷ 65535 ∷ 65535 ∷ 65535 ∷ 0 ∷ [])
-    ∷ (12 ∷ 0 ∷ 0 ∷ 65535 ∷ 65535 ∷ 65535 ∷ 65535 ∷ 0 ∷ [])
-    ∷ (13 ∷ 0 ∷ 0 ∷ 65535 ∷ 65535 ∷ 65535 ∷ 65535 ∷ 0 ∷ [])
-    ∷ (14 ∷ 0 ∷ 0 ∷ 65535 ∷ 65535 ∷ 65535 ∷ 65535 ∷ 0 ∷ [])
-    ∷ (15 ∷ 0 ∷ 0 ∷ 65535 ∷ 65535 ∷ 65535 ∷ 65535 ∷ 0 ∷ [])
-    ∷ []
+abbrev pub anyNumber : ℕ × ℕ
+anyNumber = (0, 65535)
 
--- .. and by the count
-unfoldable pub countLowest : List (List ℕ)
-countLowest =
-    (0 ∷ 0 ∷ 0 ∷ 0 ∷ 0 ∷ 0 ∷ 0 ∷ 0 ∷ [])
-    ∷ (0 ∷ 0 ∷ 0 ∷ 1 ∷ 0 ∷ 0 ∷ 0 ∷ 0 ∷ [])
-    ∷ (0 ∷ 0 ∷ 0 ∷ 1 ∷ 1 ∷ 0 ∷ 0 ∷ 0 ∷ [])
-    ∷ (0 ∷ 0 ∷ 0 ∷ 1 ∷ 1 ∷ 1 ∷ 0 ∷ 0 ∷ [])
-    ∷ (0 ∷ 0 ∷ 0 ∷ 1 ∷ 1 ∷ 1 ∷ 1 ∷ 0 ∷ [])
-    ∷ (0 ∷ 0 ∷ 0 ∷ 1 ∷ 1 ∷ 1 ∷ 1 ∷ 0 ∷ [])
-    ∷ (0 ∷ 0 ∷ 0 ∷ 1 ∷ 1 ∷ 1 ∷ 1 ∷ 0 ∷ [])
-    ∷ (0 ∷ 0 ∷ 0 ∷ 1 ∷ 1 ∷ 1 ∷ 1 ∷ 0 ∷ [])
-    ∷ []
+-- Kind x without a tuple, by its first atom and its interval; kind x with a tuple, whose endpoint's atoms are at most top. Of the slots the count tells.
+abbrev pub plainRanges : ℕ → ℕ × ℕ → ℕ × ℕ → List (ℕ × ℕ)
+plainRanges x a i = (x, x) ∷ a ∷ zeroOnly ∷ anyNumber ∷ anyNumber ∷ anyNumber ∷ anyNumber ∷ i ∷ []
 
-unfoldable pub countGreatest : List (List ℕ)
-countGreatest =
-    (65535 ∷ 65535 ∷ 65535 ∷ 0 ∷ 0 ∷ 0 ∷ 0 ∷ 65535 ∷ [])
-    ∷ (65535 ∷ 65535 ∷ 65535 ∷ 49151 ∷ 0 ∷ 0 ∷ 0 ∷ 65535 ∷ [])
-    ∷ (65535 ∷ 65535 ∷ 65535 ∷ 49151 ∷ 49151 ∷ 0 ∷ 0 ∷ 65535 ∷ [])
-    ∷ (65535 ∷ 65535 ∷ 65535 ∷ 49151 ∷ 49151 ∷ 49151 ∷ 0 ∷ 65535 ∷ [])
-    ∷ (65535 ∷ 65535 ∷ 65535 ∷ 49151 ∷ 49151 ∷ 49151 ∷ 49151 ∷ 65535 ∷ [])
-    ∷ (65535 ∷ 65535 ∷ 65535 ∷ 49151 ∷ 49151 ∷ 49151 ∷ 49151 ∷ 65535 ∷ [])
-    ∷ (65535 ∷ 65535 ∷ 65535 ∷ 49151 ∷ 49151 ∷ 49151 ∷ 49151 ∷ 65535 ∷ [])
-    ∷ (65535 ∷ 65535 ∷ 65535 ∷ 49151 ∷ 49151 ∷ 49151 ∷ 49151 ∷ 65535 ∷ [])
-    ∷ []
+abbrev pub tupleRanges : ℕ → ℕ → List (ℕ × ℕ)
+tupleRanges x top = (x, x + 256 * maxSlots) ∷ (1, top) ∷ (1, top) ∷ anyNumber ∷ anyNumber ∷ anyNumber ∷ anyNumber ∷ zeroOnly ∷ []
 
--- the fields of the record at byte k are no less, and no greater, than those of a row
-unfoldable pub atLeast : List ℕ → ℕ → List ℕ → Bool
-atLeast s k low =
-    leb (getD low 0 0) (word s k)
-    && leb (getD low 1 0) (word s (k + 2))
-    && leb (getD low 2 0) (word s (k + 4))
-    && leb (getD low 3 0) (word s (k + 6))
-    && leb (getD low 4 0) (word s (k + 8))
-    && leb (getD low 5 0) (word s (k + 10))
-    && leb (getD low 6 0) (word s (k + 12))
-    && leb (getD low 7 0) (word s (k + 14))
+-- the ranges by the kind (those from 10 on are told apart by themselves) ..
+unfoldable pub kindRanges : List (List (ℕ × ℕ))
+kindRanges =
+    plainRanges 0 zeroOnly zeroOnly
+    ∷ plainRanges 1 (firstLabel, 65535) zeroOnly
+    ∷ tupleRanges 2 (firstLabel - 1)
+    ∷ tupleRanges 3 (firstVariable - 1)
+    ∷ plainRanges 4 zeroOnly anyNumber
+    ∷ plainRanges 5 zeroOnly zeroOnly
+    ∷ plainRanges 6 zeroOnly zeroOnly
+    ∷ plainRanges 7 zeroOnly zeroOnly
+    ∷ plainRanges 8 (1, 65535) zeroOnly
+    ∷ map (λ x. plainRanges x zeroOnly zeroOnly) (9 ∷ 10 ∷ 11 ∷ 12 ∷ 13 ∷ 14 ∷ 15 ∷ [])
 
-unfoldable pub atMost : List ℕ → ℕ → List ℕ → Bool
-atMost s k top =
-    leb (word s k) (getD top 0 0)
-    && leb (word s (k + 2)) (getD top 1 0)
-    && leb (word s (k + 4)) (getD top 2 0)
-    && leb (word s (k + 6)) (getD top 3 0)
-    && leb (word s (k + 8)) (getD top 4 0)
-    && leb (word s (k + 10)) (getD top 5 0)
-    && leb (word s (k + 12)) (getD top 6 0)
-    && leb (word s (k + 14)) (getD top 7 0)
+-- .. and by the count, which tells of the slots only
+unfoldable pub countRanges : List (List (ℕ × ℕ))
+countRanges = map (λ n. anyNumber ∷ anyNumber ∷ anyNumber ∷ replicate n (1, firstLabel - 1) ++ replicate (maxSlots - n) zeroOnly ++ (anyNumber ∷ [])) (0 ∷ 1 ∷ 2 ∷ 3 ∷ 4 ∷ 4 ∷ 4 ∷ 4 ∷ [])
+
+abbrev pub lowest : List (List (ℕ × ℕ)) → List (List ℕ)
+lowest rows = map (λ r. map (λ p. p .0) r) rows
+
+abbrev pub greatest : List (List (ℕ × ℕ)) → List (List ℕ)
+greatest rows = map (λ r. map (λ p. p .1) r) rows
+
+-- the first n fields of the record at byte k are no less than those of one row, and no greater than those of the other
+unfoldable pub fieldsWithin : List ℕ → ℕ → List ℕ → List ℕ → ℕ → Bool
+fieldsWithin s k low top zero = true
+fieldsWithin s k low top (suc j) = fieldsWithin s k low top j && (leb (getD low j 0) (word s (k + 2 * j)) && leb (word s (k + 2 * j)) (getD top j 0))
 
 -- the record at byte k has a known kind, and its fields are within the ranges of its kind and of its count
 unfoldable pub ranged : List ℕ → ℕ → Bool
 ranged s k =
-    ltb (getD s k 0) 10
-    && atLeast s k (getD kindLowest (getD s k 0 % 16) [])
-    && atMost s k (getD kindGreatest (getD s k 0 % 16) [])
-    && atLeast s k (getD countLowest (getD s (k + 1) 0 % 8) [])
-    && atMost s k (getD countGreatest (getD s (k + 1) 0 % 8) [])
+    let within : List (List (ℕ × ℕ)) → ℕ → Bool = λ rows x. fieldsWithin s k (getD (lowest rows) x []) (getD (greatest rows) x []) 8 in
+    ltb (getD s k 0) 10 && within kindRanges (getD s k 0 % 16) && within countRanges (getD s (k + 1) 0 % 8)
 
 -- no variable stands twice among the slots of the record at byte k
 unfoldable pub patternRight : List ℕ → ℕ → Bool

@@ -17,12 +17,17 @@ ghost use Rattle.cows.specs.Format.{records};
 ghost use Rattle.cows.specs.Tables.{firstWrong};
 ghost use Rattle.records.specs.Answers.{placeOr};
 ghost use Rattle.ranges.specs.Lists.{Inside};
-ghost use Rattle.ranges.specs.Ranges.{atLeast, atMost, ranged, patternRight};
+ghost use Rattle.ranges.specs.Ranges.{fieldsWithin, ranged, patternRight};
+
+// The last value, and the last datum.
+const VALUE: u16 = limits::FIRST_VARIABLE - 1;
+
+const DATUM: u16 = limits::FIRST_LABEL - 1;
 
 // The lowest and the greatest number in each field, by the kind: kind and count, first atom, second atom, four slots, of which the count tells, interval.
 const KIND_LOWEST: [[u16; 8]; 16] = [
     [0, 0, 0, 0, 0, 0, 0, 0],
-    [1, 49152, 0, 0, 0, 0, 0, 0],
+    [1, limits::FIRST_LABEL, 0, 0, 0, 0, 0, 0],
     [2, 1, 1, 0, 0, 0, 0, 0],
     [3, 1, 1, 0, 0, 0, 0, 0],
     [4, 0, 0, 0, 0, 0, 0, 0],
@@ -42,8 +47,8 @@ const KIND_LOWEST: [[u16; 8]; 16] = [
 const KIND_GREATEST: [[u16; 8]; 16] = [
     [0, 0, 0, 65535, 65535, 65535, 65535, 0],
     [1, 65535, 0, 65535, 65535, 65535, 65535, 0],
-    [1026, 49151, 49151, 65535, 65535, 65535, 65535, 0],
-    [1027, 32767, 32767, 65535, 65535, 65535, 65535, 0],
+    [1026, DATUM, DATUM, 65535, 65535, 65535, 65535, 0],
+    [1027, VALUE, VALUE, 65535, 65535, 65535, 65535, 0],
     [4, 0, 0, 65535, 65535, 65535, 65535, 65535],
     [5, 0, 0, 65535, 65535, 65535, 65535, 0],
     [6, 0, 0, 65535, 65535, 65535, 65535, 0],
@@ -72,13 +77,13 @@ const COUNT_LOWEST: [[u16; 8]; 8] = [
 
 const COUNT_GREATEST: [[u16; 8]; 8] = [
     [65535, 65535, 65535, 0, 0, 0, 0, 65535],
-    [65535, 65535, 65535, 49151, 0, 0, 0, 65535],
-    [65535, 65535, 65535, 49151, 49151, 0, 0, 65535],
-    [65535, 65535, 65535, 49151, 49151, 49151, 0, 65535],
-    [65535, 65535, 65535, 49151, 49151, 49151, 49151, 65535],
-    [65535, 65535, 65535, 49151, 49151, 49151, 49151, 65535],
-    [65535, 65535, 65535, 49151, 49151, 49151, 49151, 65535],
-    [65535, 65535, 65535, 49151, 49151, 49151, 49151, 65535],
+    [65535, 65535, 65535, DATUM, 0, 0, 0, 65535],
+    [65535, 65535, 65535, DATUM, DATUM, 0, 0, 65535],
+    [65535, 65535, 65535, DATUM, DATUM, DATUM, 0, 65535],
+    [65535, 65535, 65535, DATUM, DATUM, DATUM, DATUM, 65535],
+    [65535, 65535, 65535, DATUM, DATUM, DATUM, DATUM, 65535],
+    [65535, 65535, 65535, DATUM, DATUM, DATUM, DATUM, 65535],
+    [65535, 65535, 65535, DATUM, DATUM, DATUM, DATUM, 65535],
 ];
 
 fn wide8(x: u8) -> usize
@@ -87,34 +92,22 @@ fn wide8(x: u8) -> usize
     x as usize
 }
 
-// The fields of the record at byte k are no less than those of a row.
-fn at_least(s: &[u8], k: usize, low: [u16; 8]) -> bool
+// The fields of the record at byte k are no less than those of one row, and no greater than those of the other. The two tests are kept apart: each becomes
+// one comparison of eight numbers.
+fn within(s: &[u8], k: usize, low: [u16; 8], top: [u16; 8]) -> bool
     requires { ⌜ k + 15 < length (now s) ⌝ }
-    ensures { λ r. ⌜ r ≡ atLeast (now (s .entry)) k low ⌝ }
+    ensures { λ r. ⌜ r ≡ fieldsWithin (now (s .entry)) k low top 8 ⌝ }
 {
-    (low[0] <= word_at(s, k))
-        & (low[1] <= word_at(s, k + 2))
-        & (low[2] <= word_at(s, k + 4))
-        & (low[3] <= word_at(s, k + 6))
-        & (low[4] <= word_at(s, k + 8))
-        & (low[5] <= word_at(s, k + 10))
-        & (low[6] <= word_at(s, k + 12))
-        & (low[7] <= word_at(s, k + 14))
-}
-
-// The fields of the record at byte k are no greater than those of a row.
-fn at_most(s: &[u8], k: usize, top: [u16; 8]) -> bool
-    requires { ⌜ k + 15 < length (now s) ⌝ }
-    ensures { λ r. ⌜ r ≡ atMost (now (s .entry)) k top ⌝ }
-{
-    (word_at(s, k) <= top[0])
-        & (word_at(s, k + 2) <= top[1])
-        & (word_at(s, k + 4) <= top[2])
-        & (word_at(s, k + 6) <= top[3])
-        & (word_at(s, k + 8) <= top[4])
-        & (word_at(s, k + 10) <= top[5])
-        & (word_at(s, k + 12) <= top[6])
-        & (word_at(s, k + 14) <= top[7])
+    let mut above = true;
+    let mut below = true;
+    let mut j = 0;
+    while j < 8 {
+        let a = word_at(s, k + 2 * j);
+        above = above & (low[j] <= a);
+        below = below & (a <= top[j]);
+        j += 1;
+    }
+    above & below
 }
 
 // The fields of every record are within the ranges of its kind and of its count.
@@ -134,10 +127,8 @@ fn fields_right(s: &[u8]) -> bool
         let f = wide8(s[16 * i + 1] % 8);
         right = right
             & ((kind < 10)
-                & at_least(s, 16 * i, low[e])
-                & at_most(s, 16 * i, top[e])
-                & at_least(s, 16 * i, slot_low[f])
-                & at_most(s, 16 * i, slot_top[f]));
+                & within(s, 16 * i, low[e], top[e])
+                & within(s, 16 * i, slot_low[f], slot_top[f]));
         i += 1;
     }
     right

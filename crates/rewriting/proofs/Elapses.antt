@@ -28,7 +28,7 @@ use Rattle.rewriting.proofs.Children.{head, length-head}
 pub one-of : (k a b : ℕ) → (ltb k a || eqb k b) ≡ true → a ≤ k → k ≡ b
 one-of k a b h l = eqb-true k b (or-second (le-ltb k a l) h)
 
-pub none-of : (k a b : ℕ) → (ltb k a || eqb k b) ≡ false → (a ≤ k) × (k ≢ b)
+none-of : (k a b : ℕ) → (ltb k a || eqb k b) ≡ false → (a ≤ k) × (k ≢ b)
 none-of k a b h = let (l, e) = or-false (ltb k a) (eqb k b) h in (ltb-false k a l, eqb-false k b e)
 
 -- the kinds that time leaves as they are, the wait, and the kinds that time goes through
@@ -40,6 +40,9 @@ Wait t = kindOf t ≡ 4
 
 abbrev pub Passed : ℕ → Type 0
 Passed k = (5 ≤ k) × (k ≢ 9)
+
+pub passed : (k : ℕ) → (ltb k 4 || eqb k 9) ≡ false → k ≢ 4 → Passed k
+passed k h n = let (l, e) = none-of k 4 9 h in (omega arith, e)
 
 abbrev pub Through : Term → Type 0
 Through t = Passed (kindOf t)

@@ -23,7 +23,7 @@ module _ (s : List ℕ) (k : ℕ) where
       → tupleTest top (getD s (k + 1) 0) (word s (k + 2)) (word s (k + 4)) (word s (k + 6)) (word s (k + 8)) (word s (k + 10)) (word s (k + 12)) (word s (k + 14))
       ≡ rightContents (tupleContents top) (piece s k)
   unfolding byte
-  tuple-piece top = rw (byte-piece s k 1 (omega arith), word-piece s k 2 (omega arith), word-piece s k 4 (omega arith), word-piece s k 6 (omega arith), word-piece s k 8 (omega arith), word-piece s k 10 (omega arith), word-piece s k 12 (omega arith), word-piece s k 14 (omega arith)) at (tuple-code (piece s k) top)
+  tuple-piece top = let w = word-piece s k in rw (byte-piece s k 1 (omega arith), w 2 (omega arith), w 4 (omega arith), w 6 (omega arith), w 8 (omega arith), w 10 (omega arith), w 12 (omega arith), w 14 (omega arith)) at (tuple-code (piece s k) top)
 
   pub slots-piece : slots (piece s k) ≡ word s (k + 6) ∷ word s (k + 8) ∷ word s (k + 10) ∷ word s (k + 12) ∷ []
   unfolding slots

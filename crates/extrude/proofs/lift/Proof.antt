@@ -32,9 +32,10 @@ lift-spec =
     (λ c κs. search needs)
     (λ c. search needs)
     (λ c.
-    let b = c .before .before .before .before .before .before .before .before .before .before .before .before .before .before .before .before .before .before in
+    let c₁ = c .before .before in let c₂ = c₁ .before .before .before .before in let c₃ = c₂ .before .before .before .before in let c₄ = c₃ .before .before .before .before in
+    let b = c₄ .before .before .before .before in
     let s = b .args .s .now in
     let a = b .args .a in
     let p = b .args .p in
     four-parts s _ (16 * p) (16 * a) 16 (16 * p) (16 * (a - p)) (16 * (a + 1)) (16 * (a + 1)) (omega (arith, b .pre)) (omega (arith, b .pre)) (omega (arith, b .pre)) (omega (arith, b .pre))
-    (c .before .before .before .before .before .before .before .before .before .before .before .before .before .before .copy .ensures) (c .before .before .before .before .before .before .before .before .before .before .copy2 .ensures) (c .before .before .before .before .before .before .copy3 .ensures) (c .before .before .copy4 .ensures)))
+    (c₄ .copy .ensures) (c₃ .copy2 .ensures) (c₂ .copy3 .ensures) (c₁ .copy4 .ensures)))

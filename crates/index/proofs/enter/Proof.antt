@@ -17,8 +17,9 @@ abbrev μ-loop : tie.MeasureT-loop
 -- the page fits, whether it is new or not
 slice-write-marks : tie.Need-slice-write-marks Inv-loop μ-loop
 slice-write-marks c =
-    let v = c .before .before .before .before .before .before .before .before .before .before .loop .inv in
-    omega (arith, c .before .before .before .before .before .before .before .before .before .before .before .before .before .before .before .pre .room, c .before .before .before .page-start .ensures .most, v .3 .index .page (c .before .before .before .before .before .wide162 .result), c .before .wide163 .ensures .0, c .wide164 .ensures .0)
+    let w = c .before .before .before .before .before in
+    let o = w .before .before .before .before .before in
+    omega (arith, o .before .before .before .before .before .pre .room, c .before .before .before .page-start .ensures .most, o .loop .inv .3 .index .page (w .wide162 .result), c .before .wide163 .ensures .0, c .wide164 .ensures .0)
 
 pub enter-spec : {M : Type 1} → statement M
 enter-spec =
@@ -40,7 +41,7 @@ enter-spec =
     (λ c. omega (arith, c .before .before .wide162 .ensures .0))
     (λ c. omega (arith, c .before .before .wide162 .ensures .0, c .before .before .before .before .before .before .before .loop .inv .3 .index .wide))
     (λ c κs. omega (arith, c .before .before .before .before .before .before .before .before .before .before .before .before .pre .few))
-    (λ c. omega (arith, c .before .before .before .before .before .before .before .before .before .before .before .before .before .pre .short, c .before .before .before .before .before .before .before .before .before .before .before .before .before .pre .listed .place (c .before .before .before .before .before .before .before .before .loop .i) (omega arith)))
+    (λ c. let o = c .before .before .before .before .before .before .before .before in omega (arith, o .before .before .before .before .before .pre .short, o .before .before .before .before .before .pre .listed .place (o .loop .i) (omega arith)))
     (λ c κs. tt)
     (λ c κs. tt)
     (λ c. omega (arith, c .before .wide163 .ensures, c .wide164 .ensures))
@@ -49,16 +50,17 @@ enter-spec =
     (λ c. omega arith)
     (λ c. omega arith)
     (λ c.
-    let v = c .before .before .before .before .before .before .before .before .before .before .loop .inv in
-    let p = c .before .before .before .before .before .before .before .before .before .before .before .before .before .before .before .pre in
-    let i = c .before .before .before .before .before .before .before .before .before .before .loop .i in
+    let w = c .before .before .before .before .before in
+    let o = w .before .before .before .before .before in
+    let v = o .loop .inv in
+    let p = o .before .before .before .before .before .pre in
     let start = c .before .before .before .page-start .ensures in
     let end = c .before .before .pages-end .ensures in (
       omega arith,
-      length-set (c .before .before .before .before .before .before .before .before .before .before .loop .pages) _ _ ∙ v .1,
-      length-set (c .before .before .before .before .before .before .before .before .before .before .loop .marks) _ _ ∙ v .2,
-      turn _ (c .before .before .before .before .before .before .before .before .before .before .loop .pages) (c .before .before .before .before .before .before .before .before .before .before .loop .marks) _ _ _ _ _ _ _ _ _ (omega (arith, c .before .before .before .before .before .wide162 .ensures .0)) (c .before .before .before .before .before .wide162 .ensures .0) (omega (arith, p .room))
-          start end (c .before .wide163 .ensures .0) (c .wide164 .ensures .0) (c .before .before .before .before .before .before .word-at .ensures) (c .before .before .before .before .before .before .before .wide16 .ensures .0) (p .listed .place i (omega arith)) (p .kinds i (omega arith)) (v .3),
+      length-set (o .loop .pages) _ _ ∙ v .1,
+      length-set (o .loop .marks) _ _ ∙ v .2,
+      turn _ (o .loop .pages) (o .loop .marks) _ _ _ _ _ _ _ _ _ (omega (arith, w .wide162 .ensures .0)) (w .wide162 .ensures .0) (omega (arith, p .room)) start end (c .before .wide163 .ensures .0) (c .wide164 .ensures .0)
+          (w .before .word-at .ensures) (w .before .before .wide16 .ensures .0) (p .listed .place (o .loop .i) (omega arith)) (p .kinds (o .loop .i) (omega arith)) (v .3),
       omega (arith, end .most),
     ))
     (λ c. c .before .loop .inv .1)

@@ -28,32 +28,39 @@ judge-spec =
     let l = c .before .before .before .before .before .before .before .live-at .ensures t h .found _ (c .before .before .before .before .found .given .1) in
     absurd (label-there _ _ t _ _ l _ h (no-label _ (rw (c .before .before .atom-at .ensures) at (c .before .match2 .keys2)))))
     (λ c. search needs)
-    (λ c κs. let q = c .before .before .before .before .before .before .before .before .before .before .before .before .before .pre in walk-known _ _ q _ _ _ (search needs) (c .before .before .before .before .before .before .before .before .before .live-at .ensures (q .term) (q .table) .found _ (c .before .before .before .before .before .before .found .given .1) .walks))
+    (λ c κs.
+    let c₁ = c .before .before .before .before .before .before in let c₂ = c₁ .before .before .before in
+    let q = c₂ .before .before .before .before .pre in walk-known _ _ q _ _ _ (search needs) (c₂ .live-at .ensures (q .term) (q .table) .found _ (c₁ .found .given .1) .walks))
     (λ c. search needs)
     (λ c. search needs)
     (λ c κs. search needs)
     (λ c t h.
-    let l = c .before .before .before .before .before .before .before .before .before .before .before .before .before .live-at .ensures t h .found _ (c .before .before .before .before .before .before .before .before .before .before .found .given .1) in
-    let k = sym (c .before .before .before .before .before .before .before .before .atom-at .ensures) ∙ c .before .before .before .before .before .before .atom .given .1 in
-    absurd (scope-there _ _ t _ _ l _ h _ k _ (c .before .before .before .scope .ensures t _ (l .walks)) (c .before .enum-told2 .given .1)))
+    let c₁ = c .before in let c₂ = c₁ .before .before in let c₃ = c₂ .before .before .before in let c₄ = c₃ .before .before in let c₅ = c₄ .before .before in
+    let l = c₅ .before .before .before .live-at .ensures t h .found _ (c₅ .found .given .1) in
+    let k = sym (c₄ .atom-at .ensures) ∙ c₃ .atom .given .1 in
+    absurd (scope-there _ _ t _ _ l _ h _ k _ (c₂ .scope .ensures t _ (l .walks)) (c₁ .enum-told2 .given .1)))
     (λ c.
-    let q = c .before .before .before .before .before .before .before .before .before .before .before .before .before .before .before .before .before .pre in
-    let l = c .before .before .before .before .before .before .before .before .before .before .before .before .before .live-at .ensures (q .term) (q .table) .found _ (c .before .before .before .before .before .before .before .before .before .before .found .given .1) in
-    let k = sym (c .before .before .before .before .before .before .before .before .atom-at .ensures) ∙ c .before .before .before .before .before .before .atom .given .1 in
-    let i = body-inside _ _ (q .term) _ _ l _ (q .table) _ k _ (c .before .before .before .scope .ensures (q .term) _ (l .walks)) _ (c .before .from .given .1) in
+    let c₁ = c .before in let c₂ = c₁ .before .before in let c₃ = c₂ .before .before .before in let c₄ = c₃ .before .before in let c₅ = c₄ .before .before in let c₆ = c₅ .before .before .before in
+    let q = c₆ .before .before .before .before .pre in
+    let l = c₆ .live-at .ensures (q .term) (q .table) .found _ (c₅ .found .given .1) in
+    let k = sym (c₄ .atom-at .ensures) ∙ c₃ .atom .given .1 in
+    let i = body-inside _ _ (q .term) _ _ l _ (q .table) _ k _ (c₂ .scope .ensures (q .term) _ (l .walks)) _ (c₁ .from .given .1) in
     omega (arith, q .few))
     (λ c κs.
-    let q = c .before .before .before .before .before .before .before .before .before .before .before .before .before .before .before .before .before .pre in
-    let l = c .before .before .before .before .before .before .before .before .before .before .before .before .before .live-at .ensures (q .term) (q .table) .found _ (c .before .before .before .before .before .before .before .before .before .before .found .given .1) in
-    let k = sym (c .before .before .before .before .before .before .before .before .atom-at .ensures) ∙ c .before .before .before .before .before .before .atom .given .1 in
-    let i = body-inside _ _ (q .term) _ _ l _ (q .table) _ k _ (c .before .before .before .scope .ensures (q .term) _ (l .walks)) _ (c .before .from .given .1) in
+    let c₁ = c .before in let c₂ = c₁ .before .before in let c₃ = c₂ .before .before .before in let c₄ = c₃ .before .before in let c₅ = c₄ .before .before in let c₆ = c₅ .before .before .before in
+    let q = c₆ .before .before .before .before .pre in
+    let l = c₆ .live-at .ensures (q .term) (q .table) .found _ (c₅ .found .given .1) in
+    let k = sym (c₄ .atom-at .ensures) ∙ c₃ .atom .given .1 in
+    let i = body-inside _ _ (q .term) _ _ l _ (q .table) _ k _ (c₂ .scope .ensures (q .term) _ (l .walks)) _ (c₁ .from .given .1) in
     (q, i))
     (λ c.
-    let q = c .before .before .before .before .before .before .before .before .before .before .before .before .before .before .before .before .before .before .pre in
-    let l = c .before .before .before .before .before .before .before .before .before .before .before .before .before .before .live-at .ensures (q .term) (q .table) .found _ (c .before .before .before .before .before .before .before .before .before .before .before .found .given .1) in
-    let k = sym (c .before .before .before .before .before .before .before .before .before .atom-at .ensures) ∙ c .before .before .before .before .before .before .before .atom .given .1 in
-    few-gone _ _ (q .term) _ _ l _ (q .table) _ k _ (c .before .before .before .before .scope .ensures (q .term) _ (l .walks)) _ (c .before .before .from .given .1) _ (c .lost .ensures (q .term) (q .table)))
+    let c₁ = c .before .before in let c₂ = c₁ .before .before in let c₃ = c₂ .before .before .before in let c₄ = c₃ .before .before in let c₅ = c₄ .before .before in let c₆ = c₅ .before .before .before in
+    let q = c₆ .before .before .before .before .pre in
+    let l = c₆ .live-at .ensures (q .term) (q .table) .found _ (c₅ .found .given .1) in
+    let k = sym (c₄ .atom-at .ensures) ∙ c₃ .atom .given .1 in
+    few-gone _ _ (q .term) _ _ l _ (q .table) _ k _ (c₂ .scope .ensures (q .term) _ (l .walks)) _ (c₁ .from .given .1) _ (c .lost .ensures (q .term) (q .table)))
     (λ c t h.
-    let l = c .before .before .before .before .before .before .before .before .before .before .before .before .before .before .live-at .ensures t h .found _ (c .before .before .before .before .before .before .before .before .before .before .before .found .given .1) in
-    let k = sym (c .before .before .before .before .before .before .before .before .before .atom-at .ensures) ∙ c .before .before .before .before .before .before .before .atom .given .1 in
-    kill-planned _ _ t _ _ l _ h _ k _ (c .before .before .before .before .scope .ensures t _ (l .walks)) _ (c .before .before .from .given .1) _ _ (c .lost .ensures t h) refl refl))
+    let c₁ = c .before .before in let c₂ = c₁ .before .before in let c₃ = c₂ .before .before .before in let c₄ = c₃ .before .before in let c₅ = c₄ .before .before in
+    let l = c₅ .before .before .before .live-at .ensures t h .found _ (c₅ .found .given .1) in
+    let k = sym (c₄ .atom-at .ensures) ∙ c₃ .atom .given .1 in
+    kill-planned _ _ t _ _ l _ h _ k _ (c₂ .scope .ensures t _ (l .walks)) _ (c₁ .from .given .1) _ _ (c .lost .ensures t h) refl refl))

@@ -5,7 +5,7 @@ use native.Mathlib.Omega.{arith}
 use borrow.Author.Count.{below-more}
 use lib.ListN.{length}
 use Rattle.cows.proofs.Basics.{and-true}
-use Rattle.ranges.specs.Ranges.{kindLowest, kindGreatest, countLowest, countGreatest, ranged}
+use Rattle.ranges.specs.Ranges.{kindRanges, countRanges, ranged}
 use Rattle.ranges.proofs.fields_right.Statement.{statement}
 use Rattle.ranges.proofs.fields_right.Tie as tie
 
@@ -17,14 +17,17 @@ abbrev μ-loop : tie.MeasureT-loop
 μ-loop s low top slot-low slot-top n right₀ i₀ right i = n - i
 
 loop-again : tie.Need-loop-again Inv-loop μ-loop
-unfolding kindLowest kindGreatest countLowest countGreatest ranged
+unfolding kindRanges countRanges ranged
 loop-again c =
-    let v = c .before .before .before .before .before .before .before .before .before .before .before .before .before .loop .inv in (
+    let w = c .before .before .before in
+    let f = w .before .before .before in
+    let e = f .before .before in
+    let v = e .before .before .before .loop .inv in (
       v .0,
       omega arith,
-      λ e.
-          let (p, q) = and-true _ _ e in
-          below-more _ _ (v .2 p) (rw (c .at-most2 .ensures, c .before .before .at-least2 .ensures, c .before .before .before .before .at-most .ensures, c .before .before .before .before .before .before .at-least .ensures, c .before .before .before .before .before .before .before .before .wide82 .ensures .0, c .before .before .before .before .before .before .before .before .before .before .wide8 .ensures .0) at q),
+      λ h.
+          let (p, q) = and-true _ _ h in
+          below-more _ _ (v .2 p) (rw (c .within2 .ensures, w .within .ensures, f .wide82 .ensures .0, e .wide8 .ensures .0) at q),
     )
 
 pub fields-right-spec : {M : Type 1} → statement M
@@ -44,15 +47,11 @@ fields-right-spec =
     (λ c. omega arith)
     (λ c. omega arith)
     (λ c. omega arith)
-    (λ c κs. omega arith)
-    (λ c. omega arith)
-    (λ c. omega arith)
-    (λ c. omega arith)
-    (λ c κs. omega arith)
-    (λ c. omega arith)
     (λ c. omega arith)
     (λ c. omega arith)
     (λ c κs. omega arith)
+    (λ c. omega arith)
+    (λ c. omega arith)
     (λ c. omega arith)
     (λ c. omega arith)
     (λ c. omega arith)

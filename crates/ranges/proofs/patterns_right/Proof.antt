@@ -40,6 +40,10 @@ patterns-right-spec =
     (λ c. never)
     (λ c. omega arith)
     (λ c. omega arith)
-    (λ c. let v = c .before .before .before .before .before .before .before .before .before .loop .inv in
-    (omega arith, below-more _ _ (v .1) (rw (c .before .before .before .before .before .before .wide16 .ensures .0) at (pattern-here _ _ _ _ _ _ _ (c .before .before .before .before .before .word-at .ensures) (c .before .before .before .before .word-at2 .ensures) (c .before .before .before .word-at3 .ensures) (c .before .before .word-at4 .ensures) (c .before .distinct4 .ensures) (not-false _ (c .if1 .left))))))
+    (λ c.
+    let d = c .before in
+    let w = d .before .before .before .before in
+    let r = w .before in
+    let e = pattern-here _ _ _ _ _ _ _ (w .word-at .ensures) (d .before .before .before .word-at2 .ensures) (d .before .before .word-at3 .ensures) (d .before .word-at4 .ensures) (d .distinct4 .ensures) (not-false _ (c .if1 .left)) in
+    (omega arith, below-more _ _ (r .before .before .before .loop .inv .1) (rw (r .wide16 .ensures .0) at e)))
     (λ c e q l. c .before .loop .inv .1 q (omega arith)))

@@ -29,7 +29,7 @@ judge-spec =
     planned-refused _ 16 _ (ap resultOf (c .refused2 .ensures .0))
     (unripe _ _ t _ _ (c .before .before .before .before .before .before .before .live-at .ensures t h .found _ (c .before .before .before .before .found .given .1)) (λ e. c .before .if1 .taken (w .word-at .ensures ∙ e))))
     (λ c. search needs)
-    (λ c κs. let q = c .before .before .before .before .before .before .before .before .before .before .before .pre in walk-known _ _ q _ _ _ (search needs) (c .before .before .before .before .before .before .before .live-at .ensures (q .term) (q .table) .found _ (c .before .before .before .before .found .given .1) .walks))
+    (λ c κs. let c₁ = c .before .before .before .before in let c₂ = c₁ .before .before .before in let q = c₂ .before .before .before .before .pre in walk-known _ _ q _ _ _ (search needs) (c₂ .live-at .ensures (q .term) (q .table) .found _ (c₁ .found .given .1) .walks))
     (λ c κs.
     let q = c .before .before .before .before .before .before .before .before .before .before .before .before .pre in
     let l = c .before .before .before .before .before .before .before .before .live-at .ensures (q .term) (q .table) .found _ (c .before .before .before .before .before .found .given .1) in

@@ -37,17 +37,17 @@ lost-spec =
     (λ c. search needs)
     (λ c. search needs)
     (λ c κs. search needs)
-    (λ c. let n = losing-on _ _ (c .before .before .before .before .before .before .before .before .before .before .pre .0) _ _ _ _ _ (c .before .before .before .before .before .loop .inv .3) (omega arith) _ (c .before .wide162 .ensures .0) in omega arith)
-    (λ c. let n = losing-on _ _ (c .before .before .before .before .before .before .before .before .before .before .pre .0) _ _ _ _ _ (c .before .before .before .before .before .loop .inv .3) (omega arith) _ (c .before .wide162 .ensures .0) in omega arith)
-    (λ c. let n = losing-on _ _ (c .before .before .before .before .before .before .before .before .before .before .pre .0) _ _ _ _ _ (c .before .before .before .before .before .loop .inv .3) (omega arith) _ (c .before .wide162 .ensures .0) in omega (arith, c .before .before .before .before .before .before .before .before .before .before .pre .0 .few))
-    (λ c. let n = losing-on _ _ (c .before .before .before .before .before .before .before .before .before .before .pre .0) _ _ _ _ _ (c .before .before .before .before .before .loop .inv .3) (omega arith) _ (c .before .wide162 .ensures .0) in omega arith)
+    (λ c. let o = c .before .before .before .before .before in let n = losing-on _ _ (o .before .before .before .before .before .pre .0) _ _ _ _ _ (o .loop .inv .3) (omega arith) _ (c .before .wide162 .ensures .0) in omega arith)
+    (λ c. let o = c .before .before .before .before .before in let n = losing-on _ _ (o .before .before .before .before .before .pre .0) _ _ _ _ _ (o .loop .inv .3) (omega arith) _ (c .before .wide162 .ensures .0) in omega arith)
+    (λ c. let o = c .before .before .before .before .before in let n = losing-on _ _ (o .before .before .before .before .before .pre .0) _ _ _ _ _ (o .loop .inv .3) (omega arith) _ (c .before .wide162 .ensures .0) in omega (arith, o .before .before .before .before .before .pre .0 .few))
+    (λ c. let o = c .before .before .before .before .before in let n = losing-on _ _ (o .before .before .before .before .before .pre .0) _ _ _ _ _ (o .loop .inv .3) (omega arith) _ (c .before .wide162 .ensures .0) in omega arith)
     (λ c.
     let o = c .before .before .before .before .before in
     let v = o .loop .inv in
     let e = c .before .wide162 .ensures .0 in
     let n = losing-on _ _ (o .before .before .before .before .before .pre .0) _ _ _ _ _ (v .3) (omega arith) _ e in
     (omega arith, n .1, v .2, λ t h. losing-gone _ _ (h .end) _ _ _ _ _ _ (v .3 t h) (omega arith) _ e (c .if1 .taken)))
-    (λ c. let n = losing-on _ _ (c .before .before .before .before .before .before .before .before .before .before .before .pre .0) _ _ _ _ _ (c .before .before .before .before .before .before .loop .inv .3) (omega arith) _ (c .before .before .wide162 .ensures .0) in omega arith)
+    (λ c. let o = c .before .before .before .before .before .before in let n = losing-on _ _ (o .before .before .before .before .before .pre .0) _ _ _ _ _ (o .loop .inv .3) (omega arith) _ (c .before .before .wide162 .ensures .0) in omega arith)
     (λ c.
     let o = c .before .before .before .before .before .before in
     let v = o .loop .inv in

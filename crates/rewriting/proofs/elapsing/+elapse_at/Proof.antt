@@ -2,14 +2,14 @@
 use Prim.Native.Nat.{ℕ, _<_, _-_}
 use native.Mathlib.Omega.{arith}
 use borrow.Author.Needs.{needs}
-use lib.ListN.{length, getD}
+use lib.ListN.{length}
 use Rattle.cows.proofs.Rows.{children-some}
 use Rattle.cows.specs.Moves.{elapse}
 use Rattle.records.specs.Rewrites.{unchanged}
 use Rattle.records.proofs.Rewrites.{as-asks, as-gives}
 use Rattle.rewriting.proofs.Aligned.{passes-placed}
 use Rattle.rewriting.proofs.Children.{first-child, second-child, two-children, one-child}
-use Rattle.rewriting.proofs.Elapses.{one-of, none-of, Still, Passed, Through, elapse-still, elapse-through, still-at, through-at}
+use Rattle.rewriting.proofs.Elapses.{one-of, passed, Still, Through, elapse-still, elapse-through, still-at, through-at}
 use borrow.Fn.Kinds.{In}
 use borrow.Fn.PlainCycle.{Measures, is, falls, and}
 use Rattle.rewriting.proofs.elapsing.elapse_at.Reads as elapse-at
@@ -62,25 +62,22 @@ pub +elapse-at-spec : {M : Type 1} → statement M
     (λ c. search needs)
     (λ c. search needs)
     (λ c κs.
-    let z = c .before .before .before .before .before .before .before .before .before .before .before .args in
-    let r = c .before .before .before .before .before .before .before .before .before .before .before .pre .1 in
-    let h : Passed (getD (z .s .now) (z .at) 0) = omega (arith, none-of (getD (z .s .now) (z .at) 0) _ _ (c .before .before .before .before .before .before .if1 .left)) in
-    (search needs, first-child _ _ (elapse (z .d)) Through (elapse-through (z .d)) (r .0) (r .1) (through-at h) (children-some _ (omega arith)) (search needs) (search needs)))
+    let b = c .before .before .before .before .before .before .before .before .before .before .before in
+    let h = let i = c .before .before .before .before .before in passed _ (i .before .if1 .left) (i .if2 .left) in
+    (search needs, first-child _ _ (elapse (b .args .d)) Through (elapse-through _) (b .pre .1 .0) (b .pre .1 .1) (through-at h) (children-some _ (omega arith)) (search needs) (search needs)))
     (λ c κs. search needs)
     (λ c κs.
-    let z = c .before .before .before .before .before .before .before .before .before .before .before .before .before .before .before .before .before .args in
-    let r = c .before .before .before .before .before .before .before .before .before .before .before .before .before .before .before .before .before .pre .1 in
-    let h : Passed (getD (z .s .now) (z .at) 0) = omega (arith, none-of (getD (z .s .now) (z .at) 0) _ _ (c .before .before .before .before .before .before .before .before .before .before .before .before .if1 .left)) in
-    (search needs, second-child _ _ (elapse (z .d)) Through (elapse-through (z .d)) (r .0) (r .1) (through-at h) (children-some _ (omega arith)) (c .before .before .before .before .before .elapse-at .ensures) (search needs) (search needs) (search needs)))
+    let b = c .before .before .before .before .before .before .before .before .before .before .before .before .before .before .before .before .before in
+    let h = let i = c .before .before .before .before .before .before .before .before .before .before .before in passed _ (i .before .if1 .left) (i .if2 .left) in
+    (search needs, second-child _ _ (elapse (b .args .d)) Through (elapse-through _) (b .pre .1 .0) (b .pre .1 .1) (through-at h) (children-some _ (omega arith)) (c .before .before .before .before .before .elapse-at .ensures) (search needs) (search needs) (search needs)))
     (λ c. search needs)
     (λ c.
-    let z = c .before .before .before .before .before .before .before .before .before .before .before .before .before .before .before .before .before .before .before .before .args in
-    let r = c .before .before .before .before .before .before .before .before .before .before .before .before .before .before .before .before .before .before .before .before .pre .1 in
-    let h : Passed (getD (z .s .now) (z .at) 0) = omega (arith, none-of (getD (z .s .now) (z .at) 0) _ _ (c .before .before .before .before .before .before .before .before .before .before .before .before .before .before .before .if1 .left)) in
-    two-children _ _ (elapse (z .d)) Through (elapse-through (z .d)) (r .0) (r .1) (through-at h) (children-some _ (omega arith)) (c .before .before .before .before .before .before .before .before .elapse-at .ensures) (search needs) (search needs) (c .before .before .before .before .before .before .before .before .before .before .before .before .copy .ensures) (c .before .before .elapse-at2 .ensures))
+    let b = c .before .before .before .before .before .before .before .before .before .before .before .before .before .before .before .before .before .before .before .before in
+    let h = let i = c .before .before .before .before .before .before .before .before .before .before .before .before .before .before in passed _ (i .before .if1 .left) (i .if2 .left) in
+    two-children _ _ (elapse (b .args .d)) Through (elapse-through _) (b .pre .1 .0) (b .pre .1 .1) (through-at h) (children-some _ (omega arith)) (c .before .before .before .before .before .before .before .before .elapse-at .ensures) (search needs)
+    (search needs) (c .before .before .before .before .before .before .before .before .before .before .before .before .copy .ensures) (c .before .before .elapse-at2 .ensures))
     (λ c. search needs)
     (λ c.
-    let z = c .before .before .before .before .before .before .before .before .before .before .before .before .before .before .before .before .args in
-    let r = c .before .before .before .before .before .before .before .before .before .before .before .before .before .before .before .before .pre .1 in
-    let h : Passed (getD (z .s .now) (z .at) 0) = omega (arith, none-of (getD (z .s .now) (z .at) 0) _ _ (c .before .before .before .before .before .before .before .before .before .before .before .if1 .left)) in
-    one-child _ _ (elapse (z .d)) Through (elapse-through (z .d)) (r .0) (r .1) (through-at h) (children-some _ (omega arith)) (c .before .before .before .before .elapse-at .ensures) (search needs) (search needs) (c .before .before .before .before .before .before .before .before .copy .ensures))
+    let b = c .before .before .before .before .before .before .before .before .before .before .before .before .before .before .before .before in
+    let h = let i = c .before .before .before .before .before .before .before .before .before .before in passed _ (i .before .if1 .left) (i .if2 .left) in
+    one-child _ _ (elapse (b .args .d)) Through (elapse-through _) (b .pre .1 .0) (b .pre .1 .1) (through-at h) (children-some _ (omega arith)) (c .before .before .before .before .elapse-at .ensures) (search needs) (search needs) (c .before .before .before .before .before .before .before .before .copy .ensures))

@@ -46,7 +46,8 @@ pub +depth-at-spec : {M : Type 1} → statement M
     (λ c. omega (arith, c .before .before .before .before .before .before .before .before .pre .1 .end .room, c .before .before .before .before .before .before .before .before .pre .1 .inside))
     (λ c κs. tt)
     (λ c κs.
-    let (q, l) = second-standing _ _ _ _ (c .before .before .before .before .before .before .before .before .before .pre .1) (c .before .before .before .before .before .children .ensures .0) _ (c .before .before .before .depth-at .ensures) (c .before .before .before .before .if1 .left) (c .before .before .if2 .left) _ (c .wide16 .ensures .0) in
+    let c₁ = c .before .before in let c₂ = c₁ .before in let c₃ = c₂ .before in let c₄ = c₃ .before in
+    let (q, l) = second-standing _ _ _ _ (c₄ .before .before .before .before .pre .1) (c₄ .children .ensures .0) _ (c₂ .depth-at .ensures) (c₃ .if1 .left) (c₁ .if2 .left) _ (c .wide16 .ensures .0) in
     (omega (arith, q .inside), q))
     (λ c κs. tt)
     (λ c.
@@ -55,5 +56,7 @@ pub +depth-at-spec : {M : Type 1} → statement M
     let d = c .before .before .before .before .before .depth-at .ensures in
     let r = second-standing _ _ _ _ q k _ d (c .before .before .before .before .before .before .if1 .left) (c .before .before .before .before .if2 .left) _ (c .before .before .wide16 .ensures .0) .0 in
     omega (arith, c .larger .ensures, depth-few (first-standing _ _ _ _ q k (c .before .before .before .before .before .before .if1 .left)) _ d, depth-few r _ (c .before .depth-at2 .ensures)))
-    (λ c u h. rw (c .larger .ensures)
-    (depth-two _ _ _ _ (c .before .before .before .before .before .before .before .before .before .before .before .pre .1) (c .before .before .before .before .before .before .before .children .ensures .0) _ (c .before .before .before .before .before .depth-at .ensures) (c .before .before .before .before .before .before .if1 .left) (c .before .before .before .before .if2 .left) _ (c .before .before .wide16 .ensures .0) _ (c .before .depth-at2 .ensures) u h)))
+    (λ c u h.
+    let c₁ = c .before in let c₂ = c₁ .before in let c₃ = c₂ .before .before in let c₄ = c₃ .before in let c₅ = c₄ .before in let c₆ = c₅ .before in
+    rw (c .larger .ensures)
+    (depth-two _ _ _ _ (c₆ .before .before .before .before .pre .1) (c₆ .children .ensures .0) _ (c₄ .depth-at .ensures) (c₅ .if1 .left) (c₃ .if2 .left) _ (c₂ .wide16 .ensures .0) _ (c₁ .depth-at2 .ensures) u h)))
