@@ -1,6 +1,6 @@
-pub mod Silences
-pub mod Meets
-pub mod Communicates
+pub mod Continued
+pub mod Left
+pub mod Judged
 pub mod Taking
 pub mod Replacing
-pub mod Exchanges
+pub mod Written

@@ -1,4 +1,4 @@
--- What the four slots of a receive take (matching, specs/Taking) is the substitution of its matching, and the records of a table so bound are its boundNodes (crate cows, proofs/Binds).
+-- What the four slots of a receive take (matching, specs/Taking) is the substitution of its matching, and the records of a table so bound are its boundNodes (crate cows, proofs/BoundNodes).
 use mathlib.Core.Path.{_≡_, refl, sym, ap, ap₂, subst, _∙_}
 use mathlib.Core.Logic.{_≢_}
 use mathlib.Core.Bool.{Bool, true, false, cond}
@@ -21,10 +21,10 @@ use Rattle.cows.proofs.Rows.{length-record16}
 use Rattle.cows.proofs.Fields.{drop-bytes, append-bytes, first-delimitation}
 use Rattle.cows.proofs.Records.{RightNode}
 use Rattle.cows.proofs.Format.{length-nodes, RightNodes, right-nodes}
-use Rattle.cows.proofs.Binding.{AllBind, values-fit, all-in-scope}
+use Rattle.cows.proofs.CommunicateKeeps.{AllBind, values-fit, all-in-scope}
 use Rattle.cows.proofs.Silence.{silence-nodes}
 use Rattle.cows.specs.Records.{nodeDelimits, bindNode, boundNodes}
-use Rattle.cows.proofs.Binds.{image-other}
+use Rattle.cows.proofs.BoundNodes.{image-other}
 use Rattle.cows.proofs.Meeting.{fit-fits}
 use Rattle.cows.proofs.Stands.{right-at}
 use Rattle.cows.proofs.Cut.{all-take}
@@ -39,7 +39,7 @@ use Rattle.renaming.specs.Bound.{takesOne, imageOfAll, goes, recordBound, bound
 use Rattle.renaming.proofs.Mapped.{record-mapped}
 use Rattle.renaming.proofs.Occurring.{not-zero}
 use Rattle.matching.specs.Taking.{takesOf}
-use Rattle.communicate.proofs.Meets.{Matched}
+use Rattle.communicate.proofs.Left.{Matched}
 use Rattle.communicate.proofs.Taking.{images-match, takers-match}
 
 -- The records from place i on, with nil at place b.

@@ -12,7 +12,7 @@ use Rattle.cows.specs.Terms.{Term, variable}
 use Rattle.cows.specs.Allows.{Matches, empty, takes, equals}
 use Rattle.cows.specs.Moves.{Substitution, image}
 use Rattle.cows.proofs.Basics.{bool-case, cond-case₂, clash, not-so, or-none}
-use Rattle.cows.proofs.Binding.{AllBind}
+use Rattle.cows.proofs.CommunicateKeeps.{AllBind}
 use Rattle.records.specs.declared.Variable as variables
 use Rattle.records.specs.declared.Atom.{Atom}
 use Rattle.records.specs.declared.Atom.the-variants.{Variable}
@@ -24,7 +24,7 @@ use Rattle.renaming.specs.Bound.{takesOne, imageOfAll}
 use Rattle.renaming.proofs.Bound.{not-taken, not-changed}
 use Rattle.matching.specs.Taking.{takesOf}
 use Rattle.matching.proofs.Slots.{takes-so, takes-none}
-use Rattle.cows.proofs.Binds.{image-other}
+use Rattle.cows.proofs.BoundNodes.{image-other}
 
 -- What stands for an atom when n slots take their values, and whether one of them takes it, or y.
 images : ℕ → (ℕ → ℕ) → (ℕ → ℕ) → variables.Variable → Atom

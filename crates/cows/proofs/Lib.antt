@@ -25,12 +25,12 @@ pub mod Meeting
 pub mod Scopes
 pub mod Atoms
 pub mod Parts
-pub mod Extrusion
+pub mod ExtrudeKeeps
 pub mod Silence
 pub mod Mapping
-pub mod Binding
-pub mod Binds
-pub mod Unfolding
+pub mod CommunicateKeeps
+pub mod BoundNodes
+pub mod UnfoldKeeps
 pub mod Preserving
 pub mod Instances
 pub mod Remains

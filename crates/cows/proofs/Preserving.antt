@@ -17,11 +17,11 @@ use Rattle.cows.proofs.Basics.{or-false, bind-accept, same-accept, forb
 use Rattle.cows.proofs.Parts.{Sound, part-sound, part-kill, part-silence, part-elapse, part-continue}
 use Rattle.cows.proofs.Stands.{right-at, wanted-is, invokes-is, replicates-is, prefixed-is}
 use Rattle.cows.proofs.Step.{Accepted, step-accepted}
-use Rattle.cows.proofs.Extrusion.{part-extrude}
+use Rattle.cows.proofs.ExtrudeKeeps.{part-extrude}
 use Rattle.cows.proofs.Meeting.{matched-binds}
-use Rattle.cows.proofs.Binding.{AllBind, sound-bind, part-bind, all-in-scope, values-fit, invokes-data}
+use Rattle.cows.proofs.CommunicateKeeps.{AllBind, sound-bind, part-bind, all-in-scope, values-fit, invokes-data}
 use Rattle.cows.proofs.Silence.{silence-prefix}
-use Rattle.cows.proofs.Unfolding.{sound-afterUnfold}
+use Rattle.cows.proofs.UnfoldKeeps.{sound-afterUnfold}
 
 sound-kill : (t s : Term) (a : ℕ) → killAt t a ≡ accept s → Sound t → Sound s
 unfolding killAt

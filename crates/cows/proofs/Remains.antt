@@ -32,10 +32,10 @@ use Rattle.cows.proofs.Gathered.{gathered-same, in-order-unique, stretc
 use Rattle.cows.proofs.Contexts.{choice-around, choice-split, live-unchosen, at-fill, dormant, stopped}
 use Rattle.cows.proofs.Silence.{relieved-size, alike-at, alike-ahead, alike-around, silence-size, silence-prefix, silence-nodes}
 use Rattle.cows.proofs.Recordwise.{node-at, rewritten-map, rewritten-is}
-use Rattle.cows.proofs.Binds.{bound-append, bind-nodes}
+use Rattle.cows.proofs.BoundNodes.{bound-append, bind-nodes}
 use Rattle.cows.proofs.Meeting.{fits-fit, reaches-inScope}
 use Rattle.cows.proofs.Parts.{Sound}
-use Rattle.cows.proofs.Binding.{AllBind}
+use Rattle.cows.proofs.CommunicateKeeps.{AllBind}
 use Rattle.cows.proofs.Preserving.{meeting-binds}
 use Rattle.cows.proofs.Allows.{communicate-meets, meets-communicate}
 

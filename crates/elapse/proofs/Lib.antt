@@ -1,1 +1,1 @@
-pub mod Elapses
+pub mod Judged

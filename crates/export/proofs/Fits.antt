@@ -5,7 +5,7 @@ use Prim.Native.Nat.{ℕ, suc, _<_, _≤_}
 use native.Mathlib.Omega.{arith}
 use lib.ListN.{length, getD}
 use Rattle.cows.specs.Basics.{Result, refuse, accept}
-use Rattle.cows.specs.Terms.{Term, size}
+use Rattle.cows.specs.Terms.{size}
 use Rattle.cows.specs.Format.{AreBytes, byte, word}
 use Rattle.cows.specs.Tables.{judge}
 use Rattle.cows.specs.Load.{load}

@@ -1,1 +1,1 @@
-pub mod Extrudes
+pub mod Judged

@@ -15,7 +15,7 @@ use Rattle.cows.specs.Format.{byte, layout, record16}
 use Rattle.cows.specs.Moves.{Matching, binds, differs, fit, fewer}
 use Rattle.cows.proofs.Stands.{receives-is, prefixed-is}
 use Rattle.records.specs.Holds.{Holds}
-use Rattle.records.proofs.Stands.{holds-kind}
+use Rattle.records.proofs.StandsIn.{holds-kind}
 use Rattle.matching.specs.declared.Fit.{Fit}
 use Rattle.matching.specs.declared.Fit.the-variants.{Binds, Differs}
 use Rattle.matching.specs.Matching.{fitOf, ActionAt}

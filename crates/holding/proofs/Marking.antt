@@ -20,10 +20,10 @@ use Rattle.cows.specs.Moves.{readyKill, heldBack}
 use Rattle.cows.proofs.Basics.{clash, bool-case, not-so, and-none, none-found}
 use Rattle.cows.proofs.Fields.{kind-kill, kind-delimitation, first-kill, first-delimitation}
 use Rattle.cows.proofs.Sets.{in-labels, label-range}
-use Rattle.records.proofs.Stands.{holds-kind, holds-word}
+use Rattle.records.proofs.StandsIn.{holds-kind, holds-word}
 use Rattle.ways.specs.Known.{Table}
 use Rattle.holding.specs.Holding.{Unmarked, KillsMarked, Parties, Sides}
-use Rattle.ways.proofs.Tables.{table-ended, table-inside}
+use Rattle.ways.proofs.KnownTables.{table-ended, table-inside}
 use Rattle.ways.proofs.Seeking.{Seeking, seeking-start, seeking-end, seeking-over}
 use Rattle.holding.proofs.HeldBack.{is-kill, kill-label, kills-labelled, held-none, held-delimitation}
 

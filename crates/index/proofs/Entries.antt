@@ -22,7 +22,7 @@ use Rattle.cows.proofs.Stands.{delimits-is, prefixed-is, member-delimited}
 use Rattle.cows.specs.Records.{reachOf}
 use Rattle.cows.proofs.Reach.{delimitsAt-is, is-delimitsAt, reach-some, reaches-enclosed, before-reach}
 use Rattle.records.specs.Holds.{Holds}
-use Rattle.records.proofs.Stands.{holds-size}
+use Rattle.records.proofs.StandsIn.{holds-size}
 use Rattle.scopes.specs.Scopes.{EndsOf, openUse, strays}
 use Rattle.scopes.proofs.Uses.{place-inside, kind-here, delimitation-is, delimitation-here, endpoint-here, kill-here, none-used}
 use Rattle.ranges.specs.Lists.{Listed}

@@ -1,3 +1,3 @@
-pub mod Killing
-pub mod Kills
+pub mod Left
+pub mod Judged
 pub mod Losing

@@ -15,11 +15,11 @@ use Rattle.cows.proofs.Format.{length-encode}
 use Rattle.cows.proofs.Places.{size-pos, spot-fits}
 use Rattle.records.specs.Ends.{EndsFrom}
 use Rattle.records.specs.Rewrites.{StandsIn}
-use Rattle.records.proofs.Stands.{long, stands-kind, stands-fits, stands-under, stands-left, stands-right, holds-stands}
+use Rattle.records.proofs.StandsIn.{long, stands-kind, stands-fits, stands-under, stands-left, stands-right, holds-stands}
 use Rattle.records.proofs.Shapes.{end-stands}
 use Rattle.ways.specs.Known.{Table, Known}
 use Rattle.kill.specs.Losses.{left}
-use Rattle.ways.proofs.Tables.{table-size, table-ended}
+use Rattle.ways.proofs.KnownTables.{table-size, table-ended}
 use Rattle.cows.proofs.Rows.{children-of, children-some}
 
 -- the terms stand one behind the other from place i on; their records, and what is left of them

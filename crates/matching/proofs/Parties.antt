@@ -12,7 +12,7 @@ use Rattle.cows.specs.Within.{Right}
 use Rattle.cows.proofs.Fields.{kind-receive, kind-invoke, byte-at, layout-first, layout-second, layout-slot}
 use Rattle.cows.proofs.Stands.{right-at}
 use Rattle.records.specs.Holds.{Holds}
-use Rattle.records.proofs.Stands.{holds-word}
+use Rattle.records.proofs.StandsIn.{holds-word}
 use Rattle.matching.specs.Matching.{ActionAt}
 
 module _ (s : List ℕ) (t : Term) (j : ℕ) (h : Holds s t) (l : j < size t) where

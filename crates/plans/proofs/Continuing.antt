@@ -17,10 +17,10 @@ use Rattle.cows.proofs.Format.{length-encode}
 use Rattle.cows.proofs.Ways.{encode-replaced, depth-part, depth-fill, size-swap}
 use Rattle.records.specs.Rewrites.{StandsIn}
 use Rattle.records.proofs.Put.{has-take}
-use Rattle.records.proofs.Stands.{part-stands}
+use Rattle.records.proofs.StandsIn.{part-stands}
 use Rattle.ways.specs.Known.{Table}
 use Rattle.ways.specs.Ways.{startOf}
-use Rattle.ways.proofs.Tables.{table-size, table-ended}
+use Rattle.ways.proofs.KnownTables.{table-size, table-ended}
 use Rattle.ways.proofs.Starts.{Start, start-at}
 use Rattle.plans.specs.Cutting.{Span, Room, cutOf}
 use Rattle.plans.proofs.Planning.{within-limits}

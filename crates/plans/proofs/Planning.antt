@@ -16,7 +16,7 @@ use Rattle.cows.specs.Active.{live, wanted}
 use Rattle.cows.specs.Step.{overLimits}
 use Rattle.cows.proofs.Basics.{clash, same-accept}
 use Rattle.records.specs.Rewrites.{put}
-use Rattle.ways.proofs.Tables.{one-table}
+use Rattle.ways.proofs.KnownTables.{one-table}
 use Rattle.plans.specs.declared.Plan.{Plan}
 use Rattle.plans.specs.declared.Judgement.the-variants.{Allowed, Large}
 use Rattle.plans.specs.Plans.{resultOf, limited, Planned, Asks, Gives}

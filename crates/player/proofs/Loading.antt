@@ -19,9 +19,9 @@ use Rattle.cows.proofs.Places.{spot-fits, spot-under}
 use Rattle.cows.proofs.Format.{length-encode}
 use Rattle.records.specs.Holds.{Holds}
 use Rattle.records.specs.Rewrites.{StandsIn}
-use Rattle.records.proofs.Stands.{stands-kind, stands-under, stands-left, stands-right, holds-stands, holds-size}
+use Rattle.records.proofs.StandsIn.{stands-kind, stands-under, stands-left, stands-right, holds-stands, holds-size}
 use Rattle.ways.specs.Known.{Table, Known}
-use Rattle.ways.proofs.Tables.{table-size, table-ended}
+use Rattle.ways.proofs.KnownTables.{table-size, table-ended}
 use Rattle.tables.specs.declared.Reply.{Reply}
 use Rattle.tables.specs.Verdict.{checkReply, Checked}
 use Rattle.stepper.proofs.Stepping.{Read}

@@ -31,7 +31,7 @@ use Rattle.cows.proofs.Bounds.{step-from-one}
 use Rattle.cows.proofs.Preserving.{step-within}
 use Rattle.records.specs.Ends.{EndsFrom}
 use Rattle.ways.specs.Known.{Table, Known}
-use Rattle.ways.proofs.Tables.{one-table, table-size}
+use Rattle.ways.proofs.KnownTables.{one-table, table-size}
 use Rattle.tables.specs.declared.Reply.{Reply}
 use Rattle.proposals.specs.declared.Move as code
 use Rattle.proposals.specs.declared.Move.the-variants.{Kill, Communicate, Timeout, Elapse, Unfold, Extrude, None}

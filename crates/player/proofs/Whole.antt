@@ -20,7 +20,7 @@ use Rattle.cows.proofs.Cut.{length-cut}
 use Rattle.records.specs.Rewrites.{put}
 use Rattle.records.proofs.Put.{length-put}
 use Rattle.ways.specs.Known.{Table}
-use Rattle.ways.proofs.Tables.{table-size}
+use Rattle.ways.proofs.KnownTables.{table-size}
 use Rattle.tables.specs.declared.Reply.{Reply}
 use Rattle.tables.specs.Verdict.{checkReply, Checked}
 use Rattle.stepper.proofs.Stepping.{Read, read-known}

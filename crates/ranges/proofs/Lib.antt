@@ -1,3 +1,3 @@
 pub mod Lists
-pub mod Fields
+pub mod FieldRanges
 pub mod Wrong

@@ -1,5 +1,5 @@
 pub mod Guards
 pub mod Readings
-pub mod Seeking
+pub mod Searches
 pub mod Chains
 pub mod Filling

@@ -24,8 +24,8 @@ use Rattle.records.specs.Answers.{placeOr}
 use Rattle.records.specs.Rewrites.{StandsIn}
 use Rattle.records.specs.Holds.{Holds}
 use Rattle.records.proofs.Laws.{place-tells}
-use Rattle.records.proofs.Stands.{holds-size, stands-kind, stands-fits, stands-under, stands-left, stands-right}
-use Rattle.readers.proofs.Seeking.{deep-first, fault-first, fault-below}
+use Rattle.records.proofs.StandsIn.{holds-size, stands-kind, stands-fits, stands-under, stands-left, stands-right}
+use Rattle.readers.proofs.Searches.{deep-first, fault-first, fault-below}
 use Rattle.readers.specs.Reads.{Reading, earlierOf, deepIn, chooses, faultIn, nextOf, About, Reads}
 
 -- the kind of the record at a place: its first byte

@@ -11,7 +11,7 @@ use Rattle.cows.proofs.Format.{length-encode}
 use Rattle.records.specs.Rewrites.{put, StandsIn, Passes, Rewritable, Done, Rewrites, unchanged, gone}
 use Rattle.records.proofs.Put.{and-then, has-take}
 use Rattle.records.proofs.Shapes.{end-stands}
-use Rattle.records.proofs.Stands.{long, stands-children, stands-record, stands-fits, stands-under, stands-left, stands-right}
+use Rattle.records.proofs.StandsIn.{long, stands-children, stands-record, stands-fits, stands-under, stands-left, stands-right}
 
 -- what is asked, with the fields that follow filled in
 pub ready : {f : Term → Term} {s : List ℕ} {i : ℕ} {d : List ℕ} {j : ℕ} (t : Term) → StandsIn s i t → j + length (encode (f t)) ≤ length d → Rewritable f s i d j

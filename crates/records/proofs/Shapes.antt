@@ -25,7 +25,7 @@ use Rattle.records.specs.Ends.{wants, endAt, pickEnd, EndsFrom}
 use Rattle.records.specs.Rewrites.{StandsIn}
 use Rattle.records.specs.Answers.{placeOr}
 use Rattle.records.proofs.Pieces.{piece, first-piece}
-use Rattle.records.proofs.Stands.{long, stands-children, stands-fits, stands-under, stands-left, stands-right, part-stands}
+use Rattle.records.proofs.StandsIn.{long, stands-children, stands-fits, stands-under, stands-left, stands-right, part-stands}
 
 -- The end at a place, from those behind it.
 module _ (s : List ℕ) where

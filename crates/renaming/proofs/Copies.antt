@@ -17,7 +17,7 @@ use Rattle.cows.proofs.Scopes.{counts-fill}
 use Rattle.cows.proofs.Atoms.{In, in-refl, in-fill, few-atoms}
 use Rattle.cows.proofs.Basics.{getD-zeros}
 use Rattle.records.specs.Holds.{Holds}
-use Rattle.records.proofs.Stands.{holds-stands}
+use Rattle.records.proofs.StandsIn.{holds-stands}
 use Rattle.renaming.specs.Mapped.{mapped, named}
 use Rattle.renaming.specs.Names.{Marks, Marking, Marked, Chosen, Body}
 use Rattle.renaming.proofs.Mapped.{mapped-as}

@@ -13,7 +13,7 @@ use Rattle.records.specs.Ends.{EndsFrom}
 use Rattle.records.specs.Holds.{Holds}
 use Rattle.records.specs.Rewrites.{StandsIn, Passes, Rewritable, Rewrites}
 use Rattle.records.proofs.Shapes.{end-stands}
-use Rattle.records.proofs.Stands.{long, stands-children, stands-fits, stands-left, holds-stands}
+use Rattle.records.proofs.StandsIn.{long, stands-children, stands-fits, stands-left, holds-stands}
 use Rattle.records.proofs.Rewrites.{passes}
 use Rattle.rewriting.specs.Aligned.{Aligned}
 use Rattle.rewriting.specs.Halting.{PlaceOf}

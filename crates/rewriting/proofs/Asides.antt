@@ -12,7 +12,7 @@ use Rattle.cows.specs.Format.{encode}
 use Rattle.cows.specs.Moves.{halt}
 use Rattle.cows.proofs.Format.{length-encode}
 use Rattle.records.specs.Rewrites.{put, StandsIn, Rewritable, Rewrites, gone}
-use Rattle.records.proofs.Stands.{encode-under, encode-both, stands-children, stands-under, stands-left, stands-right}
+use Rattle.records.proofs.StandsIn.{encode-under, encode-both, stands-children, stands-under, stands-left, stands-right}
 use Rattle.records.proofs.Rewrites.{Step}
 use Rattle.rewriting.specs.Aligned.{Aligned}
 use Rattle.rewriting.specs.Halting.{haltAside, placeIn, PlaceOf}

@@ -1,6 +1,6 @@
 pub mod Aligned
 pub mod Children
-pub mod Halts
+pub mod HaltSteps
 pub mod Asides
-pub mod Kills
-pub mod Elapses
+pub mod Firing
+pub mod ElapseSteps

@@ -1,5 +1,5 @@
 pub mod Directory
 pub mod Marks
 pub mod Uses
-pub mod Steps
+pub mod NextPlace
 pub mod Passing

@@ -19,7 +19,7 @@ use Rattle.records.specs.Holds.{Holds}
 use Rattle.scopes.specs.declared.Scoping.the-variants.{Fine, Open, Clash}
 use Rattle.scopes.specs.Scopes.{scopingOf, PassedTo, level, firstClash}
 use Rattle.scopes.proofs.Marks.{none-again}
-use Rattle.records.proofs.Stands.{holds-size}
+use Rattle.records.proofs.StandsIn.{holds-size}
 use Rattle.scopes.proofs.Uses.{kind-here, none-used}
 
 -- what was found so far, and one place more

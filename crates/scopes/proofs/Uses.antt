@@ -21,7 +21,7 @@ use Rattle.cows.proofs.Sets.{set-case, value-range, variable-range, label-range
 use Rattle.cows.proofs.Stands.{right-at}
 use Rattle.cows.specs.Records.{reachOf}
 use Rattle.cows.proofs.Reach.{reaches-on, reach-some, some-reach, enclosed-reach, binders-reach}
-use Rattle.records.proofs.Stands.{holds-size, holds-kind, holds-word}
+use Rattle.records.proofs.StandsIn.{holds-size, holds-kind, holds-word}
 use Rattle.cows.proofs.Fields.{byte-at, kind-kill, kind-invoke, kind-receive, kind-delimitation, first-kill, first-delimitation, first-invoke, second-invoke, count-invoke, slot-invoke, first-receive, second-receive, count-receive, slot-receive}
 use Rattle.records.specs.Holds.{Holds}
 use Rattle.scopes.specs.Scopes.{directorySlot, markOf, PassedTo, level, openUse, strays, faultBy, Levels, worseOf, TupleAt}

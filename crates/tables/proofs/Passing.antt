@@ -14,10 +14,10 @@ use Rattle.cows.proofs.Basics.{bool-case, lt-case}
 use Rattle.records.specs.Holds.{Holds}
 use Rattle.records.specs.Ends.{endAt, EndsFrom}
 use Rattle.records.proofs.Shapes.{ends-start}
-use Rattle.records.proofs.Stands.{holds-size}
+use Rattle.records.proofs.StandsIn.{holds-size}
 use Rattle.readers.specs.Reads.{Reading}
 use Rattle.readers.specs.Terms.{reachedPlace, ReadTo}
-use Rattle.readers.proofs.Seeking.{deep-below}
+use Rattle.readers.proofs.Searches.{deep-below}
 use Rattle.readers.proofs.Readings.{Tells, reads-tells}
 use Rattle.tables.specs.declared.Verdict.{Verdict}
 use Rattle.tables.specs.declared.Verdict.the-variants.{Deep, Choice}

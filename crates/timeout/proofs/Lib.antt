@@ -1,1 +1,1 @@
-pub mod Timeouts
+pub mod Judged

@@ -1,1 +1,1 @@
-pub mod Unfolds
+pub mod Judged

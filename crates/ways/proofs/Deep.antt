@@ -10,7 +10,7 @@ use Rattle.cows.specs.Kinds.{childrenOf}
 use Rattle.cows.proofs.Format.{length-encode}
 use Rattle.records.specs.Ends.{EndsFrom}
 use Rattle.records.specs.Rewrites.{StandsIn}
-use Rattle.records.proofs.Stands.{long, stands-children, stands-fits, stands-under, stands-left, stands-right}
+use Rattle.records.proofs.StandsIn.{long, stands-children, stands-fits, stands-under, stands-left, stands-right}
 use Rattle.records.proofs.Shapes.{end-stands}
 use Rattle.ways.specs.Depths.{Standing}
 

@@ -20,7 +20,7 @@ use Rattle.cows.proofs.Fields.{first-delimitation}
 use Rattle.cows.specs.Records.{ahead}
 use Rattle.cows.proofs.Ways.{length-ahead}
 use Rattle.records.specs.Holds.{Holds}
-use Rattle.records.proofs.Stands.{holds-kind, holds-word}
+use Rattle.records.proofs.StandsIn.{holds-kind, holds-word}
 use Rattle.ways.specs.Ways.{OnWay, Walks, startOf, scopeOf}
 use Rattle.ways.proofs.Climbing.{split-at}
 use Rattle.cows.proofs.Rows.{plug-kind}

@@ -1,6 +1,6 @@
 pub mod Climbing
 pub mod Frames
-pub mod Tables
+pub mod KnownTables
 pub mod Starts
 pub mod Deep
 pub mod Seeking

@@ -18,9 +18,9 @@ use Rattle.cows.proofs.Fields.{interval-wait}
 use Rattle.cows.proofs.Places.{size-pos, spot-fits, descend-first}
 use Rattle.cows.proofs.Scans.{active, active-over, active-next, shut-below}
 use Rattle.records.specs.Holds.{Holds}
-use Rattle.records.proofs.Stands.{holds-kind, holds-word}
+use Rattle.records.proofs.StandsIn.{holds-kind, holds-word}
 use Rattle.ways.specs.Known.{Table}
-use Rattle.ways.proofs.Tables.{table-size, table-ended, table-inside}
+use Rattle.ways.proofs.KnownTables.{table-size, table-ended, table-inside}
 
 module _ (P : ℕ → Bool) (test : Term → Bool) where
   -- an active record that passes

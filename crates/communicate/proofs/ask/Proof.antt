@@ -3,7 +3,7 @@ use borrow.Author.Tests.{not-true, not-false}
 use mathlib.Core.Path.{refl, sym, _∙_}
 use native.Mathlib.Omega.{arith}
 use Rattle.records.proofs.Laws.{found-at, found-nothing}
-use Rattle.communicate.proofs.Communicates.{ends-b, parties-fit, differ, meets, closed, apart, held, looser, may-meet}
+use Rattle.communicate.proofs.Judged.{ends-b, parties-fit, differ, meets, closed, apart, held, looser, may-meet}
 use Rattle.communicate.proofs.ask.Statement.{statement}
 use Rattle.communicate.proofs.ask.Tie as tie
 
@@ -12,8 +12,7 @@ ask-spec =
     tie.close
     (tie.spec
     (λ c κs. let f = c .before .before .before .before .pre in omega (arith, f .0 .whole))
-    (λ c. search needs)
-    (λ c. search needs)
+    (λ c. search needs) (λ c. search needs)
     (λ c t z h. (12, _, refl, differ z h _ (sym (c .enum-told .given .1) ∙ parties-fit z h (c .before .before .fits2 .ensures))))
     (λ c κs. let f = c .before .before .before .before .before .before .before .before .pre in (f .1, f .2, omega (arith, f .0 .whole), omega (arith, f .0 .whole)))
     (λ c t z h.

@@ -1,9 +1,9 @@
 use borrow.Author.Needs.{needs}
 use mathlib.Core.Path.{ap, _∙_}
-use Rattle.ways.proofs.Tables.{walk-known}
+use Rattle.ways.proofs.KnownTables.{walk-known}
 use Rattle.plans.specs.Plans.{resultOf}
 use Rattle.plans.proofs.Planning.{planned-refused}
-use Rattle.communicate.proofs.Communicates.{faces}
+use Rattle.communicate.proofs.Judged.{faces}
 use Rattle.communicate.proofs.judge.Statement.{statement}
 use Rattle.communicate.proofs.judge.Tie as tie
 
@@ -11,23 +11,14 @@ pub judge-spec : {M : Type 1} → statement M
 judge-spec =
     tie.close
     (tie.spec
-    (λ c. search needs)
-    (λ c. search needs)
-    (λ c κs. search needs)
-    (λ c. search needs)
-    (λ c κs. search needs)
-    (λ c. search needs)
-    (λ c. search needs)
+    (λ c. search needs) (λ c. search needs) (λ c κs. search needs) (λ c. search needs) (λ c κs. search needs) (λ c. search needs) (λ c. search needs)
     (λ c. search needs)
     (λ c κs.
     let i = c .before .before .before in
     let p = i .before .before .before .before in
     let q = p .before .before .before .before .before .pre in
     faces q (rw (i .k .given .1) at (p .seek .ensures (q .term) (q .table))) (search needs) (search needs))
-    (λ c. search needs)
-    (λ c κs. search needs)
-    (λ c. search needs)
-    (λ c. search needs)
+    (λ c. search needs) (λ c κs. search needs) (λ c. search needs) (λ c. search needs)
     (λ c κs.
     let j = c .before .before in
     let i = j .before .before .before .before .before .before in

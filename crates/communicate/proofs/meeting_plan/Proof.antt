@@ -1,6 +1,6 @@
 use mathlib.Core.Path.{refl}
 use native.Mathlib.Omega.{arith}
-use Rattle.communicate.proofs.Communicates.{receive-span, records-left, meeting-planned}
+use Rattle.communicate.proofs.Judged.{receive-span, records-left, meeting-planned}
 use Rattle.communicate.proofs.meeting_plan.Statement.{statement}
 use Rattle.communicate.proofs.meeting_plan.Tie as tie
 

@@ -1,7 +1,7 @@
 use borrow.Author.Needs.{needs}
 use native.Mathlib.Omega.{arith}
 use Rattle.plans.proofs.Planning.{gives}
-use Rattle.communicate.proofs.Exchanges.{asks-span, asks-parts, joined}
+use Rattle.communicate.proofs.Written.{asks-span, asks-parts, joined}
 use Rattle.communicate.proofs.write.Statement.{statement}
 use Rattle.communicate.proofs.write.Tie as tie
 

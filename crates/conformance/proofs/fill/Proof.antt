@@ -18,9 +18,7 @@ fill-spec =
     (tie.spec
     Inv-loop
     μ-loop
-    (λ c. omega arith)
-    (λ c. omega arith)
-    (λ c. omega arith)
+    (λ c. omega arith) (λ c. omega arith) (λ c. omega arith)
     (λ c. simp length-set (omega arith))
     (λ c. simp length-set (omega arith))
     (λ c. omega arith)

@@ -1,6 +1,6 @@
 use borrow.Author.Needs.{needs}
 use Rattle.plans.proofs.Planning.{gives}
-use Rattle.elapse.proofs.Elapses.{elapse-asks, gives-elapsed}
+use Rattle.elapse.proofs.Judged.{elapse-asks, gives-elapsed}
 use Rattle.elapse.proofs.write.Statement.{statement}
 use Rattle.elapse.proofs.write.Tie as tie
 

@@ -2,7 +2,7 @@ use borrow.Author.Needs.{needs}
 use mathlib.Core.Path.{ap, _∙_}
 use Rattle.records.specs.Rewrites.{put}
 use Rattle.plans.proofs.Planning.{gives}
-use Rattle.extrude.proofs.Extrudes.{lift-asked}
+use Rattle.extrude.proofs.Judged.{lift-asked}
 use Rattle.extrude.proofs.write.Statement.{statement}
 use Rattle.extrude.proofs.write.Tie as tie
 

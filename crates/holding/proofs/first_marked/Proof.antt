@@ -10,7 +10,7 @@ use Rattle.cows.specs.Moves.{heldBack}
 use Rattle.cows.proofs.Basics.{from-next, from-end}
 use Rattle.records.specs.Answers.{foundOf}
 use Rattle.holding.specs.Holding.{Parties}
-use Rattle.ways.proofs.Tables.{table-size, table-inside}
+use Rattle.ways.proofs.KnownTables.{table-size, table-inside}
 use Rattle.holding.proofs.first_marked.Statement.{statement}
 use Rattle.holding.proofs.first_marked.Tie as tie
 
@@ -37,8 +37,7 @@ first-marked-spec =
     (λ c t h.
     let o = c .before .before .before in
     ap foundOf (sym (o .loop .inv .1 t h ∙ from-here _ (o .loop .n) (size t) true (table-inside _ _ t (h .table) _ (omega arith)) (sym (c .before .held .ensures t h) ∙ c .if1 .taken))))
-    (λ c. search needs)
-    (λ c. omega arith)
+    (λ c. search needs) (λ c. omega arith)
     (λ c.
     let o = c .before .before .before in (
       omega arith,

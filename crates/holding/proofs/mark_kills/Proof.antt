@@ -8,7 +8,7 @@ use Rattle.cows.specs.Kinds.{readyKind}
 use Rattle.records.proofs.Atoms.{is-label}
 use Rattle.ways.specs.Known.{Table}
 use Rattle.holding.specs.Holding.{Unmarked}
-use Rattle.ways.proofs.Tables.{table-size}
+use Rattle.ways.proofs.KnownTables.{table-size}
 use Rattle.ways.proofs.Seeking.{table-through, table-next, table-over}
 use Rattle.records.proofs.Atoms.{no-label}
 use Rattle.holding.proofs.Marking.{Marking, marking-start, marking-end, marking-step, kill-range, marking-kill}
@@ -28,13 +28,7 @@ mark-kills-spec =
     Inv-loop
     μ-loop
     (λ c. (omega arith, c .before .before .before .pre .1, λ t h b. marking-start _ t b))
-    (λ c. search needs)
-    (λ c. search needs)
-    (λ c. search needs)
-    (λ c. search needs)
-    (λ c κs. search needs)
-    (λ c. search needs)
-    (λ c. search needs)
+    (λ c. search needs) (λ c. search needs) (λ c. search needs) (λ c. search needs) (λ c κs. search needs) (λ c. search needs) (λ c. search needs)
     (λ c. omega arith)
     (λ c.
     let o = c .before .before .before .before .before in
@@ -55,9 +49,7 @@ mark-kills-spec =
       search needs,
       λ t h b. rw (c .before .before .mark .ensures) (marking-kill _ _ t h (o .loop .i) (omega arith) (a .before .if1 .taken) _ (k .0) _ (o .loop .inv .1) (o .loop .inv .2 t h b)),
     ))
-    (λ c κs. search needs)
-    (λ c. search needs)
-    (λ c. omega arith)
+    (λ c κs. search needs) (λ c. search needs) (λ c. omega arith)
     (λ c.
     let o = c .before .before .before .before .before in (
       omega arith,
@@ -66,9 +58,7 @@ mark-kills-spec =
           marking-step _ _ t h (o .loop .i) (omega arith) _ _ (c .before .before .if1 .left)
           (λ test k no. table-through _ _ t h _ (omega arith) readyKind test k no (sym (c .before .ready-kind .ensures) ∙ c .if2 .taken)) (o .loop .inv .2 t h b),
     ))
-    (λ c. search needs)
-    (λ c. search needs)
-    (λ c κs. search needs)
+    (λ c. search needs) (λ c. search needs) (λ c κs. search needs)
     (λ c.
     let o = c .before .before .before .before .before .before .before in
     let q = c .before .before .before .before .before .before .before .before .before .before .before .pre .0 in

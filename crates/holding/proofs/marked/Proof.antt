@@ -4,6 +4,5 @@ use Rattle.holding.proofs.marked.Tie as tie
 
 pub marked-spec : {M : Type 1} → statement M
 marked-spec = tie.close (tie.spec
-    (λ c κs. search needs)
-    (λ c. search needs)
+    (λ c κs. search needs) (λ c. search needs)
     (λ c. rw (c .before .label-index .ensures .0)))

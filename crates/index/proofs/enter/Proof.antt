@@ -47,8 +47,7 @@ enter-spec =
     (λ c. omega (arith, c .before .wide163 .ensures, c .wide164 .ensures))
     (λ c. omega (arith, c .before .wide163 .ensures, c .wide164 .ensures))
     slice-write-marks
-    (λ c. omega arith)
-    (λ c. omega arith)
+    (λ c. omega arith) (λ c. omega arith)
     (λ c.
     let w = c .before .before .before .before .before in
     let o = w .before .before .before .before .before in

@@ -29,8 +29,7 @@ entries-right-spec =
     (λ c κs. let x = c .before .before .before .before .before .before .before .before .before .pre .1 in (x .wide, x .page))
     (λ c. omega (arith, c .before .before .wide16 .ensures))
     (λ c. never)
-    (λ c. omega arith)
-    (λ c. omega arith)
+    (λ c. omega arith) (λ c. omega arith)
     (λ c. let v = c .before .before .before .before .before .before .loop .inv in
     (omega arith, below-more _ _ (v .1) (entry-here _ _ _ _ _ _ _ (c .before .entry .ensures) (c .before .before .word-at .ensures) (c .before .before .before .wide16 .ensures .0) (c .if1 .left))))
     (λ c e q l. c .before .loop .inv .1 q (omega arith)))

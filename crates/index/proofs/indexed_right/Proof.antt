@@ -1,7 +1,7 @@
 use borrow.Author.Needs.{needs}
 use borrow.Author.Tests.{not-false}
 use Rattle.cows.proofs.Basics.{never}
-use Rattle.scopes.proofs.Steps.{ends-of}
+use Rattle.scopes.proofs.NextPlace.{ends-of}
 use Rattle.index.proofs.Entries.{listed-bound}
 use Rattle.index.proofs.indexed_right.Statement.{statement}
 use Rattle.index.proofs.indexed_right.Tie as tie
@@ -17,17 +17,11 @@ pub indexed-right-spec : {M : Type 1} → statement M
 indexed-right-spec =
     tie.close
     (tie.spec
-    (λ c κs. search needs)
-    (λ c κs. search needs)
-    (λ c. search needs)
-    (λ c. search needs)
-    (λ c. search needs)
+    (λ c κs. search needs) (λ c κs. search needs) (λ c. search needs) (λ c. search needs) (λ c. search needs)
     (λ c. never)
     (λ c κs. search needs)
     (λ c κs.
     let c₁ = c .before .before .before .before .before .before .before .before .before .before .before .before .before .before .before .before in
     (search needs, c₁ .before .before .before .before .before .before .before .before .before .pre .0 .end, c₁ .enter .ensures))
-    (λ c. search needs)
-    (λ c. search needs)
-    (λ c. search needs)
+    (λ c. search needs) (λ c. search needs) (λ c. search needs)
     returns-2)

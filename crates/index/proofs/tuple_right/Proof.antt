@@ -21,15 +21,10 @@ tuple-right-spec =
     Inv-loop
     μ-loop
     (λ c. (omega arith, λ q l. absurd (omega arith)))
-    (λ c. omega arith)
-    (λ c. omega arith)
-    (λ c. omega arith)
-    (λ c. omega arith)
-    (λ c κs. omega arith)
+    (λ c. omega arith) (λ c. omega arith) (λ c. omega arith) (λ c. omega arith) (λ c κs. omega arith)
     (λ c κs. let p = c .before .before .before .before .before .before .before .pre in (p .0, p .1))
     (λ c. never)
-    (λ c. omega arith)
-    (λ c. omega arith)
+    (λ c. omega arith) (λ c. omega arith)
     (λ c. let v = c .before .before .before .before .loop .inv in
     (omega arith, below-more _ _ (v .1) (rw (c .before .before .word-at .ensures) at (sym (c .before .use-right .ensures) ∙ not-false _ (c .if1 .left)))))
     (λ c e q l. c .before .loop .inv .1 q (omega arith)))

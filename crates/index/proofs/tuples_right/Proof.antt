@@ -26,8 +26,7 @@ tuples-right-spec =
     (λ c κs. tt)
     (λ c κs. let p = c .before .before .before .before .before .before .before .before .before .pre in (p .1, p .2, omega (arith, c .wide16 .ensures .0, p .0 .place (c .before .before .before .loop .i) (omega arith))))
     (λ c. never)
-    (λ c. omega arith)
-    (λ c. omega arith)
+    (λ c. omega arith) (λ c. omega arith)
     (λ c. let v = c .before .before .before .before .before .loop .inv in
     (omega arith, below-more _ _ (v .1) (rw (c .before .before .wide16 .ensures .0) at (c .before .tuple-right .ensures (not-false _ (c .if1 .left))))))
     (λ c e q l. c .before .loop .inv .1 q (omega arith)))

@@ -1,7 +1,7 @@
 use borrow.Author.Needs.{needs}
 use native.Mathlib.Omega.{arith}
 use Rattle.plans.proofs.Planning.{gives}
-use Rattle.kill.proofs.Kills.{head-fits, body-asks, behind-fits, gives-kill}
+use Rattle.kill.proofs.Judged.{head-fits, body-asks, behind-fits, gives-kill}
 use Rattle.kill.proofs.write.Statement.{statement}
 use Rattle.kill.proofs.write.Tie as tie
 

@@ -7,10 +7,7 @@ pub agrees-at-spec : {M : Type 1} → statement M
 agrees-at-spec =
     tie.close
     (tie.spec
-    (λ c κs. search needs)
-    (λ c κs. search needs)
-    (λ c κs. search needs)
-    (λ c κs. search needs)
+    (λ c κs. search needs) (λ c κs. search needs) (λ c κs. search needs) (λ c κs. search needs)
     (λ c.
     let i = c .before .before in
     rw (c .equal .ensures, i .is-variable .ensures, c .before .atom-at2 .ensures, i .before .atom-at .ensures) (simp (variable-class, number-class))))

@@ -9,24 +9,13 @@ pub fits-closed-spec : {M : Type 1} → statement M
 fits-closed-spec =
     tie.close
     (tie.spec
-    (λ c. search needs)
-    (λ c. search needs)
-    (λ c. search needs)
-    (λ c κs. search needs)
-    (λ c. search needs)
-    (λ c κs. search needs)
-    (λ c. search needs)
-    (λ c κs. search needs)
-    (λ c. search needs)
-    (λ c κs. search needs)
+    (λ c. search needs) (λ c. search needs) (λ c. search needs) (λ c κs. search needs) (λ c. search needs) (λ c κs. search needs) (λ c. search needs)
+    (λ c κs. search needs) (λ c. search needs) (λ c κs. search needs)
     (λ c q m h k z.
     let o = c .before in
     let p = o .before .before in
     other-endpoint _ _ _ q m h k z (rw (← p .before .word-at .ensures, ← p .word-at2 .ensures, ← o .before .word-at3 .ensures, ← o .word-at4 .ensures) (not-true _ (c .if1 .taken))))
-    (λ c. search needs)
-    (λ c. search needs)
-    (λ c. search needs)
-    (λ c. search needs)
+    (λ c. search needs) (λ c. search needs) (λ c. search needs) (λ c. search needs)
     (λ c q m h k z.
     let i = c .before .before .before in
     let o = i .before in

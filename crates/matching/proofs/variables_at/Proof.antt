@@ -12,9 +12,7 @@ pub variables-at-spec : {M : Type 1} → statement M
 variables-at-spec =
     tie.close
     (tie.spec
-    (λ c κs. search needs)
-    (λ c κs. search needs)
-    (λ c. search needs)
+    (λ c κs. search needs) (λ c κs. search needs) (λ c. search needs)
     (λ c.
     let e = c .is-variable .ensures ∙ (ap isVariable (c .before .atom-at .ensures) ∙ variable-class _) in
     rw (← e) (omega (arith, test-sum (c .is-variable .result) false, test-small (c .is-variable .result)))))

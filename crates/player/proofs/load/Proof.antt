@@ -10,8 +10,7 @@ pub load-spec : {M : Type 1} → statement M
 load-spec =
     tie.close
     (tie.spec
-    (λ c. search needs)
-    (λ c κs. search needs)
+    (λ c. search needs) (λ c κs. search needs)
     (λ c. load-refused _ _ _ (c .before .before .before .check-ends .ensures) (c .if1 .taken))
     (λ c κs. omega (arith, c .before .before .before .check-ends .ensures .end (c .if1 .left) .few))
     (λ c. search needs)

@@ -11,9 +11,7 @@ pub play-spec : {M : Type 1} → statement M
 play-spec =
     tie.close
     (tie.spec
-    (λ c. search needs)
-    (λ c κs. search needs)
-    (λ c κs. search needs)
+    (λ c. search needs) (λ c κs. search needs) (λ c κs. search needs)
     (λ c. let k = c .before .before .before .before in
     let x = k .before .before .before .before .before in
     let b = slice-bytes (x .before .args .table .now) (λ i. omega (arith, x .shared-slice-known .given i)) in
@@ -23,8 +21,7 @@ play-spec =
     let x = k .before .before .before .before .before in
     let b = slice-bytes (x .before .args .table .now) (λ i. omega (arith, x .shared-slice-known .given i)) in
     promised _ _ _ _ _ _ _ b (plays-long _ _ _ _ _ (table-read _ _ _ b (k .check-ends .ensures) (c .before .before .if1 .left)) _ (c .before .if2 .taken) (c .refused2 .ensures)))
-    (λ c. search needs)
-    (λ c κs. search needs)
+    (λ c. search needs) (λ c κs. search needs)
     (λ c. let k = c .before .before .before .before .before .before in
     let x = k .before .before .before .before .before in
     let b = slice-bytes (x .before .args .table .now) (λ i. omega (arith, x .shared-slice-known .given i)) in
@@ -36,8 +33,7 @@ play-spec =
     let x = k .before .before .before .before .before in
     let b = slice-bytes (x .before .args .table .now) (λ i. omega (arith, x .shared-slice-known .given i)) in
     plays-clear _ _ _ _ _ (table-read _ _ _ b (k .check-ends .ensures) (i .if1 .left)) (omega arith) (c .before .before .before .before .if2 .left) (c .before .before .before .if3 .left))
-    (λ c. search needs)
-    (λ c. search needs)
+    (λ c. search needs) (λ c. search needs)
     (λ c. let p = c .before .before .before .before .before in
     let i = p .before .before .before .before .before .before in
     let k = i .before .before .before in

@@ -8,7 +8,5 @@ right-move-spec =
     tie.close
     (tie.spec
     (λ c. wrong-length _ (c .if1 .taken))
-    (λ c. search needs)
-    (λ c. search needs)
-    (λ c κs. search needs)
+    (λ c. search needs) (λ c. search needs) (λ c κs. search needs)
     (λ c. right-tests _ _ (c .before .before .before .if1 .left) (c .word-at .ensures)))

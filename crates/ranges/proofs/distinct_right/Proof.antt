@@ -12,9 +12,7 @@ pub distinct-right-spec : {M : Type 1} → statement M
 distinct-right-spec =
     tie.close
     (tie.spec
-    (λ c κs. search needs)
-    (λ c κs. search needs)
-    (λ c. search needs)
+    (λ c κs. search needs) (λ c κs. search needs) (λ c. search needs)
     (λ c r i l k.
     let p = c .before .before .before .before in
     let s = p .before .before .before .before .args .s .now in

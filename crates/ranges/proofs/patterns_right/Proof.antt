@@ -7,7 +7,7 @@ use borrow.Author.Count.{below-more}
 use borrow.Author.Tests.{not-false}
 use Rattle.cows.proofs.Basics.{never}
 use Rattle.ranges.specs.Ranges.{patternRight}
-use Rattle.ranges.proofs.Fields.{pattern-here}
+use Rattle.ranges.proofs.FieldRanges.{pattern-here}
 use Rattle.ranges.proofs.patterns_right.Statement.{statement}
 use Rattle.ranges.proofs.patterns_right.Tie as tie
 
@@ -38,8 +38,7 @@ patterns-right-spec =
     (λ c κs. omega (arith, c .before .before .before .wide16 .ensures .0, c .before .before .before .before .before .before .before .before .before .pre .place (c .before .before .before .before .before .before .loop .i) (omega arith)))
     (λ c κs. tt)
     (λ c. never)
-    (λ c. omega arith)
-    (λ c. omega arith)
+    (λ c. omega arith) (λ c. omega arith)
     (λ c.
     let d = c .before in
     let w = d .before .before .before .before in

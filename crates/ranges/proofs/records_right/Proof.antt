@@ -11,7 +11,7 @@ use Rattle.cows.specs.Tables.{firstWrong}
 use Rattle.cows.proofs.Basics.{never}
 use Rattle.cows.proofs.Cut.{all-passing}
 use Rattle.ranges.specs.Ranges.{ranged, patternRight}
-use Rattle.ranges.proofs.Fields.{ranged-right}
+use Rattle.ranges.proofs.FieldRanges.{ranged-right}
 use Rattle.ranges.proofs.records_right.Statement.{statement}
 use Rattle.ranges.proofs.records_right.Tie as tie
 
@@ -24,9 +24,7 @@ records-right-spec =
     (tie.spec
     (λ c κs. search needs)
     (λ c. never)
-    (λ c. search needs)
-    (λ c κs. search needs)
+    (λ c. search needs) (λ c κs. search needs)
     (λ c r. by-both _ (c .before .before .before .before .before .fields-right .ensures (not-false _ (c .before .before .before .before .if1 .left))) (c .before .distinct-right .ensures r))
-    (λ c. search needs)
-    (λ c κs. search needs)
+    (λ c. search needs) (λ c κs. search needs)
     (λ c r. by-both _ (c .before .before .before .before .before .fields-right .ensures (not-false _ (c .before .before .before .before .if1 .left))) (c .before .distinct-right2 .ensures r)))

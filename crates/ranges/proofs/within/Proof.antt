@@ -3,7 +3,7 @@ use mathlib.Core.Bool.{_&&_}
 use Prim.Native.Nat.{_-_, _≤_}
 use native.Mathlib.Omega.{arith}
 use Rattle.ranges.specs.Ranges.{fieldsWithin}
-use Rattle.ranges.proofs.Fields.{field-turn}
+use Rattle.ranges.proofs.FieldRanges.{field-turn}
 use Rattle.ranges.proofs.within.Statement.{statement}
 use Rattle.ranges.proofs.within.Tie as tie
 
@@ -24,14 +24,7 @@ within-spec =
     Inv-loop
     μ-loop
     loop-holds
-    (λ c. omega arith)
-    (λ c. omega arith)
-    (λ c κs. omega arith)
-    (λ c. omega arith)
-    (λ c. omega arith)
-    (λ c. omega arith)
-    (λ c. omega arith)
-    (λ c. omega arith)
-    (λ c. omega arith)
+    (λ c. omega arith) (λ c. omega arith) (λ c κs. omega arith) (λ c. omega arith) (λ c. omega arith) (λ c. omega arith) (λ c. omega arith)
+    (λ c. omega arith) (λ c. omega arith)
     (λ c. let v = c .before .before .loop in (omega arith, field-turn _ _ _ _ _ _ (v .above) (v .below) (c .word-at .ensures) (v .inv .1)))
     (λ c. c .before .loop .inv .1 ∙ ap (fieldsWithin _ _ _ _) (omega arith)))

@@ -10,9 +10,7 @@ pub write-copy-spec : {M : Type 1} → statement M
 write-copy-spec =
     tie.close
     (tie.spec
-    (λ c. search needs)
-    (λ c κs. search needs)
-    (λ c. search needs)
+    (λ c. search needs) (λ c κs. search needs) (λ c. search needs)
     (λ c κs. let m = c .before .before in body-marked _ _ _ (m .before .before .before .before .pre .0) _ (m .mark .ensures))
     (λ c. search needs)
     (λ c κs.

@@ -9,8 +9,8 @@ use Rattle.records.specs.Holds.{Holds}
 use Rattle.scopes.specs.Scopes.{Keeps, GrowingDirectory, enteredOf}
 use Rattle.scopes.proofs.Directory.{keeps-as, growing-top, blank-growing, blank-keeps, store-growing}
 use Rattle.scopes.proofs.Marks.{entered-none, entered-all}
-use Rattle.records.proofs.Stands.{holds-size}
-use Rattle.scopes.proofs.Steps.{enter-pass, enter-turn}
+use Rattle.records.proofs.StandsIn.{holds-size}
+use Rattle.scopes.proofs.NextPlace.{enter-pass, enter-turn}
 use Rattle.scopes.proofs.enter_all.Statement.{statement}
 use Rattle.scopes.proofs.enter_all.Tie as tie
 
@@ -33,17 +33,12 @@ enter-all-spec =
     Inv-loop
     μ-loop
     (λ c. let b = c .before .before .before in (refl, omega arith, refl, refl, blank-growing _ _ (b .pre), λ t h. keeps-as _ _ _ _ (entered-none t) (blank-keeps _ _ (b .pre))))
-    (λ c. omega arith)
-    (λ c. omega arith)
-    (λ c. omega arith)
-    (λ c. omega arith)
+    (λ c. omega arith) (λ c. omega arith) (λ c. omega arith) (λ c. omega arith)
     (λ c.
     let o = c .before .before .before in
     let v = o .loop .inv in
     (v .0, omega arith, v .2, v .3, v .4, λ t h. enter-pass _ _ _ (o .loop .d) (omega arith) (c .if1 .taken) t h (v .5 t h)))
-    (λ c. omega arith)
-    (λ c. omega arith)
-    (λ c κs. search needs)
+    (λ c. omega arith) (λ c. omega arith) (λ c κs. search needs)
     (λ c κs. let g = c .before .before .before .before .before .loop .inv .4 in (g .paged .wide, growing-top _ _ _ g))
     (λ c. let q = c .before .before .before in q .give-page .kept .0 ∙ q .before .before .before .before .before .before .loop .inv .2)
     (λ c. c .before .before .before .before .before .before .before .before .before .loop .inv .3)
@@ -55,8 +50,7 @@ enter-all-spec =
     (λ c κs. let q = c .before .before .before .before in q .give-page .ensures _ refl (q .before .before .before .before .before .before .loop .inv .4) .paged .wide)
     (λ c. let q = c .before .before .before .before .before in omega (arith, q .give-page .ensures _ refl (q .before .before .before .before .before .before .loop .inv .4) .paged .inside (q .before .before .word-at .result) (omega arith)))
     (λ c. let q = c .before .before .before .before .before in omega (arith, q .give-page .ensures _ refl (q .before .before .before .before .before .before .loop .inv .4) .paged .inside (q .before .before .word-at .result) (omega arith)))
-    (λ c. omega arith)
-    (λ c. omega arith)
+    (λ c. omega arith) (λ c. omega arith)
     (λ c.
     let q = c .before .before .before .before .before in
     let x = q .before .before in

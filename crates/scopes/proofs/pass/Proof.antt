@@ -4,7 +4,7 @@ use native.Mathlib.Omega.{arith}
 use lib.ListN.{length}
 use Rattle.cows.specs.Terms.{Term}
 use Rattle.scopes.specs.Scopes.{Paged, PassedTo}
-use Rattle.scopes.proofs.Steps.{pass-other}
+use Rattle.scopes.proofs.NextPlace.{pass-other}
 use Rattle.scopes.proofs.Passing.{first-most, Going, going-start, going-turn, going-open, going-clash, going-fine, level-two, found-delimitation, found-other}
 use Rattle.scopes.proofs.pass.Statement.{statement}
 use Rattle.scopes.proofs.pass.Tie as tie
@@ -28,12 +28,10 @@ pass-spec =
     Inv-loop
     μ-loop
     (λ c. (refl, omega arith, omega arith, refl, c .before .before .before .before .pre .1, λ t p. going-start _ _ _ _ t refl p))
-    (λ c. omega arith)
-    (λ c. omega arith)
+    (λ c. omega arith) (λ c. omega arith)
     (λ c κs. let o = c .before .before .before .before in (o .before .before .before .before .before .pre .0, o .loop .inv .4, omega arith, c .before .if1 .taken))
     (λ c κs. tt)
-    (λ c. omega arith)
-    (λ c. omega arith)
+    (λ c. omega arith) (λ c. omega arith)
     (λ c.
     let d = c .before .before .before in
     let i = d .before .before in
@@ -58,8 +56,7 @@ pass-spec =
     let g = o .loop .inv .5 t p in
     going-open _ _ _ _ _ _ t g (f .before .before .before .before .loop-test .taken) (level-two _ _ _ (f .record-fault .ensures t (g .passed)) (c .if2 .taken)))
     (λ c κs. tt)
-    (λ c. omega arith)
-    (λ c. omega arith)
+    (λ c. omega arith) (λ c. omega arith)
     (λ c.
     let f = c .before .before in
     let i = f .before .before in

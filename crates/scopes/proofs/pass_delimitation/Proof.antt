@@ -4,7 +4,7 @@ use mathlib.Core.Path.{ap, _∙_}
 use native.Mathlib.Omega.{arith}
 use lib.ListN.{length, length-set}
 use Rattle.scopes.proofs.Directory.{store-paged}
-use Rattle.scopes.proofs.Steps.{pass-again, pass-farther, pass-nearer}
+use Rattle.scopes.proofs.NextPlace.{pass-again, pass-farther, pass-nearer}
 use Rattle.scopes.proofs.pass_delimitation.Statement.{statement}
 use Rattle.scopes.proofs.pass_delimitation.Tie as tie
 
@@ -12,14 +12,10 @@ pub pass-delimitation-spec : {M : Type 1} → statement M
 pass-delimitation-spec =
     tie.close
     (tie.spec
-    (λ c. omega arith)
-    (λ c. omega arith)
-    (λ c κs. search needs)
-    (λ c κs. search needs)
+    (λ c. omega arith) (λ c. omega arith) (λ c κs. search needs) (λ c κs. search needs)
     (λ c. let b = c .before .before .before .before .before .before in omega (arith, b .pre .1 .inside (c .before .word-at .result) (omega arith)))
     (λ c. let b = c .before .before .before .before .before .before .before in omega (arith, b .pre .1 .inside (c .before .before .word-at .result) (omega arith)))
-    (λ c. omega arith)
-    (λ c. omega arith)
+    (λ c. omega arith) (λ c. omega arith)
     (λ c. let b = c .before .before .before .before .before .before .before .before in omega (arith, b .pre .0 .small (b .args .j) (b .pre .2)))
     (λ c. let b = c .before .before .before .before .before .before .before .before .before in omega (arith, b .pre .1 .inside (c .before .before .before .before .word-at .result) (omega arith)))
     (λ c. let b = c .before .before .before .before .before .before .before .before .before in omega (arith, b .pre .1 .inside (c .before .before .before .before .word-at .result) (omega arith)))

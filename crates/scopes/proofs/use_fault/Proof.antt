@@ -13,8 +13,7 @@ use-fault-spec =
     (λ c κs. search needs)
     (λ c. let b = c .before .before .before in omega (arith, b .pre .0 .inside (b .args .a) (omega arith)))
     (λ c. let b = c .before .before .before .before in omega (arith, b .pre .0 .inside (b .args .a) (omega arith)))
-    (λ c κs. search needs)
-    (λ c. omega arith)
+    (λ c κs. search needs) (λ c. omega arith)
     (λ c. let w = c .before in rw (← w .before .before .slot-of .ensures, ← w .wide16 .ensures .0, lt-ltb _ _ (c .if1 .taken)))
     (λ c.
     let w = c .before .before in

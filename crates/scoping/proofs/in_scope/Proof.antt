@@ -9,17 +9,11 @@ pub in-scope-spec : {M : Type 1} → statement M
 in-scope-spec =
     tie.close
     (tie.spec
-    (λ c κs. search needs)
-    (λ c. search needs)
-    (λ c. search needs)
+    (λ c κs. search needs) (λ c. search needs) (λ c. search needs)
     (λ c t a b h. not-around-a _ _ _ _ _ _ _ t a b h (found-nothing _ (sym (c .enum-told .given .1) ∙ c .before .before .scope .ensures t a (h .left))))
-    (λ c κs. search needs)
-    (λ c. search needs)
-    (λ c. search needs)
+    (λ c κs. search needs) (λ c. search needs) (λ c. search needs)
     (λ c t a b h. not-around-b _ _ _ _ _ _ _ t a b h (found-nothing _ (sym (c .enum-told2 .given .1) ∙ c .before .before .scope2 .ensures t b (h .right))))
-    (λ c κs. search needs)
-    (λ c. search needs)
-    (λ c. search needs)
+    (λ c κs. search needs) (λ c. search needs) (λ c. search needs)
     (λ c t a b h.
     let j = c .before .before .before .before in
     let i = j .before .before .before .before in

@@ -8,9 +8,7 @@ pub slot-in-scope-spec : {M : Type 1} → statement M
 slot-in-scope-spec =
     tie.close
     (tie.spec
-    (λ c κs. search needs)
-    (λ c. search needs)
-    (λ c. search needs)
+    (λ c κs. search needs) (λ c. search needs) (λ c. search needs)
     (λ c t a b h. rw (takes-nothing _ _ (sym (c .enum-told .given .1) ∙ c .before .before .takes-at .ensures) (λ z. h z .sent)))
     (λ c κs. search needs)
     (λ c t a b h.

@@ -10,13 +10,11 @@ pub step-spec : {M : Type 1} → statement M
 step-spec =
     tie.close
     (tie.spec
-    (λ c. search needs)
-    (λ c κs. search needs)
+    (λ c. search needs) (λ c κs. search needs)
     (λ c. let k = c .before .before .before in
     let x = k .before .before .before .before in
     promised _ _ _ _ _ (slice-bytes (x .before .args .table .now) (λ i. omega (arith, x .shared-slice-known .given i))) (table-refused _ _ _ _ _ (k .check-ends .ensures) (c .if1 .taken)))
-    (λ c. search needs)
-    (λ c κs. search needs)
+    (λ c. search needs) (λ c κs. search needs)
     (λ c κs. let i = c .before .before .before in
     let k = i .before .before .before in
     let x = k .before .before .before .before in

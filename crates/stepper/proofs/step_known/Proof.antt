@@ -9,8 +9,7 @@ unfolding stepTerm
 step-known-spec =
     tie.close
     (tie.spec
-    (λ c κs. search needs)
-    (λ c κs. search needs)
+    (λ c κs. search needs) (λ c κs. search needs)
     (λ c κs. let a = c .before .before .before in
     let j = a .before in
     asks (j .before .before .before .before .pre) (j .judge .ensures) _ _ (a .answer .ensures) (c .before .if1 .taken))

@@ -25,10 +25,7 @@ find-refusal-spec =
           (λ t q. whole-rest _ _ _ _ (p .passed) h (v .result) t q (v .ensures t q)),
       p .end h,
     ))
-    (λ c κs. search needs)
-    (λ c. search needs)
-    (λ c κs. search needs)
-    (λ c. search needs)
+    (λ c κs. search needs) (λ c. search needs) (λ c κs. search needs) (λ c. search needs)
     (λ c. let w = c .before in
     let e = w .before .before .before .before .ends .ensures in
     let x = w .before .before .before .before .before .before .before .before .before in
@@ -40,8 +37,7 @@ find-refusal-spec =
     let x = w .before .before .before .before .before .before .before .before .before in
     let end = w .wide16 .ensures .0 ∙ e .end 0 (omega arith) (omega arith) in
     (judge-late _ (w .wide16 .result) (x .pre .0 .right) end (c .if3 .taken), e))
-    (λ c. search needs)
-    (λ c. search needs)
+    (λ c. search needs) (λ c. search needs)
     (λ c. let w = c .before .before .before in
     let e = w .before .before .before .before .ends .ensures in
     let x = w .before .before .before .before .before .before .before .before .before in
@@ -65,10 +61,7 @@ find-refusal-spec =
           (stood-deep _ _ _ _ (x .pre .2 .passed) (sym end ∙ omega arith) other (c .if4 .taken)),
       e,
     ))
-    (λ c. search needs)
-    (λ c. search needs)
-    (λ c. search needs)
-    (λ c. search needs)
+    (λ c. search needs) (λ c. search needs) (λ c. search needs) (λ c. search needs)
     (λ c. let w = c .before .before .before in
     let e = w .before .before .before .before .ends .ensures in
     let k = w .before .before .before .before .before .before .before .before in

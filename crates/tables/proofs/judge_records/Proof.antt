@@ -2,7 +2,7 @@ use borrow.Author.Needs.{needs}
 use native.Mathlib.Omega.{arith}
 use Prim.Native.Nat.{_/_}
 use lib.ListN.{length, length-set}
-use Rattle.records.proofs.Stands.{holds-size}
+use Rattle.records.proofs.StandsIn.{holds-size}
 use Rattle.tables.specs.declared.Verdict.the-variants.{Accepted}
 use Rattle.tables.proofs.Judging.{judge-bound, judge-whole, slice-bytes}
 use Rattle.tables.proofs.Passing.{whole-end, whole-ends, whole-rest}
@@ -16,13 +16,7 @@ judge-records-spec =
     (λ c κs. search needs)
     (λ c κs. let r = c .before .before .before .before in
     (r .before .before .before .before .pre .0, omega arith, record { before = _; after = _; passed = r .read-on .ensures; end = λ e. absurd (c .before .if1 .taken e) }))
-    (λ c. search needs)
-    (λ c. search needs)
-    (λ c. search needs)
-    (λ c. search needs)
-    (λ c. search needs)
-    (λ c. search needs)
-    (λ c. search needs)
+    (λ c. search needs) (λ c. search needs) (λ c. search needs) (λ c. search needs) (λ c. search needs) (λ c. search needs) (λ c. search needs)
     (λ c. search needs)
     (λ c. simp length-set (omega arith))
     (λ c κs. whole-ends _ _ _ _ (c .before .before .before .before .read-on .ensures) (c .before .if1 .left) (omega arith) (omega arith))

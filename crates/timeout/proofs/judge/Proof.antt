@@ -1,10 +1,10 @@
 use borrow.Author.Needs.{needs}
 use mathlib.Core.Path.{refl, sym, ap, _∙_}
 use native.Mathlib.Omega.{arith}
-use Rattle.ways.proofs.Tables.{live-inside, walk-known}
+use Rattle.ways.proofs.KnownTables.{live-inside, walk-known}
 use Rattle.plans.specs.Plans.{resultOf}
 use Rattle.plans.proofs.Planning.{planned-refused}
-use Rattle.timeout.proofs.Timeouts.{no-wait, unripe, ripe-span, ripe-planned}
+use Rattle.timeout.proofs.Judged.{no-wait, unripe, ripe-span, ripe-planned}
 use Rattle.timeout.proofs.judge.Statement.{statement}
 use Rattle.timeout.proofs.judge.Tie as tie
 
@@ -12,11 +12,7 @@ pub judge-spec : {M : Type 1} → statement M
 judge-spec =
     tie.close
     (tie.spec
-    (λ c. search needs)
-    (λ c κs. search needs)
-    (λ c. search needs)
-    (λ c. search needs)
-    (λ c κs. search needs)
+    (λ c. search needs) (λ c κs. search needs) (λ c. search needs) (λ c. search needs) (λ c κs. search needs)
     (λ c t h.
     let l = c .before .before .before .before in
     planned-refused _ 11 _ (ap resultOf (c .refused .ensures .0)) (no-wait t _ (l .live-at .ensures t h .none (c .before .enum-told .given .1))))

@@ -2,7 +2,7 @@ use borrow.Author.Needs.{needs}
 use mathlib.Core.Path.{ap, _∙_}
 use Rattle.records.specs.Rewrites.{put}
 use Rattle.plans.proofs.Planning.{gives}
-use Rattle.timeout.proofs.Timeouts.{asks-cut, gives-cut}
+use Rattle.timeout.proofs.Judged.{asks-cut, gives-cut}
 use Rattle.timeout.proofs.write.Statement.{statement}
 use Rattle.timeout.proofs.write.Tie as tie
 

@@ -4,7 +4,7 @@ use native.Mathlib.Omega.{arith}
 use Rattle.ways.proofs.Deep.{depth-few}
 use Rattle.plans.specs.Plans.{resultOf}
 use Rattle.plans.proofs.Planning.{planned-refused}
-use Rattle.unfold.proofs.Unfolds.{no-replication, judges, unfold-allowed, unfold-large}
+use Rattle.unfold.proofs.Judged.{no-replication, judges, unfold-allowed, unfold-large}
 use Rattle.unfold.proofs.judge.Statement.{statement}
 use Rattle.unfold.proofs.judge.Tie as tie
 
@@ -12,11 +12,7 @@ pub judge-spec : {M : Type 1} → statement M
 judge-spec =
     tie.close
     (tie.spec
-    (λ c. search needs)
-    (λ c κs. search needs)
-    (λ c. search needs)
-    (λ c. search needs)
-    (λ c κs. search needs)
+    (λ c. search needs) (λ c κs. search needs) (λ c. search needs) (λ c. search needs) (λ c κs. search needs)
     (λ c t h. planned-refused _ 11 _ (ap resultOf (c .refused .ensures .0)) (no-replication t _ (c .before .before .before .before .live-at .ensures t h .none (c .before .enum-told .given .1))))
     (λ c. let q = c .before .before .before .before .before .before .before .before .pre in let j = judges _ _ _ _ _ q (c .before .before .before .before .live-at .ensures (q .term) (q .table) .found _ (c .before .found .given .1)) in omega arith)
     (λ c. let q = c .before .before .before .before .before .before .before .before .before .pre in let j = judges _ _ _ _ _ q (c .before .before .before .before .before .live-at .ensures (q .term) (q .table) .found _ (c .before .before .found .given .1)) in omega arith)

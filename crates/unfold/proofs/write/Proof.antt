@@ -1,7 +1,7 @@
 use borrow.Author.Needs.{needs}
 use native.Mathlib.Omega.{arith}
 use Rattle.plans.proofs.Planning.{gives}
-use Rattle.unfold.proofs.Unfolds.{asks-listed, asks-opens, gives-unfold}
+use Rattle.unfold.proofs.Judged.{asks-listed, asks-opens, gives-unfold}
 use Rattle.unfold.proofs.write.Statement.{statement}
 use Rattle.unfold.proofs.write.Tie as tie
 

@@ -23,16 +23,14 @@ choice-start-spec =
     Inv-loop
     μ-loop
     (λ c. (omega arith, λ t h. refl))
-    (λ c. omega arith)
-    (λ c. omega arith)
+    (λ c. omega arith) (λ c. omega arith)
     (λ c κs. tt)
     (λ c. omega (arith, c .wide16 .ensures))
     (λ c. let o = c .before .before .before .before in omega (arith, c .before .wide16 .ensures, o .before .before .before .pre .small (o .loop .k) (omega arith)))
     (λ c t h.
     let o = c .before .before .before .before .before in
     sym (o .loop .inv .1 t h ∙ start-stop _ _ _ t _ h (o .loop .k) _ (omega arith) (c .before .before .wide16 .ensures .0) (o .loop .c) (c .if1 .taken)))
-    (λ c. omega arith)
-    (λ c. omega arith)
+    (λ c. omega arith) (λ c. omega arith)
     (λ c.
     let o = c .before .before .before .before .before in
     (omega arith, λ t h. o .loop .inv .1 t h ∙ start-turn _ _ _ t _ h (o .loop .k) _ (omega arith) (c .before .before .wide16 .ensures .0) (o .loop .c) (c .if1 .left)))

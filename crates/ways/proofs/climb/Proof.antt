@@ -22,9 +22,7 @@ climb-spec =
     Inv-loop
     μ-loop
     (λ c. (omega arith, omega arith, refl, λ t e l. going-start t _ _ l))
-    (λ c. omega arith)
-    (λ c. omega arith)
-    (λ c. omega arith)
+    (λ c. omega arith) (λ c. omega arith) (λ c. omega arith)
     (λ c κs. tt)
     (λ c. omega arith)
     (λ c.
@@ -35,11 +33,7 @@ climb-spec =
       v .2,
       λ t e l. going-pass t _ _ _ _ _ (v .3 t e l) (omega arith) (omega (arith, e (o .loop .i - 1) (omega arith), c .before .wide16 .ensures, c .if1 .taken)),
     ))
-    (λ c. omega arith)
-    (λ c. omega arith)
-    (λ c. omega arith)
-    (λ c. omega arith)
-    (λ c. omega arith)
+    (λ c. omega arith) (λ c. omega arith) (λ c. omega arith) (λ c. omega arith) (λ c. omega arith)
     (λ c.
     let o = c .before .before .before .before in
     let v = o .loop .inv in (

@@ -8,10 +8,5 @@ pub delimits-spec : {M : Type 1} → statement M
 delimits-spec =
     tie.close
     (tie.spec
-    (λ c. search needs)
-    (λ c. search needs)
-    (λ c. search needs)
-    (λ c. search needs)
-    (λ c κs. search needs)
-    (λ c κs. search needs)
+    (λ c. search needs) (λ c. search needs) (λ c. search needs) (λ c. search needs) (λ c κs. search needs) (λ c κs. search needs)
     (λ c t h l. rw (c .equal .ensures, c .before .atom-at .ensures, number-class) (delimits-bytes _ t _ _ h l)))

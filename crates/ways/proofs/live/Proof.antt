@@ -26,8 +26,7 @@ live-spec =
     Inv-loop
     μ-loop
     (λ c. (omega arith, λ t a h. refl))
-    (λ c. omega arith)
-    (λ c. omega arith)
+    (λ c. omega arith) (λ c. omega arith)
     (λ c κs. tt)
     (λ c. omega (arith, c .wide16 .ensures))
     (λ c. let o = c .before .before .before .before in omega (arith, c .before .wide16 .ensures, o .before .before .before .pre .small (o .loop .k) (omega arith)))
@@ -36,8 +35,7 @@ live-spec =
     let o = c .before .before .before .before .before .before in
     let w = c .before .before .before in
     sym (o .loop .inv .1 t a h ∙ live-stop _ _ _ t a h (o .loop .k) _ (omega arith) (w .wide16 .ensures .0) (sym (c .before .live-kind .ensures) ∙ not-true _ (c .if1 .taken))))
-    (λ c. omega arith)
-    (λ c. omega arith)
+    (λ c. omega arith) (λ c. omega arith)
     (λ c.
     let o = c .before .before .before .before .before .before in
     let w = c .before .before .before in

@@ -2,8 +2,8 @@ use borrow.Author.Needs.{needs}
 use borrow.Author.Tests.{not-true, not-false}
 use mathlib.Core.Path.{sym, _∙_}
 use native.Mathlib.Omega.{arith}
-use Rattle.records.proofs.Stands.{holds-kind}
-use Rattle.ways.proofs.Tables.{table-walks, known-placed, known-walk, past-end, other-kind, not-live, lives-not, lives-so}
+use Rattle.records.proofs.StandsIn.{holds-kind}
+use Rattle.ways.proofs.KnownTables.{table-walks, known-placed, known-walk, past-end, other-kind, not-live, lives-not, lives-so}
 use Rattle.ways.proofs.live_at.Statement.{statement}
 use Rattle.ways.proofs.live_at.Tie as tie
 
@@ -12,8 +12,7 @@ live-at-spec =
     tie.close
     (tie.spec
     (λ c t h. lives-not _ _ _ _ t (past-end _ _ t h _ _ (c .if1 .taken)))
-    (λ c. search needs)
-    (λ c. search needs)
+    (λ c. search needs) (λ c. search needs)
     (λ c t h. lives-not _ _ _ _ t (other-kind _ _ t h _ _ (c .before .before .if1 .left) (c .if2 .taken)))
     (λ c κs. let b = c .before .before .before in (known-placed _ _ (b .before .before .before .before .pre .0) _ (b .if1 .left), omega arith))
     (λ c κs.

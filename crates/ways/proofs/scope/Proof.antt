@@ -25,8 +25,7 @@ scope-spec =
     Inv-loop
     μ-loop
     (λ c. (omega arith, λ t a h. refl))
-    (λ c. omega arith)
-    (λ c. omega arith)
+    (λ c. omega arith) (λ c. omega arith)
     (λ c κs. tt)
     (λ c κs. let o = c .before .before .before in omega (arith, c .wide16 .ensures, o .before .before .before .pre .small (o .loop .k) (omega arith)))
     (λ c t a h.
@@ -34,8 +33,7 @@ scope-spec =
     let e = c .before .before .wide16 .ensures .0 in
     let i = way-inside _ _ _ t a h (o .loop .k) _ (omega arith) e in
     ap foundOf (sym (o .loop .inv .1 t a h ∙ scope-stop _ _ _ t a h (o .loop .k) _ (omega arith) e _ (sym (c .before .delimits .ensures t (h .holds) i) ∙ c .if1 .taken))))
-    (λ c. omega arith)
-    (λ c. omega arith)
+    (λ c. omega arith) (λ c. omega arith)
     (λ c.
     let o = c .before .before .before .before .before in
     let e = c .before .before .wide16 .ensures .0 in (

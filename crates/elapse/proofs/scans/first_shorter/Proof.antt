@@ -11,7 +11,7 @@ use Rattle.cows.specs.Active.{live}
 use Rattle.cows.specs.Moves.{shorter}
 use Rattle.records.specs.Answers.{foundOf}
 use Rattle.ways.specs.Known.{Table}
-use Rattle.ways.proofs.Tables.{table-inside, table-size}
+use Rattle.ways.proofs.KnownTables.{table-inside, table-size}
 use Rattle.ways.proofs.Seeking.{Seeking, seeking-start, seeking-found, seeking-end, table-through, table-next, table-over}
 use Rattle.elapse.proofs.scans.first_shorter.Statement.{statement}
 use Rattle.elapse.proofs.scans.first_shorter.Tie as tie
@@ -39,11 +39,7 @@ first-shorter-spec =
     let o = c .before .before .before in
     let i = table-inside _ _ t h (o .loop .i) (omega arith) in
     ap foundOf (sym (seeking-found _ _ t _ (o .loop .inv .1 t h) i (sym (c .before .shorter .ensures t (h .holds) i) ∙ c .if1 .taken))))
-    (λ c. search needs)
-    (λ c. search needs)
-    (λ c κs. search needs)
-    (λ c. search needs)
-    (λ c. omega arith)
+    (λ c. search needs) (λ c. search needs) (λ c κs. search needs) (λ c. search needs) (λ c. omega arith)
     (λ c.
     let o = c .before .before .before .before .before .before in (
       omega arith,
@@ -51,9 +47,7 @@ first-shorter-spec =
           let i = table-inside _ _ t h (o .loop .i) (omega arith) in
           table-through _ _ t h _ (omega arith) liveKind _ (o .loop .inv .1 t h) (sym (c .before .before .before .before .shorter .ensures t (h .holds) i) ∙ c .before .before .before .if1 .left) (sym (c .before .live-kind .ensures) ∙ c .if2 .taken),
     ))
-    (λ c. search needs)
-    (λ c. search needs)
-    (λ c κs. search needs)
+    (λ c. search needs) (λ c. search needs) (λ c κs. search needs)
     (λ c.
     let o = c .before .before .before .before .before .before .before .before in
     let q = o .before .before .before .pre in

@@ -7,9 +7,5 @@ pub shorter-spec : {M : Type 1} → statement M
 shorter-spec =
     tie.close
     (tie.spec
-    (λ c. search needs)
-    (λ c. search needs)
-    (λ c. search needs)
-    (λ c. search needs)
-    (λ c κs. search needs)
+    (λ c. search needs) (λ c. search needs) (λ c. search needs) (λ c. search needs) (λ c κs. search needs)
     (λ c t h l. rw (c .word-at .ensures) (shorter-bytes _ t _ _ h l)))

@@ -10,7 +10,7 @@ use Rattle.cows.specs.Moves.{closedAction, tighter}
 use Rattle.records.specs.Answers.{foundOf}
 use Rattle.ways.specs.Known.{Table}
 use Rattle.matching.specs.Matching.{ActionAt}
-use Rattle.ways.proofs.Tables.{table-inside, table-size}
+use Rattle.ways.proofs.KnownTables.{table-inside, table-size}
 use Rattle.ways.proofs.Seeking.{Seeking, seeking-start, seeking-found, seeking-end, table-through, table-next, table-over}
 use Rattle.holding.proofs.Marking.{}
 use Rattle.holding.proofs.Conflicting.{tightening}
@@ -36,11 +36,7 @@ first-tighter-spec =
     let o = c .before .before .before in
     let i = table-inside _ _ t h (o .loop .i) (omega arith) in
     ap foundOf (sym (seeking-found _ _ t _ (o .loop .inv .1 t m h k z) i (sym (c .before .tighter .ensures t m (h .holds) i k z) ∙ c .if1 .taken))))
-    (λ c. search needs)
-    (λ c. search needs)
-    (λ c κs. search needs)
-    (λ c. search needs)
-    (λ c. omega arith)
+    (λ c. search needs) (λ c. search needs) (λ c κs. search needs) (λ c. search needs) (λ c. omega arith)
     (λ c.
     let o = c .before .before .before .before .before .before in (
       omega arith,
@@ -48,9 +44,7 @@ first-tighter-spec =
           let i = table-inside _ _ t h (o .loop .i) (omega arith) in
           table-through _ _ t h _ (omega arith) readyKind _ (o .loop .inv .1 t m h k z) (sym (c .before .before .before .before .tighter .ensures t m (h .holds) i k z) ∙ c .before .before .before .if1 .left) (sym (c .before .ready-kind .ensures) ∙ c .if2 .taken),
     ))
-    (λ c. search needs)
-    (λ c. search needs)
-    (λ c κs. search needs)
+    (λ c. search needs) (λ c. search needs) (λ c κs. search needs)
     (λ c.
     let o = c .before .before .before .before .before .before .before .before in
     let q = o .before .before .before .pre .0 in

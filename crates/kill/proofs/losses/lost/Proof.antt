@@ -24,19 +24,13 @@ lost-spec =
     (tie.spec
     Inv-loop
     μ-loop
-    (λ c. search needs)
-    (λ c. search needs)
-    (λ c κs. search needs)
+    (λ c. search needs) (λ c. search needs) (λ c κs. search needs)
     (λ c.
     let (q, l) = c .before .before .before .before .pre in
     let e = c .wide16 .ensures .0 in
     let f = end-fits _ _ (q .term) (q .table) _ l _ e in
     (omega arith, f .0, f .1, λ t h. losing-start _ _ t h _ l _ e _))
-    (λ c. search needs)
-    (λ c. search needs)
-    (λ c. search needs)
-    (λ c. search needs)
-    (λ c κs. search needs)
+    (λ c. search needs) (λ c. search needs) (λ c. search needs) (λ c. search needs) (λ c κs. search needs)
     (λ c. let o = c .before .before .before .before .before in let n = losing-on _ _ (o .before .before .before .before .before .pre .0) _ _ _ _ _ (o .loop .inv .3) (omega arith) _ (c .before .wide162 .ensures .0) in omega arith)
     (λ c. let o = c .before .before .before .before .before in let n = losing-on _ _ (o .before .before .before .before .before .pre .0) _ _ _ _ _ (o .loop .inv .3) (omega arith) _ (c .before .wide162 .ensures .0) in omega arith)
     (λ c. let o = c .before .before .before .before .before in let n = losing-on _ _ (o .before .before .before .before .before .pre .0) _ _ _ _ _ (o .loop .inv .3) (omega arith) _ (c .before .wide162 .ensures .0) in omega (arith, o .before .before .before .before .before .pre .0 .few))
@@ -55,8 +49,7 @@ lost-spec =
     let n = losing-on _ _ (o .before .before .before .before .before .pre .0) _ _ _ _ _ (v .3) (omega arith) _ e in
     let (k, m) = and-true _ _ (c .if2 .taken) in
     (omega arith, n .1, v .2, λ t h. losing-kept _ _ (h .end) _ _ _ _ _ _ (v .3 t h) (omega arith) _ e (eqb-true _ _ k) m))
-    (λ c. search needs)
-    (λ c. omega arith)
+    (λ c. search needs) (λ c. omega arith)
     (λ c.
     let o = c .before .before .before .before .before .before in
     let v = o .loop .inv in

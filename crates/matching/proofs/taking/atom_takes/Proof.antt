@@ -6,12 +6,6 @@ pub atom-takes-spec : {M : Type 1} → statement M
 atom-takes-spec =
     tie.close
     (tie.spec
-    (λ c. search needs)
-    (λ c. search needs)
-    (λ c. search needs)
-    (λ c κs. search needs)
-    (λ c. search needs)
-    (λ c. search needs)
-    (λ c. search needs)
+    (λ c. search needs) (λ c. search needs) (λ c. search needs) (λ c κs. search needs) (λ c. search needs) (λ c. search needs) (λ c. search needs)
     (λ c. rw (c .before .before .atom2 .given .1) (c .variable-takes .ensures))
     (λ c. search needs))

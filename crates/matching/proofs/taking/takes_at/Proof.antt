@@ -9,7 +9,5 @@ unfolding takesOf
 takes-at-spec =
     tie.close
     (tie.spec
-    (λ c κs. search needs)
-    (λ c κs. search needs)
-    (λ c κs. search needs)
+    (λ c κs. search needs) (λ c κs. search needs) (λ c κs. search needs)
     (λ c. c .atom-takes .ensures ∙ ap₂ takes (c .before .before .atom-at .ensures) (c .before .atom-at2 .ensures)))

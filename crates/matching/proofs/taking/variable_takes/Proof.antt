@@ -6,11 +6,7 @@ pub variable-takes-spec : {M : Type 1} → statement M
 variable-takes-spec =
     tie.close
     (tie.spec
-    (λ c. search needs)
-    (λ c. search needs)
-    (λ c. search needs)
-    (λ c. search needs)
-    (λ c. search needs)
+    (λ c. search needs) (λ c. search needs) (λ c. search needs) (λ c. search needs) (λ c. search needs)
     (λ c. rw (c .before .sent .given .1))
     (λ c. search needs)
     (λ c. search needs))

@@ -8,13 +8,7 @@ pub put-table-spec : {M : Type 1} → statement M
 put-table-spec =
     tie.close
     (tie.spec
-    (λ c. search needs)
-    (λ c κs. search needs)
-    (λ c. search needs)
-    (λ c. search needs)
-    (λ c. search needs)
-    (λ c κs. search needs)
-    (λ c. search needs)
+    (λ c. search needs) (λ c κs. search needs) (λ c. search needs) (λ c. search needs) (λ c. search needs) (λ c κs. search needs) (λ c. search needs)
     (λ c. let z = c .before .before .before .before .before .before .before .before .before .before .args in
     let w₁ = c .before .before .before .before .before .before in
     let w₂ = c .before .before in

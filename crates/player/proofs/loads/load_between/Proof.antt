@@ -20,11 +20,6 @@ load-between-spec =
     Inv-loop
     μ-loop
     (λ c. omega (arith, load-few (c .before .args .s .now) (c .before .args .i) (c .before .args .j)))
-    (λ c. search needs)
-    (λ c. search needs)
-    (λ c κs. search needs)
-    (λ c. search needs)
-    (λ c. search needs)
-    (λ c. search needs)
+    (λ c. search needs) (λ c. search needs) (λ c κs. search needs) (λ c. search needs) (λ c. search needs) (λ c. search needs)
     (λ c. omega (arith, c .weight .ensures .0, load-next (c .before .before .before .before .before .args .s .now) _ _ (c .before .before .loop-test .taken)))
     (λ c. omega (arith, load-none (c .before .before .before .args .s .now) (c .before .loop .p) (c .before .before .before .args .j) (omega arith))))

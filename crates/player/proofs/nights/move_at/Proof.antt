@@ -11,8 +11,7 @@ move-at-spec =
     (tie.spec
     (λ c. let o = c .before .before .before .before .before .pre in omega (arith, o .inside, o .short))
     (λ c. let o = c .before .before .before .before .before .pre in omega (arith, o .inside, o .short))
-    (λ c. search needs)
-    (λ c. search needs)
+    (λ c. search needs) (λ c. search needs)
     (λ c. let z = c .before .before .before .before .before .before .before .before in omega (arith, z .pre .inside))
     (λ c κs. search needs)
     (λ c κs. let r = c .before .before in
@@ -23,10 +22,7 @@ move-at-spec =
     let (place, records) = reply-fits _ _ _ _ _ _ _ (z .pre) _ _ _ _ (moved (m .before .read-move .ensures ∙ part-move (z .args .moves .now) (z .args .i)) (m .move-on .ensures))
     (λ j. omega (arith, x .shared-slice-known .given j)) in
     (omega (arith, z .pre .inside, z .pre .slots-room), place, records))
-    (λ c. search needs)
-    (λ c. search needs)
-    (λ c. search needs)
-    (λ c. search needs)
+    (λ c. search needs) (λ c. search needs) (λ c. search needs) (λ c. search needs)
     (λ c. let w = c .before .before in
     let m = w .before .before .before .before .before .before .before .before .before .before .before in
     let z = m .before .before .before .before .before .before .before .before .before .before .before in

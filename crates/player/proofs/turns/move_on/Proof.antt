@@ -14,10 +14,7 @@ move-on-spec =
     (λ c κs. let i = c .before .before .before in
     let z = i .before .before .before .before in
     begins _ _ _ (z .args .kept) (z .pre) true (i .if1 .taken))
-    (λ c κs. search needs)
-    (λ c. search needs)
-    (λ c. search needs)
-    (λ c. search needs)
+    (λ c κs. search needs) (λ c. search needs) (λ c. search needs) (λ c. search needs)
     (λ c. let t = c .before .before .before .before .before in
     let i = t .before .before .before .before in
     let z = i .before .before .before .before in
@@ -26,10 +23,7 @@ move-on-spec =
     (λ c κs. let i = c .before .before .before in
     let z = i .before .before .before .before in
     begins _ _ _ (z .args .kept) (z .pre) false (i .if1 .left))
-    (λ c κs. search needs)
-    (λ c. search needs)
-    (λ c. search needs)
-    (λ c. search needs)
+    (λ c κs. search needs) (λ c. search needs) (λ c. search needs) (λ c. search needs)
     (λ c. let t = c .before .before .before .before .before in
     let i = t .before .before .before .before in
     let z = i .before .before .before .before in

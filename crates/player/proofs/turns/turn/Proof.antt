@@ -12,9 +12,7 @@ turn-spec =
     (tie.spec
     (λ c. omega (arith, held-small _ _ _ (c .before .before .before .pre .inside) (c .before .before .before .pre .asks .known)))
     (λ c. sym (length-take-le _ _ (c .before .before .before .before .pre .inside)))
-    (λ c κs. search needs)
-    (λ c. search needs)
-    (λ c. search needs)
+    (λ c κs. search needs) (λ c. search needs) (λ c. search needs)
     (λ c q h. let j = c .before .before .before .before .before .before in
     let z = j .before .before .before .before .before .before .before in
     turned-refused q _ _ _ _ _ _ _ (z .pre .inside) (z .pre .asks .room) h (j .judged .ensures q h) (c .if1 .taken))
@@ -38,8 +36,7 @@ turn-spec =
     let k = z .pre .asks .known in
     let (few, long) = successor-places (runOf k) _ _ _ _ (z .pre .asks .room) (k .table .within) (j .judged .ensures (runOf k) (k .table)) (c .before .before .before .if1 .left) in
     held-few _ _ (z .args .ends .now) few long (z .pre .ends-room))
-    (λ c. search needs)
-    (λ c. search needs)
+    (λ c. search needs) (λ c. search needs)
     (λ c q h. let i = c .before .before .before .before .before .before in
     let j = i .before .before .before .before .before .before in
     let z = j .before .before .before .before .before .before .before in

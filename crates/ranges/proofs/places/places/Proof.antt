@@ -22,19 +22,14 @@ places-spec =
     Inv-loop
     μ-loop
     (λ c. (refl, omega arith, refl, list-none _ _ _ _))
-    (λ c. omega arith)
-    (λ c. omega arith)
-    (λ c. omega arith)
-    (λ c. omega arith)
-    (λ c. omega arith)
+    (λ c. omega arith) (λ c. omega arith) (λ c. omega arith) (λ c. omega arith) (λ c. omega arith)
     (λ c. tt)
     (λ c.
     let a = c .before .before .before .args in
     let o = c .before .before .loop in
     let k = getD (a .s .now) (16 * o .i) 0 in
     omega (arith, o .inv .3 .few, test-number (leb (a .x) k && leb k (a .y)) .0))
-    (λ c. omega arith)
-    (λ c. omega arith)
+    (λ c. omega arith) (λ c. omega arith)
     (λ c. let v = c .before .before .loop .inv in (v .0, omega arith, length-set (c .before .before .loop .list) _ _ ∙ v .2, list-turn _ _ _ _ _ _ (omega (arith, v .3 .few)) _ refl (v .3)))
     (λ c. c .before .loop .inv .2)
     (λ c.

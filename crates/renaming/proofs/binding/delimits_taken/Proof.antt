@@ -7,10 +7,5 @@ pub delimits-taken-spec : {M : Type 1} → statement M
 delimits-taken-spec =
     tie.close
     (tie.spec
-    (λ c. search needs)
-    (λ c. search needs)
-    (λ c. search needs)
-    (λ c. search needs)
-    (λ c κs. search needs)
-    (λ c κs. search needs)
+    (λ c. search needs) (λ c. search needs) (λ c. search needs) (λ c. search needs) (λ c κs. search needs) (λ c κs. search needs)
     (λ c. rw (← goes-read _ _ _ _ _ _ (c .before .atom-at .ensures), c .takes .ensures)))

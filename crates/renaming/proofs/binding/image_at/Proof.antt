@@ -6,6 +6,5 @@ pub image-at-spec : {M : Type 1} → statement M
 image-at-spec =
     tie.close
     (tie.spec
-    (λ c κs. search needs)
-    (λ c κs. search needs)
+    (λ c κs. search needs) (λ c κs. search needs)
     (λ c. rw (c .image-by .ensures, c .before .atom-at .ensures)))

@@ -19,8 +19,7 @@ put-bound-spec =
     (λ c. let l = room-nil _ _ _ _ _ _ _ _ _ (c .before .before .before .before .if1 .taken) (c .before .before .before .before .before .before .before .pre .1) in omega arith)
     (λ c. search needs)
     (λ c. rw (bound-nil _ _ _ _ _ _ _ (c .before .before .before .before .if1 .taken)) (c .before .before .put-nil .ensures, rw (length-record16 (basic nil))))
-    (λ c. search needs)
-    (λ c κs. search needs)
+    (λ c. search needs) (λ c κs. search needs)
     (λ c κs.
     let p = c .before .before .before .before .before .before .pre in
     (p .0, room-kept _ _ _ _ _ _ _ _ _ (p .0) (c .before .before .before .if1 .left) (closed-goes _ _ _ _ _ _ (sym (c .before .before .closed .ensures) ∙ c .before .if2 .taken)) (p .1)))

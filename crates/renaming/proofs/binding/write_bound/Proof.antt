@@ -21,8 +21,7 @@ write-bound-spec =
     μ-loop
     (λ c. writing-start _ _ _ _ _ _ refl)
     (λ c κs. (omega arith, writing-room _ _ _ _ _ _ _ _ _ (c .before .before .loop .inv) (c .before .before .before .before .before .pre .1) (c .before .loop-test .taken)))
-    (λ c. search needs)
-    (λ c. omega arith)
+    (λ c. search needs) (λ c. omega arith)
     (λ c. writing-turn _ _ _ _ _ _ _ _ _ (c .before .before .before .before .before .loop .inv) (c .before .before .before .before .loop-test .taken) (c .before .before .put-bound .kept .1 .1 .1 .1 .1 .1 .1 .0) (c .before .before .put-bound .ensures .0) (c .before .before .put-bound .ensures .1))
     (λ c. search needs)
     (λ c. writing-end _ _ _ _ _ _ _ _ _ (c .before .loop .inv) (c .loop-test .left)))

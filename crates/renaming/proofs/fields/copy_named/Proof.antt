@@ -21,12 +21,7 @@ copy-named-spec =
     Inv-loop
     μ-loop
     (λ c. (omega arith, omega arith, writing-start _ _ _ _ _ _ (omega arith)))
-    (λ c. search needs)
-    (λ c. search needs)
-    (λ c. omega arith)
-    (λ c κs. omega arith)
-    (λ c. omega arith)
-    (λ c. omega arith)
+    (λ c. search needs) (λ c. search needs) (λ c. omega arith) (λ c κs. omega arith) (λ c. omega arith) (λ c. omega arith)
     (λ c.
     let v = c .before .before .before .before .before .loop .inv in
     let z = c .before .before .before .before .before .before .before .before .before .args in

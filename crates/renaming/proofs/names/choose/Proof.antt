@@ -21,25 +21,17 @@ choose-spec =
     Inv-loop
     μ-loop
     (λ c. let m = c .before .before .pre in (omega (arith, m .marking .end), refl, refl, going-start _ _ _ _ m))
-    (λ c. search needs)
-    (λ c. omega arith)
-    (λ c. search needs)
-    (λ c. omega arith)
+    (λ c. search needs) (λ c. omega arith) (λ c. search needs) (λ c. omega arith)
     (λ c.
     let v = c .before .before .before .loop .inv in
     (omega arith, v .1, v .2, going-other _ _ _ _ _ _ _ (v .3) (c .before .before .loop-test .taken) (c .if1 .taken)))
-    (λ c. search needs)
-    (λ c. search needs)
-    (λ c κs. omega arith)
-    (λ c. search needs)
+    (λ c. search needs) (λ c. search needs) (λ c κs. omega arith) (λ c. search needs)
     (λ c κs.
     let w = c .before .before in
     going-wants _ _ _ _ _ _ _ (w .before .before .before .before .loop .inv .3) (w .before .before .before .loop-test .taken) (w .before .if1 .left) (w .word-at .ensures))
-    (λ c κs. search needs)
-    (λ c. search needs)
+    (λ c κs. search needs) (λ c. search needs)
     (λ c. omega (arith, c .before .before .before .before .new-atom .kept .1 .0))
-    (λ c. search needs)
-    (λ c. omega arith)
+    (λ c. search needs) (λ c. omega arith)
     (λ c.
     let n = c .before .before .before .before in
     let w = n .before .before .before in

@@ -24,9 +24,7 @@ mark-spec =
     Inv-loop
     μ-loop
     (λ c. (refl, omega arith, refl, rw (sub-zero (length (c .before .before .args .s .now) / 16))))
-    (λ c κs. omega arith)
-    (λ c. omega arith)
-    (λ c. omega arith)
+    (λ c κs. omega arith) (λ c. omega arith) (λ c. omega arith)
     (λ c.
     let v = c .before .before .before .before .before .loop .inv in (
       v .0,

@@ -21,11 +21,9 @@ next-free-spec =
     Inv-loop
     μ-loop
     (λ c. (omega arith, λ a l m e. omega arith))
-    (λ c. omega arith)
-    (λ c. omega arith)
+    (λ c. omega arith) (λ c. omega arith)
     (λ c. let v = c .before .before .before .loop .inv in record { past = v .0; used = v .1; free = λ l. c .if1 .taken })
-    (λ c. omega arith)
-    (λ c. omega arith)
+    (λ c. omega arith) (λ c. omega arith)
     (λ c.
     let v = c .before .before .before .loop .inv in (
       omega arith,

@@ -10,11 +10,7 @@ unfolding setOf
 set-of-spec =
     tie.close
     (tie.spec
-    (λ c κs. search needs)
-    (λ c. search needs)
-    (λ c. search needs)
-    (λ c. search needs)
-    (λ c. search needs)
+    (λ c κs. search needs) (λ c. search needs) (λ c. search needs) (λ c. search needs) (λ c. search needs)
     (λ c. (ap setNumber (sym (c .enum-told .given .1) ∙ c .before .before .classify .ensures), omega arith))
     (λ c. (ap setNumber (sym (c .enum-told2 .given .1) ∙ c .before .before .classify .ensures), omega arith))
     (λ c. (ap setNumber (sym (c .enum-told3 .given .1) ∙ c .before .before .classify .ensures), omega arith))

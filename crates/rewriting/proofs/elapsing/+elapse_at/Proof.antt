@@ -1,4 +1,4 @@
--- Each call has fewer bytes left; what elapsing does at each kind is in proofs/Elapses.
+-- Each call has fewer bytes left; what elapsing does at each kind is in proofs/ElapseSteps.
 use Prim.Native.Nat.{ℕ, _<_, _-_}
 use native.Mathlib.Omega.{arith}
 use borrow.Author.Needs.{needs}
@@ -9,7 +9,7 @@ use Rattle.records.specs.Rewrites.{unchanged}
 use Rattle.records.proofs.Rewrites.{as-asks, as-gives}
 use Rattle.rewriting.proofs.Aligned.{passes-placed}
 use Rattle.rewriting.proofs.Children.{first-child, second-child, two-children, one-child}
-use Rattle.rewriting.proofs.Elapses.{one-of, passed, Still, Through, elapse-still, elapse-through, still-at, through-at}
+use Rattle.rewriting.proofs.ElapseSteps.{one-of, passed, Still, Through, elapse-still, elapse-through, still-at, through-at}
 use borrow.Fn.Kinds.{In}
 use borrow.Fn.PlainCycle.{Measures, is, falls, and}
 use Rattle.rewriting.proofs.elapsing.elapse_at.Reads as elapse-at
@@ -50,17 +50,11 @@ pub +elapse-at-spec : {M : Type 1} → statement M
 )
     (elapse-at-at t)
     elapse-at.Post
-    (λ c. search needs)
-    (λ c κs. search needs)
+    (λ c. search needs) (λ c κs. search needs)
     (λ c κs. let r = c .before .before .before .before .before .before .before .pre .1 in (as-asks _ unchanged Still (elapse-still _) (r .0) (still-at (λ l. omega (arith, one-of _ _ _ (c .before .before .if1 .taken) l))), passes-placed (r .1) (r .0) (search needs)))
     (λ c. search needs)
     (λ c. as-gives _ unchanged Still (elapse-still _) (c .before .before .copy-term .ensures) (still-at (λ l. omega (arith, one-of _ _ _ (c .before .before .before .before .before .if1 .taken) l))))
-    (λ c κs. search needs)
-    (λ c. search needs)
-    (λ c. search needs)
-    (λ c κs. search needs)
-    (λ c. search needs)
-    (λ c. search needs)
+    (λ c κs. search needs) (λ c. search needs) (λ c. search needs) (λ c κs. search needs) (λ c. search needs) (λ c. search needs)
     (λ c κs.
     let b = c .before .before .before .before .before .before .before .before .before .before .before in
     let h = let i = c .before .before .before .before .before in passed _ (i .before .if1 .left) (i .if2 .left) in

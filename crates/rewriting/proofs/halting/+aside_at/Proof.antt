@@ -50,14 +50,9 @@ pub +aside-at-spec : {M : Type 1} → statement M
     (λ c κs. let r = c .before .before .before .before .before .before .pre .1 in (as-asks _ gone _ (aside-here _) (r .0) (λ t y. search needs), passes-placed (r .1 .at) (r .0) (search needs)))
     (λ c. search needs)
     (λ c. as-gives _ gone _ (aside-here _) (c .before .before .nil-at .ensures) (λ t y. search needs))
-    (λ c κs. search needs)
-    (λ c. search needs)
-    (λ c κs. search needs)
-    (λ c. search needs)
-    (λ c. search needs)
+    (λ c κs. search needs) (λ c. search needs) (λ c κs. search needs) (λ c. search needs) (λ c. search needs)
     (λ c κs. let r = c .before .before .before .before .before .before .before .before .before .before .before .pre .1 in (search needs, way-first-asks (r .0) (r .1) (search needs) (search needs) (search needs) (search needs)))
-    (λ c. search needs)
-    (λ c κs. search needs)
+    (λ c. search needs) (λ c κs. search needs)
     (λ c κs.
     let r = c .before .before .before .before .before .before .before .before .before .before .before .before .before .before .before .before .before .before .pre .1 in
     halt-second-asks (r .0) (r .1) (search needs) (search needs) (c .before .before .before .before .before .before .aside-at .ensures) (search needs) (search needs) (search needs))
@@ -71,8 +66,7 @@ pub +aside-at-spec : {M : Type 1} → statement M
     let r = c .before .before .before .before .before .before .before .before .before .before .before .before .before .before .before .before .before .pre .1 in
     way-first-one (r .0) (r .1) (search needs) (search needs) (c .before .before .before .before .before .aside-at .ensures) (search needs) (search needs)
     (c .before .before .before .before .before .before .before .before .before .before .before .copy .ensures))
-    (λ c. search needs)
-    (λ c. search needs)
+    (λ c. search needs) (λ c. search needs)
     (λ c κs. let r = c .before .before .before .before .before .before .before .before .before .before .before .pre .1 in halt-first-asks (r .0) (r .1) (search needs) (search needs) (search needs) (search needs))
     (λ c κs.
     let r = c .before .before .before .before .before .before .before .before .before .before .before .before .before .before .before .pre .1 in

@@ -1,4 +1,4 @@
--- Each call has fewer bytes left; what halting does at each kind is in proofs/Halts.
+-- Each call has fewer bytes left; what halting does at each kind is in proofs/HaltSteps.
 use Prim.Native.Nat.{ℕ, _<_, _-_}
 use borrow.Author.Needs.{needs}
 use lib.ListN.{length}
@@ -8,7 +8,7 @@ use Rattle.records.specs.Rewrites.{unchanged, gone}
 use Rattle.records.proofs.Rewrites.{as-asks, as-gives}
 use Rattle.rewriting.proofs.Aligned.{passes-placed}
 use Rattle.rewriting.proofs.Children.{first-child, second-child, two-children, one-child}
-use Rattle.rewriting.proofs.Halts.{Gone, Kept, Through, halt-gone, halt-kept, halt-step, gone-at, kept-at, through-at}
+use Rattle.rewriting.proofs.HaltSteps.{Gone, Kept, Through, halt-gone, halt-kept, halt-step, gone-at, kept-at, through-at}
 use borrow.Fn.Kinds.{In}
 use borrow.Fn.PlainCycle.{Measures, is, falls, and}
 use Rattle.rewriting.proofs.halting.halt_at.Reads as halt-at
@@ -48,8 +48,7 @@ pub +halt-at-spec : {M : Type 1} → statement M
 )
     (halt-at-at t)
     halt-at.Post
-    (λ c. search needs)
-    (λ c κs. search needs)
+    (λ c. search needs) (λ c κs. search needs)
     (λ c κs. let r = c .before .before .before .before .before .before .before .pre .1 in (as-asks halt gone Gone halt-gone (r .0) (gone-at (search needs)), passes-placed (r .1) (r .0) (search needs)))
     (λ c. search needs)
     (λ c. as-gives halt gone Gone halt-gone (search needs) (gone-at (search needs)))
@@ -57,9 +56,7 @@ pub +halt-at-spec : {M : Type 1} → statement M
     (λ c κs. let r = c .before .before .before .before .before .before .before .before .pre .1 in (as-asks halt unchanged Kept halt-kept (r .0) (kept-at (search needs)), passes-placed (r .1) (r .0) (search needs)))
     (λ c. search needs)
     (λ c. as-gives halt unchanged Kept halt-kept (search needs) (kept-at (search needs)))
-    (λ c κs. search needs)
-    (λ c. search needs)
-    (λ c. search needs)
+    (λ c κs. search needs) (λ c. search needs) (λ c. search needs)
     (λ c κs.
     let r = c .before .before .before .before .before .before .before .before .before .before .before .pre .1 in
     (search needs, first-child halt halt halt Through halt-step (r .0) (r .1) (through-at (search needs) (search needs)) (children-some _ (search needs)) (search needs) (search needs)))

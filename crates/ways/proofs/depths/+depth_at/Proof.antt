@@ -31,8 +31,7 @@ pub +depth-at-spec : {M : Type 1} → statement M
 +depth-at-spec =
     close μ-depth-at
     (λ t. depth-at-lts.spec (claims t) (depth-at-at t) depth-at.Post
-    (λ c. omega arith)
-    (λ c. omega arith)
+    (λ c. omega arith) (λ c. omega arith)
     (λ c κs. tt)
     (λ c. depth-none _ _ _ _ (c .before .before .before .before .before .pre .1) (c .before .children .ensures .0) (c .if1 .taken))
     (λ c. omega arith)
@@ -41,8 +40,7 @@ pub +depth-at-spec : {M : Type 1} → statement M
     let q = first-standing _ _ _ _ (c .before .before .before .before .before .before .before .pre .1) (c .before .before .before .children .ensures .0) (c .before .before .if1 .left) in
     omega (arith, depth-few q _ (c .before .depth-at .ensures)))
     (λ c. depth-one _ _ _ _ (c .before .before .before .before .before .before .before .pre .1) (c .before .before .before .children .ensures .0) _ (c .before .depth-at .ensures) (c .if2 .taken))
-    (λ c. omega arith)
-    (λ c. omega arith)
+    (λ c. omega arith) (λ c. omega arith)
     (λ c. omega (arith, c .before .before .before .before .before .before .before .before .pre .1 .end .room, c .before .before .before .before .before .before .before .before .pre .1 .inside))
     (λ c κs. tt)
     (λ c κs.

@@ -27,11 +27,11 @@ use Rattle.cows.proofs.Fields.{record-at, append-bytes, kind-delimitation, firs
 use Rattle.cows.proofs.Stands.{right-at, delimits-is, prefixed-is, wanted-is, wanted-live, live-wanted}
 use Rattle.cows.proofs.Ways.{length-ahead, take-ahead, drop-here, encode-plug, encode-fill, above-at, depth-part, depth-most, size-frame, size-swap}
 use Rattle.records.specs.Rewrites.{StandsIn}
-use Rattle.records.proofs.Stands.{encode-under, holds-kind, holds-word, holds-stands}
+use Rattle.records.proofs.StandsIn.{encode-under, holds-kind, holds-word, holds-stands}
 use Rattle.ways.specs.Known.{Table}
 use Rattle.ways.specs.Ways.{OnWay, LiveAt}
 use Rattle.ways.specs.Depths.{Standing}
-use Rattle.ways.proofs.Tables.{table-size, table-ended}
+use Rattle.ways.proofs.KnownTables.{table-size, table-ended}
 use Rattle.ways.proofs.Deep.{standing}
 use Rattle.plans.specs.declared.Judgement.the-variants.{Allowed, Stuck, Large}
 use Rattle.cows.specs.Within.{Right}

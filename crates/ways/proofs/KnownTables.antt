@@ -15,7 +15,7 @@ use Rattle.cows.specs.Active.{live}
 use Rattle.cows.proofs.Basics.{and-none}
 use Rattle.cows.proofs.Format.{encode-injective}
 use Rattle.records.specs.declared.Found.the-variants.{At, Nothing}
-use Rattle.records.proofs.Stands.{holds-size, holds-kind, holds-stands}
+use Rattle.records.proofs.StandsIn.{holds-size, holds-kind, holds-stands}
 use Rattle.records.proofs.Shapes.{end-stands}
 use Rattle.ways.specs.Known.{Table, Known, EndPlaces}
 use Rattle.ways.specs.Ways.{Climbs, Climbable, Walks, Walk, LiveAt, Lives}

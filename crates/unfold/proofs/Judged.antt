@@ -27,14 +27,14 @@ use Rattle.cows.proofs.Fields.{table-at, kind-is}
 use Rattle.cows.proofs.Ways.{encode-replaced, depth-part, depth-most, size-swap}
 use Rattle.cows.proofs.Stands.{replicates-is, prefixed-is, wanted-is, wanted-live, live-wanted}
 use Rattle.cows.proofs.Recordwise.{size-map}
-use Rattle.cows.proofs.Binds.{depth-mapped}
+use Rattle.cows.proofs.BoundNodes.{depth-mapped}
 use Rattle.records.specs.Rewrites.{put, StandsIn}
 use Rattle.records.proofs.Put.{and-then}
-use Rattle.records.proofs.Stands.{encode-both, holds-stands}
+use Rattle.records.proofs.StandsIn.{encode-both, holds-stands}
 use Rattle.ways.specs.Known.{Table, Known}
 use Rattle.ways.specs.Depths.{Standing}
 use Rattle.ways.specs.Ways.{LiveAt}
-use Rattle.ways.proofs.Tables.{table-size, table-ended}
+use Rattle.ways.proofs.KnownTables.{table-size, table-ended}
 use Rattle.ways.proofs.Climbing.{way-short}
 use Rattle.ways.proofs.Deep.{standing}
 use Rattle.renaming.specs.Names.{Body}

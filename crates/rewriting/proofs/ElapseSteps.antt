@@ -18,7 +18,7 @@ use Rattle.cows.proofs.Fields.{kind-wait, interval-wait}
 use Rattle.records.specs.Rewrites.{put, Has, StandsIn, Passes, Rewritable, Rewrites, unchanged}
 use Rattle.records.proofs.Put.{and-then, has-left, has-take}
 use Rattle.records.proofs.Pieces.{word-piece}
-use Rattle.records.proofs.Stands.{encode-leaf, encode-under, encode-both, stands-kind, stands-first, stands-record}
+use Rattle.records.proofs.StandsIn.{encode-leaf, encode-under, encode-both, stands-kind, stands-first, stands-record}
 use Rattle.records.proofs.Rewrites.{Step, first-asks, one-gives}
 use Rattle.rewriting.specs.Aligned.{Aligned}
 use Rattle.rewriting.proofs.Aligned.{first-placed, passes-placed}

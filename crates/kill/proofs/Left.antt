@@ -25,7 +25,7 @@ use Rattle.cows.proofs.Places.{size-pos, fill-spot, spot-under}
 use Rattle.cows.proofs.Ways.{encode-replaced, depth-fill, size-swap}
 use Rattle.cows.proofs.Stands.{right-at, scoped-at}
 use Rattle.rewriting.specs.Halting.{haltAside}
-use Rattle.rewriting.proofs.Kills.{live-behind, no-under, no-both, guard-kill, guarded-at, live-kill, after-kill}
+use Rattle.rewriting.proofs.Firing.{live-behind, no-under, no-both, guard-kill, guarded-at, live-kill, after-kill}
 use Rattle.kill.specs.Losses.{left}
 use Rattle.ways.specs.Ways.{scopeOf}
 use Rattle.ways.proofs.Starts.{Scope, scope-at, scope-found}

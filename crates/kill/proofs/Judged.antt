@@ -31,20 +31,20 @@ use Rattle.records.specs.declared.Found.{Found}
 use Rattle.records.specs.declared.Found.the-variants.{At, Nothing}
 use Rattle.records.proofs.Atoms as classes
 use Rattle.records.proofs.Put.{and-then}
-use Rattle.records.proofs.Stands.{holds-word, holds-stands}
+use Rattle.records.proofs.StandsIn.{holds-word, holds-stands}
 use Rattle.records.proofs.Rewrites.{ready}
 use Rattle.rewriting.specs.Halting.{haltAside, placeIn, PlaceOf}
 use Rattle.rewriting.proofs.Aligned.{place-of}
 use Rattle.ways.specs.Known.{Table}
 use Rattle.kill.specs.Losses.{left}
 use Rattle.ways.specs.Ways.{scopeOf, LiveAt}
-use Rattle.ways.proofs.Tables.{table-size}
+use Rattle.ways.proofs.KnownTables.{table-size}
 use Rattle.plans.specs.declared.Judgement.the-variants.{Allowed}
 use Rattle.plans.specs.declared.Plan.{Plan}
 use Rattle.plans.specs.Plans.{Planned, Asks}
 use Rattle.kill.specs.Killing.{killScope}
 use Rattle.plans.proofs.Planning.{planned-allowed, absent}
-use Rattle.kill.proofs.Killing.{is-label, has-scope, scope-place, body-placed, left-is, kill-size, kill-limits, kill-bytes}
+use Rattle.kill.proofs.Left.{is-label, has-scope, scope-place, body-placed, left-is, kill-size, kill-limits, kill-bytes}
 
 kind-of-kill : (s : Term) (k : ℕ) → kills s ≡ some k → kindOf s ≡ 1
 unfolding kindOf root record16 layout byte

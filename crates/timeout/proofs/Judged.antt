@@ -19,7 +19,7 @@ use Rattle.cows.specs.Moves.{continue, timeoutAt}
 use Rattle.cows.proofs.Basics.{bind-accept, forbid-accept, same-accept}
 use Rattle.cows.proofs.Fields.{kind-wait, interval-wait}
 use Rattle.cows.proofs.Stands.{waits-is, prefixed-is, wanted-is, wanted-live, live-wanted}
-use Rattle.records.proofs.Stands.{holds-word}
+use Rattle.records.proofs.StandsIn.{holds-word}
 use Rattle.ways.specs.Known.{Table}
 use Rattle.ways.specs.Ways.{startOf, LiveAt}
 use Rattle.plans.specs.declared.Judgement.the-variants.{Allowed}

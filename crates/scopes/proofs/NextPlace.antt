@@ -18,7 +18,7 @@ use Rattle.records.proofs.Shapes.{end-within, end-term}
 use Rattle.scopes.specs.Scopes.{directorySlot, Paged, Keeps, enteredOf, markOf, PassedTo, EndsOf}
 use Rattle.scopes.proofs.Directory.{keeps-as, store-keeps}
 use Rattle.scopes.proofs.Marks.{entered-pass, mark-pass, entered-here, entered-other, mark-other, mark-there, mark-farther, mark-nearer, mark-again}
-use Rattle.records.proofs.Stands.{holds-size}
+use Rattle.records.proofs.StandsIn.{holds-size}
 use Rattle.scopes.proofs.Uses.{atom-small, kind-here, delimitation-here, place-inside}
 
 -- past a record that is no delimitation

@@ -20,15 +20,15 @@ use Rattle.cows.proofs.Basics.{clash, and-true, true-and, or-both, or-right, no
 use Rattle.cows.proofs.Scopes.{counts-enclosed}
 use Rattle.cows.proofs.Fields.{append-bytes}
 use Rattle.cows.proofs.Parts.{Sound}
-use Rattle.cows.proofs.Binding.{AllBind}
+use Rattle.cows.proofs.CommunicateKeeps.{AllBind}
 use Rattle.cows.specs.Records.{boundNodes}
-use Rattle.cows.proofs.Binds.{bound-append, bind-nodes, bind-depth, Once, bind-size}
+use Rattle.cows.proofs.BoundNodes.{bound-append, bind-nodes, bind-depth, Once, bind-size}
 use Rattle.cows.proofs.Meeting.{fit-fits, matched-binds, inScope-reaches}
 use Rattle.cows.proofs.Preserving.{meeting-binds, scopes-passed}
 use Rattle.cows.proofs.Stands.{right-at, invokes-is, receives-is, prefixed-is, wanted-live}
 use Rattle.ways.specs.Ways.{startOf}
 use Rattle.plans.proofs.Continuing.{cuts}
-use Rattle.communicate.proofs.Silences.{silence-enclosed, left-nodes, left-size, left-depth}
+use Rattle.communicate.proofs.Continued.{silence-enclosed, left-nodes, left-size, left-depth}
 
 -- The receive q at place a fits the invoke m at place b, and each variable that it binds is in scope.
 pub record Matched (t : Term) (a b : ℕ) (q m : Action) (σ : Substitution) : Type 0 where

@@ -18,7 +18,7 @@ use Rattle.cows.proofs.Meeting.{fit-fits}
 use Rattle.cows.proofs.Stands.{receives-is, invokes-is, prefixed-is, live-wanted}
 use Rattle.ways.specs.Known.{Table, Known}
 use Rattle.ways.specs.Ways.{startOf, LiveAt, Walk}
-use Rattle.ways.proofs.Tables.{table-size, table-ended, live-inside, walk-known}
+use Rattle.ways.proofs.KnownTables.{table-size, table-ended, live-inside, walk-known}
 use Rattle.matching.specs.declared.Difference.{Difference}
 use Rattle.matching.specs.declared.Fit.{Fit}
 use Rattle.matching.specs.declared.Fit.the-variants.{Binds, Differs}
@@ -32,7 +32,7 @@ use Rattle.plans.proofs.Planning.{within-limits, planned-allowed, absent}
 use Rattle.plans.proofs.Continuing.{span}
 use Rattle.scoping.specs.Scopes as scopes
 use Rattle.communicate.specs.Judging.{BothLive, Meetable}
-use Rattle.communicate.proofs.Meets.{Matched, left, accepted-met}
+use Rattle.communicate.proofs.Left.{Matched, left, accepted-met}
 
 kind-of-receive : (s : Term) (q : Action) → prefixed receives s ≡ some q → kindOf s ≡ 3
 unfolding kindOf root record16 layout byte

@@ -18,13 +18,13 @@ use Rattle.records.specs.declared.Takes.{Takes}
 use Rattle.records.specs.Rewrites.{put}
 use Rattle.records.proofs.Put.{and-then}
 use Rattle.ways.specs.Ways.{startOf}
-use Rattle.ways.proofs.Tables.{table-size, table-ended}
+use Rattle.ways.proofs.KnownTables.{table-size, table-ended}
 use Rattle.renaming.specs.Bound.{boundRecords}
 use Rattle.plans.specs.Plans.{Asks}
 use Rattle.plans.specs.Cutting.{Span}
 use Rattle.matching.specs.Taking.{takesOf}
 use Rattle.plans.proofs.Continuing.{span}
-use Rattle.communicate.proofs.Meets.{Met, accepted-met}
+use Rattle.communicate.proofs.Left.{Met, accepted-met}
 use Rattle.communicate.proofs.Replacing.{metRecords, part-bound}
 
 -- The bytes ahead of the choice, those of the continuation and those behind the choice, each of them bound, fit the output, and are the table of r.

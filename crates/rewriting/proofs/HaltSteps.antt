@@ -11,7 +11,7 @@ use Rattle.cows.specs.Format.{record16}
 use Rattle.cows.specs.Moves.{haltUnder, haltBoth, halt}
 use Rattle.cows.proofs.Fields.{kind-is}
 use Rattle.records.specs.Rewrites.{StandsIn, unchanged, gone}
-use Rattle.records.proofs.Stands.{encode-under, encode-both, stands-kind}
+use Rattle.records.proofs.StandsIn.{encode-under, encode-both, stands-kind}
 use Rattle.records.proofs.Rewrites.{Step}
 
 -- the kinds of which halting makes nil, which it keeps whole, and which it goes through

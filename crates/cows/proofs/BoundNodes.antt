@@ -19,7 +19,7 @@ use Rattle.cows.proofs.Scopes.{inner, Used, local, Need, all-map, used-
 use Rattle.cows.proofs.Sets.{value-range, variable-range}
 use Rattle.cows.proofs.Mapping.{counts-at}
 use Rattle.cows.proofs.Parts.{Sound}
-use Rattle.cows.proofs.Binding.{delimits-one, AllBind, sound-instantiate, all-instantiate}
+use Rattle.cows.proofs.CommunicateKeeps.{delimits-one, AllBind, sound-instantiate, all-instantiate}
 use Rattle.cows.proofs.Recordwise.{size-map}
 use Rattle.cows.proofs.Cut.{flatMap-append}
 

@@ -23,7 +23,7 @@ use Rattle.records.proofs.Rewrites.{ready}
 use Rattle.rewriting.specs.Aligned.{Aligned}
 use Rattle.records.proofs.Laws.{found-at, found-nothing}
 use Rattle.ways.specs.Known.{Table}
-use Rattle.ways.proofs.Tables.{table-size}
+use Rattle.ways.proofs.KnownTables.{table-size}
 use Rattle.plans.specs.declared.Judgement.the-variants.{Allowed}
 use Rattle.plans.specs.declared.Plan.{Plan}
 use Rattle.plans.specs.Plans.{Planned, Asks}
