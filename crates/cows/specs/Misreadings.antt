@@ -1,6 +1,6 @@
 -- Readings of document 01 that N1 to N12 do not all tell apart: a small case for each, in the form of the nights on paper, and one
--- check of them. First those that were seen to go wrong, then a case for each clause of specs/Moves, move by move: docs/DECISIONS.md
--- has for every clause a change of it and the case that turns false. The files of must-fail/ make some of the wrong readings.
+-- check of them. First those that were seen to go wrong, then a case for each clause of specs/Moves, move by move, and for the rows of specs/Kinds:
+-- docs/DECISIONS.md has for every clause a change of it and the case that turns false. The files of must-fail/ make some of the wrong readings.
 use mathlib.Core.List.{List, [], _∷_, map}
 use Prim.Native.Nat.{ℕ}
 use lib.Dec.{T}
@@ -62,6 +62,10 @@ refused t ms rs l = night t ms rs t (0 ∷ 0 ∷ 0 ∷ l ∷ [])
 -- moves on one-of-each that name a record of another kind than they ask for: each is 11 at that place
 abbrev none-there : (ℕ → List ℕ) → List ℕ → Night
 none-there m ps = refused one-of-each (map m ps) (map (λ p. says 11 p 16) ps) 4
+
+-- a choice of a term that is no guard: the table is refused
+abbrev unguarded : Term → Night
+unguarded s = record { begins = s ⊕ 𝟘; own = says 5 1 0; moves = []; replies = []; ends = 𝟘; total = [] }
 
 pub misreadings : List Night
 misreadings =
@@ -176,7 +180,15 @@ misreadings =
     (says 0 0 8 ∷ says 0 0 8 ∷ says 0 0 8 ∷ says 0 0 8 ∷ says 18 0 8 ∷ []) (new n ⟦ qo! v ∣ new k (po! n) ∣ 𝟘 ⟧) (0 ∷ 0 ∷ 0 ∷ 2 ∷ [])
     -- M42: 18: a label does not float; a variable does
     ∷ night (new k stop ∣ new x (po? x)) (float 1 ∷ float 3 ∷ []) (says 18 1 6 ∷ says 0 0 6 ∷ []) (new x (new k stop ∣ po? x)) (0 ∷ 0 ∷ 0 ∷ 2 ∷ [])
-    ∷ []
+    -- Kinds.
+    -- M43: a kill behind a receive is not ready
+    ∷ accepted (new k (receive? 3 3 [] stop ∣ po? v ∣ po! v)) (meeting 5 7) (new k (receive? 3 3 [] stop ∣ 𝟘 ∣ 𝟘)) (1 ∷ 0 ∷ 0 ∷ 2 ∷ [])
+    -- M44: one in a protection is
+    ∷ refused (new k (⟦ stop ⟧ ∣ po? v ∣ po! v)) (meeting 5 7 ∷ []) (says 14 0 8 ∷ []) 3
+    -- M45: and so is a receive in a choice
+    ∷ refused (new x (po! v ∣ po? x ∣ (po? v ⊕ 𝟘))) (meeting 4 2 ∷ []) (says 15 7 10 ∷ []) 3
+    -- M46 to M51: 5: a kill, an invoke, a parallel, a protection, a delimitation, a replication is no guard
+    ∷ map unguarded (stop ∷ po! v ∷ (𝟘 ∣ 𝟘) ∷ ⟦ 𝟘 ⟧ ∷ new n 𝟘 ∷ rep 𝟘 ∷ [])
 
 pub misreadings-right : T (every rightNight misreadings)
 unfolding misreadings open-all
