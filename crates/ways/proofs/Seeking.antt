@@ -53,11 +53,11 @@ module _ (P : ℕ → Bool) (test : Term → Bool) where
       unfolding wayTo sub
       from-here = from-next _ i (size t) l ∙ rw (h .active l)
 
-      pub seeking-found : test (sub t i) ≡ true → first picks t ≡ some i
+      seeking-found : test (sub t i) ≡ true → first picks t ≡ some i
       unfolding placeIf orElse
       seeking-found e = h .rest ∙ (from-here ∙ rw e)
 
-      pub seeking-through : test (sub t i) ≡ false → P (kindOf (sub t i)) ≡ true → Seeking t (i + 1)
+      seeking-through : test (sub t i) ≡ false → P (kindOf (sub t i)) ≡ true → Seeking t (i + 1)
       unfolding placeIf orElse
       seeking-through e p = record {
         few = omega arith;
@@ -85,15 +85,20 @@ module _ (s ends : List ℕ) (t : Term) (h : Table s ends t) (i : ℕ) (l : i < 
   pub table-next : (next : ℕ) → next ≡ getD ends i 0 → (i < next) × (next ≤ length s / 16)
   table-next next at = omega (arith, at, table-ended s ends t h i inside, table-size s ends t h, spot-fits t i inside, size-pos (sub t i))
 
-  module _ (P : ℕ → Bool) (test : Term → Bool) (k : Seeking P test t i) (no : test (sub t i) ≡ false) where
-    kind-is : P (kindOf (sub t i)) ≡ P (getD s (16 * i) 0)
-    kind-is = ap P (sym (holds-kind s t i (h .holds) inside))
+  -- a turn of the walk, by what the code has tested: the record, and the kind
+  module _ (P : ℕ → Bool) (test : Term → Bool) (k : Seeking P test t i) {b : Bool} (tested : i < size t → b ≡ test (sub t i)) where
+    pub table-found : b ≡ true → first (picks P test) t ≡ some i
+    table-found e = seeking-found P test t i k inside (sym (tested inside) ∙ e)
 
-    pub table-through : P (getD s (16 * i) 0) ≡ true → Seeking P test t (i + 1)
-    table-through e = seeking-through P test t i k inside no (kind-is ∙ e)
+    module _ (no : b ≡ false) {g : Bool} (kind : g ≡ P (getD s (16 * i) 0)) where
+      kind-is : P (kindOf (sub t i)) ≡ g
+      kind-is = ap P (sym (holds-kind s t i (h .holds) inside)) ∙ sym kind
 
-    pub table-over : P (getD s (16 * i) 0) ≡ false → (next : ℕ) → next ≡ getD ends i 0 → Seeking P test t next
-    table-over e next at = rw (at, table-ended s ends t h i inside) (seeking-over P test t i k inside no (kind-is ∙ e))
+      pub table-through : g ≡ true → Seeking P test t (i + 1)
+      table-through e = seeking-through P test t i k inside (sym (tested inside) ∙ no) (kind-is ∙ e)
+
+      pub table-over : g ≡ false → (next : ℕ) → next ≡ getD ends i 0 → Seeking P test t next
+      table-over e next at = rw (at, table-ended s ends t h i inside) (seeking-over P test t i k inside (sym (tested inside) ∙ no) (kind-is ∙ e))
 
 -- a wait that is shorter, by its bytes
 shorter-record : (s : Term) (d : ℕ) → (eqb (kindOf s) 4 && ltb (word (record16 (root s)) 14) d) ≡ foundWith (λ i. ltb i d) (prefixed waits s)

@@ -56,7 +56,7 @@ mark-kills-spec =
       o .loop .inv .1,
       λ t h b.
           marking-step _ _ t h (o .loop .i) (omega arith) _ _ (c .before .before .if1 .left)
-          (λ test k no. table-through _ _ t h _ (omega arith) readyKind test k no (sym (c .before .ready-kind .ensures) ∙ c .if2 .taken)) (o .loop .inv .2 t h b),
+          (λ test k no. table-through _ _ t h _ (omega arith) readyKind test k (λ i. refl) no (c .before .ready-kind .ensures) (c .if2 .taken)) (o .loop .inv .2 t h b),
     ))
     (λ c. search needs) (λ c. search needs) (λ c κs. search needs)
     (λ c.
@@ -72,7 +72,7 @@ mark-kills-spec =
       o .loop .inv .1,
       λ t h b.
           marking-step _ _ t h (o .loop .i) (omega arith) _ _ (f .before .before .if1 .left)
-          (λ test k no. table-over _ _ t h _ (omega arith) readyKind test k no (sym (f .before .ready-kind .ensures) ∙ f .if2 .left) _ (c .wide16 .ensures .0)) (o .loop .inv .2 t h b),
+          (λ test k no. table-over _ _ t h _ (omega arith) readyKind test k (λ i. refl) no (f .before .ready-kind .ensures) (f .if2 .left) _ (c .wide16 .ensures .0)) (o .loop .inv .2 t h b),
     ))
     (λ c. search needs)
     (λ c t h b. marking-end _ t _ (c .before .loop .inv .2 t h b) (omega (arith, table-size _ _ t h))))

@@ -9,6 +9,15 @@ use Rattle.kill.proofs.Judged.{no-kill, label-there, scope-there, body-
 use Rattle.kill.proofs.judge.Statement.{statement}
 use Rattle.kill.proofs.judge.Tie as tie
 
+lost-requires : tie.Need-lost-requires
+lost-requires c κs =
+    let c₁ = c .before in let c₂ = c₁ .before .before in let c₃ = c₂ .before .before .before in let c₄ = c₃ .before .before in let c₅ = c₄ .before .before in let c₆ = c₅ .before .before .before in
+    let q = c₆ .before .before .before .before .pre in
+    let l = c₆ .live-at .ensures (q .term) (q .table) .found _ (c₅ .found .given .1) in
+    let k = sym (c₄ .atom-at .ensures) ∙ c₃ .atom .given .1 in
+    let i = body-inside _ _ (q .term) _ _ l _ (q .table) _ k _ (c₂ .scope .ensures (q .term) _ (l .walks)) _ (c₁ .from .given .1) in
+    (q, i)
+
 pub judge-spec : {M : Type 1} → statement M
 judge-spec =
     tie.close
@@ -32,20 +41,8 @@ judge-spec =
     let l = c₅ .before .before .before .live-at .ensures t h .found _ (c₅ .found .given .1) in
     let k = sym (c₄ .atom-at .ensures) ∙ c₃ .atom .given .1 in
     absurd (scope-there _ _ t _ _ l _ h _ k _ (c₂ .scope .ensures t _ (l .walks)) (c₁ .enum-told2 .given .1)))
-    (λ c.
-    let c₁ = c .before in let c₂ = c₁ .before .before in let c₃ = c₂ .before .before .before in let c₄ = c₃ .before .before in let c₅ = c₄ .before .before in let c₆ = c₅ .before .before .before in
-    let q = c₆ .before .before .before .before .pre in
-    let l = c₆ .live-at .ensures (q .term) (q .table) .found _ (c₅ .found .given .1) in
-    let k = sym (c₄ .atom-at .ensures) ∙ c₃ .atom .given .1 in
-    let i = body-inside _ _ (q .term) _ _ l _ (q .table) _ k _ (c₂ .scope .ensures (q .term) _ (l .walks)) _ (c₁ .from .given .1) in
-    omega (arith, q .few))
-    (λ c κs.
-    let c₁ = c .before in let c₂ = c₁ .before .before in let c₃ = c₂ .before .before .before in let c₄ = c₃ .before .before in let c₅ = c₄ .before .before in let c₆ = c₅ .before .before .before in
-    let q = c₆ .before .before .before .before .pre in
-    let l = c₆ .live-at .ensures (q .term) (q .table) .found _ (c₅ .found .given .1) in
-    let k = sym (c₄ .atom-at .ensures) ∙ c₃ .atom .given .1 in
-    let i = body-inside _ _ (q .term) _ _ l _ (q .table) _ k _ (c₂ .scope .ensures (q .term) _ (l .walks)) _ (c₁ .from .given .1) in
-    (q, i))
+    (λ c. let (q, i) = lost-requires c (c .before .before .before .before .before .before .before .before .before .before .before .before .before .before .before .before .before .κs) in omega (arith, q .few))
+    lost-requires
     (λ c.
     let c₁ = c .before .before in let c₂ = c₁ .before .before in let c₃ = c₂ .before .before .before in let c₄ = c₃ .before .before in let c₅ = c₄ .before .before in let c₆ = c₅ .before .before .before in
     let q = c₆ .before .before .before .before .pre in

@@ -21,6 +21,7 @@ judge-spec =
     (λ c. let q = c .before .before .before .before .before .before .before .before .before .before .pre in let j = judges _ _ _ _ _ q (c .before .before .before .before .before .before .live-at .ensures (q .term) (q .table) .found _ (c .before .before .before .found .given .1)) in omega arith)
     (λ c. let q = c .before .before .before .before .before .before .before .before .before .before .pre in let j = judges _ _ _ _ _ q (c .before .before .before .before .before .before .live-at .ensures (q .term) (q .table) .found _ (c .before .before .before .found .given .1)) in omega arith)
     (λ c κs. let q = c .before .before .before .before .before .before .before .before .before .before .pre in let j = judges _ _ _ _ _ q (c .before .before .before .before .before .before .live-at .ensures (q .term) (q .table) .found _ (c .before .before .before .found .given .1)) in j .standing)
-    (λ c. let f = c .before .before .before .before in let q = f .before .before .before .before .before .before .before .pre in let j = judges _ _ _ _ _ q (f .before .before .before .live-at .ensures (q .term) (q .table) .found _ (f .found .given .1)) in omega (arith, depth-few (j .standing) _ (c .depth-at .ensures)))
+    (λ c. let f = c .before .before .before .before in let q = f .before .before .before .before .before .before .before .pre in
+    let j = judges _ _ _ _ _ q (f .before .before .before .live-at .ensures (q .term) (q .table) .found _ (f .found .given .1)) in omega (arith, depth-few (j .standing) _ (c .depth-at .ensures)))
     (λ c t h. let f = c .before .before .before .before .before in unfold-large _ _ t _ _ (f .before .before .before .live-at .ensures t h .found _ (f .found .given .1)) _ h _ _ (c .before .before .wide16 .ensures .0) (c .before .depth-at .ensures) _ (c .if1 .taken) refl refl)
     (λ c t h. let f = c .before .before .before .before .before in unfold-allowed _ _ t _ _ (f .before .before .before .live-at .ensures t h .found _ (f .found .given .1)) _ h _ _ (c .before .before .wide16 .ensures .0) (c .before .depth-at .ensures) _ (c .if1 .left) refl refl))

@@ -1,5 +1,5 @@
 use borrow.Author.Needs.{needs}
-use mathlib.Core.Path.{sym, ap, _∙_}
+use mathlib.Core.Path.{sym, ap}
 use Prim.Native.Nat.{ℕ, _-_, _≤_}
 use native.Mathlib.Omega.{arith}
 use mathlib.Core.Bool.{Bool}
@@ -11,8 +11,8 @@ use Rattle.cows.specs.Active.{live}
 use Rattle.cows.specs.Moves.{shorter}
 use Rattle.records.specs.Answers.{foundOf}
 use Rattle.ways.specs.Known.{Table}
-use Rattle.ways.proofs.KnownTables.{table-inside, table-size}
-use Rattle.ways.proofs.Seeking.{Seeking, seeking-start, seeking-found, seeking-end, table-through, table-next, table-over}
+use Rattle.ways.proofs.KnownTables.{table-size}
+use Rattle.ways.proofs.Seeking.{Seeking, seeking-start, seeking-end, table-next, table-found, table-through, table-over}
 use Rattle.elapse.proofs.scans.first_shorter.Statement.{statement}
 use Rattle.elapse.proofs.scans.first_shorter.Tie as tie
 
@@ -37,15 +37,13 @@ first-shorter-spec =
     (λ c κs. search needs)
     (λ c t h.
     let o = c .before .before .before in
-    let i = table-inside _ _ t h (o .loop .i) (omega arith) in
-    ap foundOf (sym (seeking-found _ _ t _ (o .loop .inv .1 t h) i (sym (c .before .shorter .ensures t (h .holds) i) ∙ c .if1 .taken))))
+    ap foundOf (sym (table-found _ _ t h _ (omega arith) liveKind _ (o .loop .inv .1 t h) (c .before .shorter .ensures t (h .holds)) (c .if1 .taken))))
     (λ c. search needs) (λ c. search needs) (λ c κs. search needs) (λ c. search needs) (λ c. omega arith)
     (λ c.
     let o = c .before .before .before .before .before .before in (
       omega arith,
       λ t h.
-          let i = table-inside _ _ t h (o .loop .i) (omega arith) in
-          table-through _ _ t h _ (omega arith) liveKind _ (o .loop .inv .1 t h) (sym (c .before .before .before .before .shorter .ensures t (h .holds) i) ∙ c .before .before .before .if1 .left) (sym (c .before .live-kind .ensures) ∙ c .if2 .taken),
+          table-through _ _ t h _ (omega arith) liveKind _ (o .loop .inv .1 t h) (c .before .before .before .before .shorter .ensures t (h .holds)) (c .before .before .before .if1 .left) (c .before .live-kind .ensures) (c .if2 .taken),
     ))
     (λ c. search needs) (λ c. search needs) (λ c κs. search needs)
     (λ c.
@@ -59,7 +57,6 @@ first-shorter-spec =
     let q = o .before .before .before .pre in (
       table-next _ _ (q .term) (q .table) (o .loop .i) (omega arith) _ (c .wide16 .ensures .0) .1,
       λ t h.
-          let i = table-inside _ _ t h (o .loop .i) (omega arith) in
-          table-over _ _ t h _ (omega arith) liveKind _ (o .loop .inv .1 t h) (sym (b .before .shorter .ensures t (h .holds) i) ∙ b .if1 .left) (sym (c .before .before .before .live-kind .ensures) ∙ c .before .before .if2 .left) _ (c .wide16 .ensures .0),
+          table-over _ _ t h _ (omega arith) liveKind _ (o .loop .inv .1 t h) (b .before .shorter .ensures t (h .holds)) (b .if1 .left) (c .before .before .before .live-kind .ensures) (c .before .before .if2 .left) _ (c .wide16 .ensures .0),
     ))
     (λ c t h. ap foundOf (sym (seeking-end _ _ t _ (c .before .loop .inv .1 t h) (omega (arith, table-size _ _ t h))))))

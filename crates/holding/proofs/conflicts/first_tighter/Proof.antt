@@ -1,5 +1,5 @@
 use borrow.Author.Needs.{needs}
-use mathlib.Core.Path.{_≡_, sym, ap, _∙_}
+use mathlib.Core.Path.{_≡_, sym, ap}
 use mathlib.Core.Bool.{true}
 use Prim.Native.Nat.{_-_, _≤_}
 use native.Mathlib.Omega.{arith}
@@ -10,8 +10,8 @@ use Rattle.cows.specs.Moves.{closedAction, tighter}
 use Rattle.records.specs.Answers.{foundOf}
 use Rattle.ways.specs.Known.{Table}
 use Rattle.matching.specs.Matching.{ActionAt}
-use Rattle.ways.proofs.KnownTables.{table-inside, table-size}
-use Rattle.ways.proofs.Seeking.{Seeking, seeking-start, seeking-found, seeking-end, table-through, table-next, table-over}
+use Rattle.ways.proofs.KnownTables.{table-size}
+use Rattle.ways.proofs.Seeking.{Seeking, seeking-start, seeking-end, table-next, table-found, table-through, table-over}
 use Rattle.holding.proofs.Marking.{}
 use Rattle.holding.proofs.Conflicting.{tightening}
 use Rattle.holding.proofs.conflicts.first_tighter.Statement.{statement}
@@ -34,15 +34,13 @@ first-tighter-spec =
     (λ c κs. omega (arith, c .before .before .before .before .pre .0 .whole))
     (λ c t m h k z.
     let o = c .before .before .before in
-    let i = table-inside _ _ t h (o .loop .i) (omega arith) in
-    ap foundOf (sym (seeking-found _ _ t _ (o .loop .inv .1 t m h k z) i (sym (c .before .tighter .ensures t m (h .holds) i k z) ∙ c .if1 .taken))))
+    ap foundOf (sym (table-found _ _ t h _ (omega arith) readyKind _ (o .loop .inv .1 t m h k z) (λ i. c .before .tighter .ensures t m (h .holds) i k z) (c .if1 .taken))))
     (λ c. search needs) (λ c. search needs) (λ c κs. search needs) (λ c. search needs) (λ c. omega arith)
     (λ c.
     let o = c .before .before .before .before .before .before in (
       omega arith,
       λ t m h k z.
-          let i = table-inside _ _ t h (o .loop .i) (omega arith) in
-          table-through _ _ t h _ (omega arith) readyKind _ (o .loop .inv .1 t m h k z) (sym (c .before .before .before .before .tighter .ensures t m (h .holds) i k z) ∙ c .before .before .before .if1 .left) (sym (c .before .ready-kind .ensures) ∙ c .if2 .taken),
+          table-through _ _ t h _ (omega arith) readyKind _ (o .loop .inv .1 t m h k z) (λ i. c .before .before .before .before .tighter .ensures t m (h .holds) i k z) (c .before .before .before .if1 .left) (c .before .ready-kind .ensures) (c .if2 .taken),
     ))
     (λ c. search needs) (λ c. search needs) (λ c κs. search needs)
     (λ c.
@@ -56,7 +54,6 @@ first-tighter-spec =
     let q = o .before .before .before .pre .0 in (
       table-next _ _ (q .term) (q .table) (o .loop .i) (omega arith) _ (c .wide16 .ensures .0) .1,
       λ t m h k z.
-          let i = table-inside _ _ t h (o .loop .i) (omega arith) in
-          table-over _ _ t h _ (omega arith) readyKind _ (o .loop .inv .1 t m h k z) (sym (d .before .tighter .ensures t m (h .holds) i k z) ∙ d .if1 .left) (sym (c .before .before .before .ready-kind .ensures) ∙ c .before .before .if2 .left) _ (c .wide16 .ensures .0),
+          table-over _ _ t h _ (omega arith) readyKind _ (o .loop .inv .1 t m h k z) (λ i. d .before .tighter .ensures t m (h .holds) i k z) (d .if1 .left) (c .before .before .before .ready-kind .ensures) (c .before .before .if2 .left) _ (c .wide16 .ensures .0),
     ))
     (λ c t m h k z. ap foundOf (sym (seeking-end _ _ t _ (c .before .loop .inv .1 t m h k z) (omega (arith, table-size _ _ t h))))))

@@ -55,23 +55,20 @@ pub +elapse-at-spec : {M : Type 1} → statement M
     (λ c. search needs)
     (λ c. as-gives _ unchanged Still (elapse-still _) (c .before .before .copy-term .ensures) (still-at (λ l. omega (arith, one-of _ _ _ (c .before .before .before .before .before .if1 .taken) l))))
     (λ c κs. search needs) (λ c. search needs) (λ c. search needs) (λ c κs. search needs) (λ c. search needs) (λ c. search needs)
-    (λ c κs.
-    let b = c .before .before .before .before .before .before .before .before .before .before .before in
+    (λ c κs. let b = c .before .before .before .before .before .before .before .before .before .before .before in
     let h = let i = c .before .before .before .before .before in passed _ (i .before .if1 .left) (i .if2 .left) in
     (search needs, first-child _ _ (elapse (b .args .d)) Through (elapse-through _) (b .pre .1 .0) (b .pre .1 .1) (through-at h) (children-some _ (omega arith)) (search needs) (search needs)))
     (λ c κs. search needs)
-    (λ c κs.
-    let b = c .before .before .before .before .before .before .before .before .before .before .before .before .before .before .before .before .before in
+    (λ c κs. let b = c .before .before .before .before .before .before .before .before .before .before .before .before .before .before .before .before .before in
     let h = let i = c .before .before .before .before .before .before .before .before .before .before .before in passed _ (i .before .if1 .left) (i .if2 .left) in
     (search needs, second-child _ _ (elapse (b .args .d)) Through (elapse-through _) (b .pre .1 .0) (b .pre .1 .1) (through-at h) (children-some _ (omega arith)) (c .before .before .before .before .before .elapse-at .ensures) (search needs) (search needs) (search needs)))
     (λ c. search needs)
-    (λ c.
-    let b = c .before .before .before .before .before .before .before .before .before .before .before .before .before .before .before .before .before .before .before .before in
+    (λ c. let b = c .before .before .before .before .before .before .before .before .before .before .before .before .before .before .before .before .before .before .before .before in
     let h = let i = c .before .before .before .before .before .before .before .before .before .before .before .before .before .before in passed _ (i .before .if1 .left) (i .if2 .left) in
     two-children _ _ (elapse (b .args .d)) Through (elapse-through _) (b .pre .1 .0) (b .pre .1 .1) (through-at h) (children-some _ (omega arith)) (c .before .before .before .before .before .before .before .before .elapse-at .ensures) (search needs)
     (search needs) (c .before .before .before .before .before .before .before .before .before .before .before .before .copy .ensures) (c .before .before .elapse-at2 .ensures))
     (λ c. search needs)
-    (λ c.
-    let b = c .before .before .before .before .before .before .before .before .before .before .before .before .before .before .before .before in
+    (λ c. let b = c .before .before .before .before .before .before .before .before .before .before .before .before .before .before .before .before in
     let h = let i = c .before .before .before .before .before .before .before .before .before .before in passed _ (i .before .if1 .left) (i .if2 .left) in
-    one-child _ _ (elapse (b .args .d)) Through (elapse-through _) (b .pre .1 .0) (b .pre .1 .1) (through-at h) (children-some _ (omega arith)) (c .before .before .before .before .elapse-at .ensures) (search needs) (search needs) (c .before .before .before .before .before .before .before .before .copy .ensures))
+    one-child _ _ (elapse (b .args .d)) Through (elapse-through _) (b .pre .1 .0) (b .pre .1 .1) (through-at h) (children-some _ (omega arith)) (c .before .before .before .before .elapse-at .ensures) (search needs) (search needs)
+    (c .before .before .before .before .before .before .before .before .copy .ensures))

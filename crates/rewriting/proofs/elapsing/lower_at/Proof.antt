@@ -12,10 +12,7 @@ lower-at-spec =
     (λ c. search needs) (λ c. search needs) (λ c κs. search needs) (λ c. search needs)
     (λ c κs. let r = c .before .before .before .before .before .before .before .before .before .before .before .before .before .before .before .pre in continuation-asks _ (r .1 .1) (r .0) (r .1 .0) (search needs) (search needs) (search needs))
     (λ c. search needs)
-    (λ c.
-    let b = c .before .before .before .before .before .before .before .before .before .before .before .before .before .before .before .before .before .before in
-    let z = b .args in
-    wait-gives _ (b .pre .1 .1)
-    (lowered (z .d) (z .dst .now) (z .to) (c .before .before .before .before .before .before .before .before .before .before .before .before .before .copy .ensures) (search needs) (c .before .before .before .before .before .before .before .put-word .ensures))
+    (λ c. let b = c .before .before .before .before .before .before .before .before .before .before .before .before .before .before .before .before .before .before in let z = b .args in
+    wait-gives _ (b .pre .1 .1) (lowered (z .d) (z .dst .now) (z .to) (c .before .before .before .before .before .before .before .before .before .before .before .before .before .copy .ensures) (search needs) (c .before .before .before .before .before .before .before .put-word .ensures))
     (c .before .before .copy-term .ensures) (search needs))
     )

@@ -53,26 +53,21 @@ pub +aside-at-spec : {M : Type 1} → statement M
     (λ c κs. search needs) (λ c. search needs) (λ c κs. search needs) (λ c. search needs) (λ c. search needs)
     (λ c κs. let r = c .before .before .before .before .before .before .before .before .before .before .before .pre .1 in (search needs, way-first-asks (r .0) (r .1) (search needs) (search needs) (search needs) (search needs)))
     (λ c. search needs) (λ c κs. search needs)
-    (λ c κs.
-    let r = c .before .before .before .before .before .before .before .before .before .before .before .before .before .before .before .before .before .before .pre .1 in
+    (λ c κs. let r = c .before .before .before .before .before .before .before .before .before .before .before .before .before .before .before .before .before .before .pre .1 in
     halt-second-asks (r .0) (r .1) (search needs) (search needs) (c .before .before .before .before .before .before .aside-at .ensures) (search needs) (search needs) (search needs))
     (λ c. search needs)
-    (λ c.
-    let r = c .before .before .before .before .before .before .before .before .before .before .before .before .before .before .before .before .before .before .before .before .before .pre .1 in
+    (λ c. let r = c .before .before .before .before .before .before .before .before .before .before .before .before .before .before .before .before .before .before .before .before .before .pre .1 in
     way-first-both (r .0) (r .1) (search needs) (search needs) (c .before .before .before .before .before .before .before .before .before .aside-at .ensures) (search needs) (search needs)
     (c .before .before .before .before .before .before .before .before .before .before .before .before .before .before .before .copy .ensures) (c .before .before .halt-at .ensures))
     (λ c. search needs)
-    (λ c.
-    let r = c .before .before .before .before .before .before .before .before .before .before .before .before .before .before .before .before .before .pre .1 in
+    (λ c. let r = c .before .before .before .before .before .before .before .before .before .before .before .before .before .before .before .before .before .pre .1 in
     way-first-one (r .0) (r .1) (search needs) (search needs) (c .before .before .before .before .before .aside-at .ensures) (search needs) (search needs)
     (c .before .before .before .before .before .before .before .before .before .before .before .copy .ensures))
     (λ c. search needs) (λ c. search needs)
     (λ c κs. let r = c .before .before .before .before .before .before .before .before .before .before .before .pre .1 in halt-first-asks (r .0) (r .1) (search needs) (search needs) (search needs) (search needs))
-    (λ c κs.
-    let r = c .before .before .before .before .before .before .before .before .before .before .before .before .before .before .before .pre .1 in
+    (λ c κs. let r = c .before .before .before .before .before .before .before .before .before .before .before .before .before .before .before .pre .1 in
     (search needs, way-second-asks (r .0) (r .1) (search needs) (search needs) (c .before .before .before .halt-at2 .ensures) (search needs) (search needs)))
     (λ c. search needs)
-    (λ c.
-    let r = c .before .before .before .before .before .before .before .before .before .before .before .before .before .before .before .before .before .before .pre .1 in
+    (λ c. let r = c .before .before .before .before .before .before .before .before .before .before .before .before .before .before .before .before .before .before .pre .1 in
     way-second-both (r .0) (r .1) (search needs) (search needs) (c .before .before .before .before .before .before .halt-at2 .ensures) (search needs)
     (c .before .before .before .before .before .before .before .before .before .before .before .before .copy .ensures) (c .before .before .aside-at2 .ensures))

@@ -57,8 +57,7 @@ pub +halt-at-spec : {M : Type 1} → statement M
     (λ c. search needs)
     (λ c. as-gives halt unchanged Kept halt-kept (search needs) (kept-at (search needs)))
     (λ c κs. search needs) (λ c. search needs) (λ c. search needs)
-    (λ c κs.
-    let r = c .before .before .before .before .before .before .before .before .before .before .before .pre .1 in
+    (λ c κs. let r = c .before .before .before .before .before .before .before .before .before .before .before .pre .1 in
     (search needs, first-child halt halt halt Through halt-step (r .0) (r .1) (through-at (search needs) (search needs)) (children-some _ (search needs)) (search needs) (search needs)))
     (λ c κs. search needs)
     (λ c κs.
@@ -68,12 +67,10 @@ pub +halt-at-spec : {M : Type 1} → statement M
           (search needs) (search needs),
     ))
     (λ c. search needs)
-    (λ c.
-    let r = c .before .before .before .before .before .before .before .before .before .before .before .before .before .before .before .before .before .before .before .before .pre .1 in
+    (λ c. let r = c .before .before .before .before .before .before .before .before .before .before .before .before .before .before .before .before .before .before .before .before .pre .1 in
     two-children halt halt halt Through halt-step (r .0) (r .1) (through-at (search needs) (search needs)) (children-some _ (search needs)) (c .before .before .before .before .before .before .before .before .halt-at .ensures) (search needs)
     (search needs) (c .before .before .before .before .before .before .before .before .before .before .before .before .copy .ensures) (c .before .before .halt-at2 .ensures))
     (λ c. search needs)
-    (λ c.
-    let r = c .before .before .before .before .before .before .before .before .before .before .before .before .before .before .before .before .pre .1 in
+    (λ c. let r = c .before .before .before .before .before .before .before .before .before .before .before .before .before .before .before .before .pre .1 in
     one-child halt halt halt Through halt-step (r .0) (r .1) (through-at (search needs) (search needs)) (children-some _ (search needs)) (c .before .before .before .before .halt-at .ensures) (search needs) (search needs)
     (c .before .before .before .before .before .before .before .before .copy .ensures))
