@@ -16,6 +16,7 @@ use scoping::all_in_scope;
 ghost use mathlib.Core.Path.{_≡_};
 ghost use Prim.Native.Nat.{ℕ, _/_, _<_};
 ghost use lib.ListN.{length};
+ghost use Rattle.cows.specs.Limits.{maxDepth};
 ghost use Rattle.cows.specs.Terms.{Term};
 ghost use Rattle.cows.specs.Places.{wayTo};
 ghost use Rattle.cows.specs.Moves.{communicateAt};
@@ -45,7 +46,7 @@ fn seek(
     receiver: &mut [u16],
     sender: &mut [u16],
 ) -> Sought
-    requires { ⌜ Known (now s) (now ends) × (length (now receiver) ≡ 256) × (length (now sender) ≡ 256) ⌝ }
+    requires { ⌜ Known (now s) (now ends) × (length (now receiver) ≡ maxDepth) × (length (now sender) ≡ maxDepth) ⌝ }
     ensures { λ r. ⌜ ((t : Term) → Table (now (s .entry)) (now (ends .entry)) t → Seeks (now (s .entry)) a b (now (receiver .exit)) (now (sender .exit)) t r) ⌝ }
 {
     let Found::At(k) = ways::live_at(s, ends, a, kinds::RECEIVE, receiver) else {

@@ -102,7 +102,8 @@ kinds =
     ∷ row 1 no yes no no 0 (may unused unused empty4 unused)  -- 9 replication
     ∷ []
 
--- The row of a kind. A kind from 10 on is unknown: no record of it is right; that it counts one child is what the paper's sum gives (01, Records).
+-- The row of a kind. A kind from 10 on is unknown: no record of it is right, and nothing else holds of it; that it has a child is fixed here, for the one function
+-- that counts children.
 unfoldable pub rowOf : ℕ → Row
 rowOf k = getD kinds k (row 1 no no no no 0 (may unused unused empty4 unused))
 

@@ -11,7 +11,7 @@ firstLabel = 49152
 abbrev pub noAtom : ℕ
 noAtom = 65536
 
--- The most records of a table, their bytes, and the greatest depth; intervals are below endOfIntervals.
+-- The most records of a table, their bytes, and the greatest depth; intervals are below noInterval.
 abbrev pub maxRecords : ℕ
 maxRecords = 2048
 

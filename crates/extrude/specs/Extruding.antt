@@ -5,6 +5,7 @@ use mathlib.Core.List.{List, [], _∷_, _++_}
 use Prim.Native.Nat.{ℕ, _+_, _*_, _-_, _/_, _≤_, _<_}
 use lib.Dec.{eqb}
 use lib.ListN.{length, take, drop}
+use Rattle.cows.specs.Limits.{maxDepth, maxRecords}
 use Rattle.cows.specs.Basics.{placeIf, Result, accept, _>>_, forbid}
 use Rattle.cows.specs.Terms.{delimitation, Term, under, size, below}
 use Rattle.cows.specs.Places.{Way, wayTo, sub}
@@ -52,9 +53,9 @@ pub record Liftable (s ends : List ℕ) (a p k : ℕ) : Type 0 where
   pub lifting : Lifting s ends a p k term atom
   pub before : p < a
   pub place : a < length s / 16
-  pub few : length s / 16 ≤ 2048
+  pub few : length s / 16 ≤ maxRecords
   pub room : length s / 16 < length ends
-  pub short : k < 256
+  pub short : k < maxDepth
 
 -- The record at place a of a table of so many bytes goes before that at place p, in an output of so many.
 pub record Lifts (size a p room : ℕ) : Type 0 where

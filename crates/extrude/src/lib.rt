@@ -13,6 +13,7 @@ use ways::depths::depth_at;
 ghost use mathlib.Core.Path.{_≡_};
 ghost use Prim.Native.Nat.{ℕ, _<_};
 ghost use lib.ListN.{length};
+ghost use Rattle.cows.specs.Limits.{maxRecords};
 ghost use Rattle.cows.specs.Terms.{Term};
 ghost use Rattle.cows.specs.Places.{wayTo};
 ghost use Rattle.cows.specs.Kinds.{floatsOver};
@@ -42,7 +43,7 @@ fn floats_over(kind: u8) -> bool
 
 // Where the other side begins of the parallel at place p, one side of which is at place a and ends at place `end`.
 fn beside(p: usize, a: usize, end: usize) -> usize
-    requires { ⌜ p < 2048 ⌝ }
+    requires { ⌜ p < maxRecords ⌝ }
     ensures { λ r. ⌜ r ≡ besideOf p a end ⌝ }
 {
     if a == p + 1 { end } else { p + 1 }

@@ -5,6 +5,7 @@ use mathlib.Core.List.{List}
 use Prim.Native.Nat.{ℕ, _-_, _/_, _<_}
 use lib.Dec.{eqb}
 use lib.ListN.{length, getD}
+use Rattle.cows.specs.Limits.{firstLabel}
 use Rattle.cows.specs.Basics.{found}
 use Rattle.cows.specs.Terms.{Term, label}
 use Rattle.cows.specs.Places.{wayTo, first}
@@ -18,7 +19,7 @@ Unmarked marks = (i : ℕ) → getD marks i 0 ≡ 0
 
 -- exactly the labels are marked of which a ready kill stands in the term
 abbrev pub KillsMarked : List ℕ → Term → Type 0
-KillsMarked marks t = (k : ℕ) → label k ≡ true → not (eqb (getD marks (k - 49152) 0) 0) ≡ found (first (readyKill k) t)
+KillsMarked marks t = (k : ℕ) → label k ≡ true → not (eqb (getD marks (k - firstLabel) 0) 0) ≡ found (first (readyKill k) t)
 
 -- Places a and b are live, and the ready kills of the table are marked.
 pub record Parties (s ends marks : List ℕ) (a b : ℕ) (t : Term) : Type 0 where

@@ -14,6 +14,7 @@ ghost use mathlib.Core.Bool.{true, not};
 ghost use Prim.Native.Nat.{_-_, _/_, _<_, _≤_};
 ghost use lib.Dec.{eqb};
 ghost use lib.ListN.{length, getD, set};
+ghost use Rattle.cows.specs.Limits.{firstLabel};
 ghost use Rattle.cows.specs.Terms.{Term};
 ghost use Rattle.cows.specs.Kinds.{readyKind};
 ghost use Rattle.cows.specs.Places.{spotAt, wayTo, first};
@@ -32,16 +33,16 @@ pub fn ready_kind(kind: u8) -> bool
 
 // Marks the label k.
 fn mark(k: Label, marks: &mut [u8])
-    requires { ⌜ (49152 ≤ k .0) × (length (now marks) ≡ 16384) ⌝ }
-    ensures { λ _. ⌜ now (marks .exit) ≡ set (now (marks .entry)) (k .0 - 49152) 1 ⌝ }
+    requires { ⌜ (firstLabel ≤ k .0) × (length (now marks) ≡ 16384) ⌝ }
+    ensures { λ _. ⌜ now (marks .exit) ≡ set (now (marks .entry)) (k .0 - firstLabel) 1 ⌝ }
 {
     marks[label_index(k)] = 1;
 }
 
 // Whether the label k is marked.
 fn marked(k: Label, marks: &[u8]) -> bool
-    requires { ⌜ (49152 ≤ k .0) × (length (now marks) ≡ 16384) ⌝ }
-    ensures { λ r. ⌜ r ≡ not (eqb (getD (now (marks .entry)) (k .0 - 49152) 0) 0) ⌝ }
+    requires { ⌜ (firstLabel ≤ k .0) × (length (now marks) ≡ 16384) ⌝ }
+    ensures { λ r. ⌜ r ≡ not (eqb (getD (now (marks .entry)) (k .0 - firstLabel) 0) 0) ⌝ }
 {
     marks[label_index(k)] != 0
 }

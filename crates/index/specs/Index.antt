@@ -6,6 +6,7 @@ use mathlib.Core.Option.{none}
 use Prim.Native.Nat.{ℕ, suc, _+_, _*_, _/_, _%_, _<_, _≤_, max}
 use lib.Dec.{leb, ltb}
 use lib.ListN.{length, getD}
+use Rattle.cows.specs.Limits.{maxRecords}
 use Rattle.cows.specs.Terms.{Term}
 use Rattle.cows.specs.Places.{first}
 use Rattle.cows.specs.Format.{word}
@@ -61,7 +62,7 @@ pub record Delimitations (s ends list : List ℕ) (m : ℕ) : Type 0 where
 
 -- An index with nothing in it, with room for the delimitations at the first m places of a list.
 pub record BlankIndex (s list : List ℕ) (m : ℕ) (pages marks : List ℕ) : Type 0 where
-  pub short : length s / 16 ≤ 2048
+  pub short : length s / 16 ≤ maxRecords
   pub listed : Inside s list m
   pub kinds : (q : ℕ) → q < m → getD s (16 * getD list q 0) 0 ≡ 8
   pub few : m < 512

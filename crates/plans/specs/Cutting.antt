@@ -3,10 +3,11 @@ use mathlib.Core.Path.{_≡_}
 use mathlib.Core.List.{List, _++_}
 use Prim.Native.Nat.{ℕ, _+_, _*_, _-_, _/_, _≤_, _<_}
 use lib.ListN.{length, getD, take, drop}
+use Rattle.cows.specs.Limits.{maxRecords}
 
 -- The prefix at place a stands inside the choice at place `from`, in a table of n records.
 pub record Span (ends : List ℕ) (n a from : ℕ) : Type 0 where
-  pub few : n ≤ 2048
+  pub few : n ≤ maxRecords
   pub low : from ≤ a
   pub inside : a < n
   pub room : n ≤ length ends

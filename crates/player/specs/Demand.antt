@@ -4,6 +4,7 @@ use mathlib.Core.Path.{_≡_}
 use mathlib.Core.List.{List, _++_}
 use Prim.Native.Nat.{ℕ, _+_, _*_, _-_, _/_, _≤_, _<_}
 use lib.ListN.{length, drop, replicate}
+use Rattle.cows.specs.Limits.{maxBytes, maxListBytes}
 use Rattle.cows.specs.Basics.{accept}
 use Rattle.cows.specs.Terms.{Term, size}
 use Rattle.cows.specs.Format.{encode}
@@ -29,14 +30,14 @@ pub record Refused (n : ℕ) (out after slots after′ : List ℕ) (p : Played) 
 pub record Followed (t : Term) (moves out after slots after′ : List ℕ) (p : Played) : Type 0 where
   pub reply : p .reply ≡ record { answer = 0; place = 0; records = size (book t moves .table) }
   pub replied : after′ ≡ replyBytes (replies (start t) (movesOf moves)) ++ drop (6 * (length moves / 6)) slots
-  pub last : after ≡ encode (book t moves .table) ++ replicate (32768 - 16 * size (book t moves .table)) 0 ++ drop 32768 out
+  pub last : after ≡ encode (book t moves .table) ++ replicate (maxBytes - 16 * size (book t moves .table)) 0 ++ drop maxBytes out
   pub tallied : p .tally ≡ tallyOf (book t moves .tally)
   pub formed : judge (encode (book t moves .table)) ≡ accept (book t moves .table)
   pub bound : 2 * p .tally .communications + p .tally .kills + p .tally .timeouts + load (book t moves .table) ≤ load t + p .tally .copied
 
 -- From the table of t.
 pub record Demand3 (t : Term) (moves out after slots after′ : List ℕ) (p : Played) : Type 0 where
-  pub too-long : 60000 < length moves → Refused 19 out after slots after′ p
-  pub short-output : length moves ≤ 60000 → length out < 32768 → Refused 21 out after slots after′ p
-  pub short-slots : length moves ≤ 60000 → length slots < 6 * (length moves / 6) → Refused 21 out after slots after′ p
-  pub else-played : length moves ≤ 60000 → 32768 ≤ length out → 6 * (length moves / 6) ≤ length slots → Followed t moves out after slots after′ p
+  pub too-long : maxListBytes < length moves → Refused 19 out after slots after′ p
+  pub short-output : length moves ≤ maxListBytes → length out < maxBytes → Refused 21 out after slots after′ p
+  pub short-slots : length moves ≤ maxListBytes → length slots < 6 * (length moves / 6) → Refused 21 out after slots after′ p
+  pub else-played : length moves ≤ maxListBytes → maxBytes ≤ length out → 6 * (length moves / 6) ≤ length slots → Followed t moves out after slots after′ p

@@ -4,6 +4,7 @@ use mathlib.Core.List.{List, _++_}
 use mathlib.Core.Option.{Option}
 use Prim.Native.Nat.{ℕ, _*_, _/_, _≤_, _<_}
 use lib.ListN.{length, take, drop}
+use Rattle.cows.specs.Limits.{maxBytes, maxListBytes}
 use Rattle.cows.specs.Basics.{Result, accept}
 use Rattle.cows.specs.Terms.{Term}
 use Rattle.cows.specs.Format.{bytes2}
@@ -45,7 +46,7 @@ moveAt l i = readMove (bytesAt l i)
 pub record CanMove (moves : List ℕ) (i : ℕ) (k : Kept) (x y ends slots : List ℕ) : Type 0 where
   pub going : Going x y ends k
   pub inside : i < length moves / 6
-  pub short : length moves ≤ 60000
+  pub short : length moves ≤ maxListBytes
   pub slots-room : 6 * (length moves / 6) ≤ length slots
 
 -- What it gives: the run goes on by the move, its reply stands in its place, and what it counts, added to the tally, is the run's then.
@@ -66,7 +67,7 @@ pub record CanPlay (moves : List ℕ) (n : ℕ) (first : Kept) (x y ends slots :
   pub term : Term
   pub keeps : KeepsRun (start term) x y ends first
   pub all : n ≡ length moves / 6
-  pub short : length moves ≤ 60000
+  pub short : length moves ≤ maxListBytes
   pub slots-room : 6 * (length moves / 6) ≤ length slots
 
 -- The state after i moves: the run of these is kept, their replies are the book's, and c is the tally.
@@ -91,8 +92,8 @@ pub record NightOver (t : Term) (moves x y ends slots after : List ℕ) (r : Mov
 pub record Clear (table ends moves out slots : List ℕ) : Type 0 where
   pub known : Known table ends
   pub ends-room : 2049 < length ends
-  pub short : length moves ≤ 60000
-  pub out-room : 32768 ≤ length out
+  pub short : length moves ≤ maxListBytes
+  pub out-room : maxBytes ≤ length out
   pub slots-room : 6 * (length moves / 6) ≤ length slots
 
 -- A play refused whole.

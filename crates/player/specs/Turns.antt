@@ -7,6 +7,7 @@ use mathlib.Core.Option.{Option, some}
 use Prim.Native.Nat.{ℕ, _*_, _≤_, _<_}
 use lib.Dec.{eqb}
 use lib.ListN.{length, take}
+use Rattle.cows.specs.Limits.{maxBytes, maxRecords}
 use Rattle.cows.specs.Basics.{accept}
 use Rattle.cows.specs.Terms.{Term, size}
 use Rattle.cows.specs.Moves.{Move}
@@ -26,17 +27,17 @@ use Rattle.player.specs.declared.turns.Next.{Next}
 pub record Accepted (s ends : List ℕ) (m : code.Move) : Type 0 where
   pub known : Known s ends
   pub successor : Term
-  pub accepted : stepTerm (known .term) (moveOf m) 32768 ≡ accept successor
+  pub accepted : stepTerm (known .term) (moveOf m) maxBytes ≡ accept successor
 
 -- r is the load that the move copies.
 pub record Copied (s ends : List ℕ) (m : code.Move) (r : ℕ) : Type 0 where
   pub is : (t : Term) → Table s ends t → (v : Move) → moveOf m ≡ some v → r ≡ copies t v
-  pub few : r ≤ 2048
+  pub few : r ≤ maxRecords
 
 -- What the judgement of a move asks: a known table, and a buffer for any successor.
 pub record CanTry (s ends to : List ℕ) : Type 0 where
   pub known : Known s ends
-  pub room : length to ≡ 32768
+  pub room : length to ≡ maxBytes
 
 -- What it gives in the run q: the step's reply and output; and what the move counts, added to the tally, is the tally of the run's next turn.
 pub record Judged (q : RunState) (m : Option Move) (to after : List ℕ) (r : Tried) : Type 0 where
@@ -59,7 +60,7 @@ pub record Turned (q : RunState) (n : ℕ) (from : List ℕ) (m : Option Move) (
   pub replies : r .reply ≡ replyOf (kept q (judgement q m))
   pub counted : sumOf (tallyOf (q .tally)) (r .counts) ≡ tallyOf (turn q m .tally)
   pub few : Small (r .counts) 1
-  pub length-is : length after ≡ 32768
+  pub length-is : length after ≡ maxBytes
   pub stays : r .reply .answer ≢ 0 → Table (held (r .reply .records) from) next (turn q m .table)
   pub goes : r .reply .answer ≡ 0 → Table (held (r .reply .records) after) next (turn q m .table)
 
@@ -67,8 +68,8 @@ pub record Turned (q : RunState) (n : ℕ) (from : List ℕ) (m : Option Move) (
 pub record KeepsRun (q : RunState) (x y ends : List ℕ) (k : Kept) : Type 0 where
   pub table : Table (held (k .records) (cond (k .second) y x)) ends (q .table)
   pub count : k .records ≡ size (q .table)
-  pub first-room : length x ≡ 32768
-  pub second-room : length y ≡ 32768
+  pub first-room : length x ≡ maxBytes
+  pub second-room : length y ≡ maxBytes
   pub ends-room : 2049 < length ends
 
 -- That of some run is.

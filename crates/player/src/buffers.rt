@@ -7,6 +7,7 @@ ghost use mathlib.Core.Path.{_≡_};
 ghost use mathlib.Core.List.{_++_};
 ghost use Prim.Native.Nat.{_+_, _*_, _-_, _≤_, _<_};
 ghost use lib.ListN.{length, take, drop, replicate};
+ghost use Rattle.cows.specs.Limits.{maxBytes, maxRecords};
 ghost use Rattle.records.specs.Rewrites.{put};
 ghost use Rattle.player.specs.Nights.{sixBytes};
 
@@ -34,8 +35,8 @@ fn put_zeros(out: &mut [u8], to: usize, len: usize)
 
 // The table of n records that lies in a buffer, and zeros up to byte 32,768.
 pub fn put_table(from: &[u8], n: usize, out: &mut [u8])
-    requires { ⌜ (16 * n ≤ length (now from)) × (n ≤ 2048) × (32768 ≤ length (now out)) ⌝ }
-    ensures { λ _. ⌜ now (out .exit) ≡ take (16 * n) (now (from .entry)) ++ replicate (32768 - 16 * n) 0 ++ drop 32768 (now (out .entry)) ⌝ }
+    requires { ⌜ (16 * n ≤ length (now from)) × (n ≤ maxRecords) × (maxBytes ≤ length (now out)) ⌝ }
+    ensures { λ _. ⌜ now (out .exit) ≡ take (16 * n) (now (from .entry)) ++ replicate (maxBytes - 16 * n) 0 ++ drop maxBytes (now (out .entry)) ⌝ }
 {
     copy(from, 0, 16 * n, out, 0);
     put_zeros(out, 16 * n, limits::MAX_BYTES - 16 * n);

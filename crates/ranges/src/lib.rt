@@ -13,6 +13,7 @@ ghost use mathlib.Core.Bool.{true};
 ghost use mathlib.Core.Option.{none};
 ghost use Prim.Native.Nat.{ℕ, _+_, _*_, _/_, _<_, _≤_};
 ghost use lib.ListN.{length, getD};
+ghost use Rattle.cows.specs.Limits.{maxRecords};
 ghost use Rattle.cows.specs.Format.{records};
 ghost use Rattle.cows.specs.Tables.{firstWrong};
 ghost use Rattle.records.specs.Answers.{placeOr};
@@ -157,7 +158,7 @@ fn patterns_right(s: &[u8], list: &[u16], m: usize) -> bool
 
 // No variable stands twice in a pattern of the table; the list takes the places of the patterns.
 fn distinct_right(s: &[u8], list: &mut [u16]) -> bool
-    requires { ⌜ (length (now s) / 16 ≤ 2048) × (length (now s) / 16 < length (now list)) ⌝ }
+    requires { ⌜ (length (now s) / 16 ≤ maxRecords) × (length (now s) / 16 < length (now list)) ⌝ }
     ensures { λ r. ⌜ (r ≡ true → (i : ℕ) → i < length (now (s .entry)) / 16 → getD (now (s .entry)) (16 * i) 0 ≡ 3 → patternRight (now (s .entry)) (16 * i) ≡ true) ⌝ }
 {
     let m = places(s, 3, 3, list);
@@ -166,7 +167,7 @@ fn distinct_right(s: &[u8], list: &mut [u16]) -> bool
 
 // Refusal 2 does not apply. A short table takes a short list, since its numbers are cleared first.
 fn records_right(s: &[u8]) -> bool
-    requires { ⌜ length (now s) / 16 ≤ 2048 ⌝ }
+    requires { ⌜ length (now s) / 16 ≤ maxRecords ⌝ }
     ensures { λ r. ⌜ (r ≡ true → firstWrong 0 (records (now (s .entry))) ≡ none) ⌝ }
 {
     if !fields_right(s) {
@@ -197,7 +198,7 @@ fn find_wrong(s: &[u8]) -> usize
 
 // The same, with the quick test first.
 pub fn first_wrong(s: &[u8]) -> usize
-    requires { ⌜ length (now s) / 16 ≤ 2048 ⌝ }
+    requires { ⌜ length (now s) / 16 ≤ maxRecords ⌝ }
     ensures { λ r. ⌜ r ≡ placeOr (length (now (s .entry)) / 16) (firstWrong 0 (records (now (s .entry)))) ⌝ }
 {
     if records_right(s) {

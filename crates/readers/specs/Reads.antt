@@ -6,6 +6,7 @@ use mathlib.Core.Option.{Option, none, some}
 use Prim.Native.Nat.{ℕ, _+_, _*_, _/_, _≤_, _<_}
 use lib.Dec.{leb, ltb}
 use lib.ListN.{length, getD}
+use Rattle.cows.specs.Limits.{maxDepth}
 use Rattle.cows.specs.Basics.{placeIf, orElse}
 use Rattle.cows.specs.Terms.{Join, choice, parallel, Term, leaf, under, both, size}
 use Rattle.cows.specs.Kinds.{childrenOf, guardKind, guard}
@@ -28,9 +29,9 @@ earlierOf n a b = cond (ltb a n) a b
 
 -- the first record that is too deep, in a term whose first record stands at a place and has the depth d
 unfoldable pub deepIn : ℕ → ℕ → Term → Option ℕ
-deepIn d at (leaf x) = placeIf (ltb 256 d) at
-deepIn d at (under u t) = orElse (placeIf (ltb 256 d) at) (deepIn (d + 1) (at + 1) t)
-deepIn d at (both j l r) = orElse (placeIf (ltb 256 d) at) (orElse (deepIn (d + 1) (at + 1) l) (deepIn (d + 1) (at + 1 + size l) r))
+deepIn d at (leaf x) = placeIf (ltb maxDepth d) at
+deepIn d at (under u t) = orElse (placeIf (ltb maxDepth d) at) (deepIn (d + 1) (at + 1) t)
+deepIn d at (both j l r) = orElse (placeIf (ltb maxDepth d) at) (orElse (deepIn (d + 1) (at + 1) l) (deepIn (d + 1) (at + 1 + size l) r))
 
 -- the first fault in a term at a place: the term itself, if it is read as a guard (b) and is none, or a choice's child in it that is none
 abbrev pub chooses : Join → Bool

@@ -5,6 +5,7 @@ mod services;
 ghost use mathlib.Core.Path.{_≡_};
 ghost use Prim.Native.Nat.{_+_, _/_, _<_, _≤_};
 ghost use lib.ListN.{length};
+ghost use Rattle.cows.specs.Limits.{maxRecords};
 ghost use Rattle.readers.specs.Terms.{ReadTo};
 
 pub struct Reader<'a> {
@@ -14,7 +15,7 @@ pub struct Reader<'a> {
 
 // The term at a place: the place behind it, or, past the records, what is wrong with it.
 fn term_at(table: &[u8], ends: &mut [u16], at: usize) -> usize
-    requires { ⌜ (length (now table) / 16 ≤ 2048) × (length (now table) / 16 < length (now ends)) ⌝ }
+    requires { ⌜ (length (now table) / 16 ≤ maxRecords) × (length (now table) / 16 < length (now ends)) ⌝ }
     ensures { λ r. ⌜ ReadTo (now (table .entry)) at (now (ends .entry)) (now (ends .exit)) r ⌝ }
 {
     let n = table.len() / 16;
@@ -35,7 +36,7 @@ pub fn stand<'a>(table: &'a [u8], at: usize) -> Reader<'a>
 
 // The same table, read on over one term.
 pub fn read_term<'a>(r: Reader<'a>, ends: &mut [u16]) -> Reader<'a>
-    requires { ⌜ (length (now (r .table)) / 16 ≤ 2048) × (length (now (r .table)) / 16 < length (now ends)) ⌝ }
+    requires { ⌜ (length (now (r .table)) / 16 ≤ maxRecords) × (length (now (r .table)) / 16 < length (now ends)) ⌝ }
     ensures { λ q. ⌜ (q .table ≡ r .entry .table) × ReadTo (now (r .entry .table)) (r .entry .at) (now (ends .entry)) (now (ends .exit)) (q .at) ⌝ }
 {
     Reader {
@@ -53,7 +54,7 @@ pub fn place<'a>(r: Reader<'a>) -> usize
 
 // From a slice and a place to a reader and back: where it stands behind the term there. Whoever calls it needs no walk.
 pub fn read_on(table: &[u8], ends: &mut [u16], at: usize) -> usize
-    requires { ⌜ (length (now table) / 16 ≤ 2048) × (length (now table) / 16 < length (now ends)) ⌝ }
+    requires { ⌜ (length (now table) / 16 ≤ maxRecords) × (length (now table) / 16 < length (now ends)) ⌝ }
     ensures { λ p. ⌜ ReadTo (now (table .entry)) at (now (ends .entry)) (now (ends .exit)) p ⌝ }
 {
     place(read_term(stand(table, at), ends))

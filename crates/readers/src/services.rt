@@ -7,6 +7,7 @@ ghost use mathlib.Core.Path.{_≡_};
 ghost use mathlib.Core.Bool.{true, false, cond};
 ghost use Prim.Native.Nat.{_+_, _/_, _<_, _≤_};
 ghost use lib.ListN.{length};
+ghost use Rattle.cows.specs.Limits.{maxRecords};
 ghost use Rattle.cows.specs.Kinds.{guardKind};
 ghost use Rattle.readers.specs.Reads.{byGuard, earlierOf, Read};
 ghost use Rattle.readers.specs.Chains.{Chain, FilledWith};
@@ -73,7 +74,7 @@ fn fill(ends: &mut [u16], at: usize, to: usize, end: u16)
 // none was found before. The place behind it, or one past the number of records where they run out, or, two past it and further, the place of the first record
 // that is too deep.
 pub fn service(s: &[u8], ends: &mut [u16], fault: &mut usize, at: usize, depth: usize) -> usize
-    requires { ⌜ (length (now s) / 16 ≤ 2048) × (length (now s) / 16 < length (now ends)) × (now fault ≤ length (now s) / 16) ⌝ }
+    requires { ⌜ (length (now s) / 16 ≤ maxRecords) × (length (now s) / 16 < length (now ends)) × (now fault ≤ length (now s) / 16) ⌝ }
     ensures { λ r. ⌜ Read false (now (s .entry)) at depth (now (ends .entry)) (now (ends .exit)) (now (fault .entry)) (now (fault .exit)) r ⌝ }
 {
     let n = s.len() / 16;
@@ -107,7 +108,7 @@ pub fn service(s: &[u8], ends: &mut [u16], fault: &mut usize, at: usize, depth: 
 // The guard at a place, with the same answers: a choice of two guards, or the service behind a prefix. What is none of these is a fault, if it is no nil, and
 // is read as a service.
 fn guard(s: &[u8], ends: &mut [u16], fault: &mut usize, at: usize, depth: usize) -> usize
-    requires { ⌜ (length (now s) / 16 ≤ 2048) × (length (now s) / 16 < length (now ends)) × (now fault ≤ length (now s) / 16) ⌝ }
+    requires { ⌜ (length (now s) / 16 ≤ maxRecords) × (length (now s) / 16 < length (now ends)) × (now fault ≤ length (now s) / 16) ⌝ }
     ensures { λ r. ⌜ Read true (now (s .entry)) at depth (now (ends .entry)) (now (ends .exit)) (now (fault .entry)) (now (fault .exit)) r ⌝ }
 {
     let n = s.len() / 16;

@@ -4,6 +4,7 @@ use Prim.Native.Nat.{ℕ, _+_}
 use mathlib.Core.Bool.{Bool, true, false, cond, not, _||_}
 use mathlib.Core.List.{List}
 use lib.Dec.{ltb, eqb}
+use Rattle.cows.specs.Limits.{firstLabel, firstVariable}
 use Rattle.cows.specs.Terms.{variable}
 use Rattle.cows.specs.Format.{word}
 use Rattle.records.specs.declared.Variable as variables
@@ -15,8 +16,8 @@ use Rattle.records.specs.declared.Takes.the-variants.{Pair, Nothing}
 unfoldable pub classOf : ℕ → Atom
 classOf n =
     cond (eqb n 0) None
-    (cond (ltb n 32768) (Value (record { 0 = n }))
-    (cond (ltb n 49152) (Variable (record { 0 = n })) (Label (record { 0 = n }))))
+    (cond (ltb n firstVariable) (Value (record { 0 = n }))
+    (cond (ltb n firstLabel) (Variable (record { 0 = n })) (Label (record { 0 = n }))))
 
 -- the number of an atom: that of classOf n is n
 abbrev pub numberOf : Atom → ℕ

@@ -5,6 +5,7 @@ use mathlib.Core.Bool.{cond}
 use mathlib.Core.List.{List}
 use lib.ListN.{length, getD, drop}
 use lib.Dec.{eqb}
+use Rattle.cows.specs.Limits.{maxRecords}
 use Rattle.cows.specs.Kinds.{childrenOf}
 use Rattle.cows.specs.Format.{byte, records}
 use Rattle.cows.specs.Tables.{endOf}
@@ -22,6 +23,6 @@ pickEnd c x a b = cond (eqb c 0) x (cond (eqb c 1) a b)
 
 -- `ends` has the end of the term at each place from i on, and one past the last place behind them.
 pub record EndsFrom (s ends : List ℕ) (i : ℕ) : Type 0 where
-  pub few : length s / 16 ≤ 2048
+  pub few : length s / 16 ≤ maxRecords
   pub room : length s / 16 + 1 < length ends
   pub end : (m : ℕ) → i ≤ m → m ≤ length s / 16 + 1 → getD ends m 0 ≡ endAt s m

@@ -4,6 +4,7 @@ use crate::wide16;
 ghost use mathlib.Core.Path.{_≡_};
 ghost use Prim.Native.Nat.{_+_, _*_, _/_, _<_, _≤_};
 ghost use lib.ListN.{length};
+ghost use Rattle.cows.specs.Limits.{maxRecords};
 ghost use Rattle.records.specs.Ends.{pickEnd, EndsFrom};
 
 // Where the term of a record ends that has c children: at x with none, at a with one, at b with two. A lookup, since branches on the kind are hard to
@@ -18,7 +19,7 @@ fn pick_end(c: usize, x: u16, a: u16, b: u16) -> u16
 
 // The place after the term at each place, from the last to the first; one more than the number of records where the records run out.
 pub fn ends(s: &[u8], out: &mut [u16])
-    requires { ⌜ (length (now s) / 16 ≤ 2048) × (length (now s) / 16 + 1 < length (now out)) ⌝ }
+    requires { ⌜ (length (now s) / 16 ≤ maxRecords) × (length (now s) / 16 + 1 < length (now out)) ⌝ }
     ensures { λ _. ⌜ EndsFrom (now (s .entry)) (now (out .exit)) 0 ⌝ }
 {
     let n = s.len() / 16;

@@ -8,6 +8,7 @@ ghost use mathlib.Core.Path.{_≡_};
 ghost use Prim.Native.Nat.{_+_, _-_, _<_, _≤_};
 ghost use lib.Dec.{eqb};
 ghost use lib.ListN.{length};
+ghost use Rattle.cows.specs.Limits.{firstLabel};
 ghost use Rattle.cows.specs.Kinds.{childrenOf};
 ghost use Rattle.cows.specs.Format.{word};
 ghost use Rattle.records.specs.Atoms.{classOf, numberOf, isVariable, closedAt, takesVariable, imageOf};
@@ -117,8 +118,8 @@ pub fn closed(s: &[u8], k: usize) -> bool
 
 // Which of the labels it is, from 0 on.
 pub fn label_index(k: Label) -> usize
-    requires { ⌜ 49152 ≤ k .0 ⌝ }
-    ensures { λ r. ⌜ (r ≡ k .0 - 49152) × (r < 16384) ⌝ }
+    requires { ⌜ firstLabel ≤ k .0 ⌝ }
+    ensures { λ r. ⌜ (r ≡ k .0 - firstLabel) × (r < 16384) ⌝ }
 {
     wide16(k.0) - 49152
 }

@@ -5,6 +5,7 @@ use mathlib.Core.Bool.{true, false, cond}
 use mathlib.Core.List.{List, [], _∷_}
 use Prim.Native.Nat.{ℕ, zero, suc, _+_, _*_, _≤_, _<_}
 use lib.ListN.{length, getD, set}
+use Rattle.cows.specs.Limits.{firstLabel, firstVariable, maxRecords}
 use Rattle.cows.specs.Basics.{member}
 use Rattle.cows.specs.Terms.{Term, atom, size, atoms, binders}
 use Rattle.cows.specs.Places.{sub}
@@ -38,8 +39,8 @@ setOf a = setNumber (classOf a)
 
 unfoldable pub leastOf : ℕ → ℕ
 leastOf zero = 1
-leastOf (suc zero) = 32768
-leastOf (suc (suc k)) = 49152
+leastOf (suc zero) = firstVariable
+leastOf (suc (suc k)) = firstLabel
 
 -- r is the first place from `from` on that has no name, or behind all names.
 pub record NextFree (names : List ℕ) (from r : ℕ) : Type 0 where
@@ -106,7 +107,7 @@ pub record Body (s : List ℕ) (from to : ℕ) : Type 0 where
   pub term : Term
   pub holds : Holds s term
   pub unique : (a : ℕ) → counts a term ≤ 1
-  pub small : size term ≤ 2048
+  pub small : size term ≤ maxRecords
   pub inside : from < size term
   pub end : to ≡ from + size (sub term from)
   pub ordered : from ≤ to

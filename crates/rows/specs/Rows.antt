@@ -3,6 +3,7 @@ use Prim.Native.Nat.{ℕ, _+_, _*_, _/_, _%_}
 use mathlib.Core.Bool.{Bool, cond, _&&_}
 use mathlib.Core.List.{List}
 use lib.Dec.{leb, ltb, eqb}
+use Rattle.cows.specs.Limits.{firstLabel}
 use Rattle.cows.specs.Terms.{datum}
 use Rattle.cows.specs.Kinds.{unused, data4, Contents, may}
 use Rattle.cows.specs.Format.{word}
@@ -27,5 +28,5 @@ tupleContents top = may (inRange 1 top) (inRange 1 top) data4 unused
 unfoldable pub plainRight : ℕ → ℕ → ℕ → Bool
 plainRight kind low high =
     cond (eqb kind 8) (eqb (low % 65536) 8 && leb 1 (low / 65536) && ltb (low / 65536) 65536 && eqb high 0)
-    (cond (eqb kind 1) (eqb (low % 65536) 1 && leb 49152 (low / 65536) && ltb (low / 65536) 65536 && eqb high 0)
+    (cond (eqb kind 1) (eqb (low % 65536) 1 && leb firstLabel (low / 65536) && ltb (low / 65536) 65536 && eqb high 0)
     (cond (eqb kind 4) (eqb low 4 && eqb (high % 281474976710656) 0) (ltb low 10 && eqb high 0)))

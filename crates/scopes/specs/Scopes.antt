@@ -6,6 +6,7 @@ use mathlib.Core.Option.{Option, none, some}
 use Prim.Native.Nat.{ℕ, suc, _+_, _*_, _/_, _%_, _<_, _≤_}
 use lib.Dec.{ltb, leb, eqb}
 use lib.ListN.{length, getD}
+use Rattle.cows.specs.Limits.{firstVariable, maxRecords}
 use Rattle.cows.specs.Basics.{member, oneIf}
 use Rattle.cows.specs.Terms.{Term, size, value, atom, bindable, binders}
 use Rattle.cows.specs.Places.{wayTo, sub, enclosed}
@@ -83,7 +84,7 @@ pub record PassedTo (s pages marks : List ℕ) (j : ℕ) (t : Term) : Type 0 whe
 
 -- the ends of terms, for every table that holds one
 pub record EndsOf (s ends : List ℕ) : Type 0 where
-  pub few : length s / 16 ≤ 2048
+  pub few : length s / 16 ≤ maxRecords
   pub room : length s / 16 ≤ length ends
   pub small : (j : ℕ) → j < length s / 16 → getD ends j 0 < 65535
   pub right : (t : Term) → Holds s t → (j : ℕ) → j < size t → getD ends j 0 ≡ j + size (sub t j)
@@ -100,7 +101,7 @@ strays t j a = (value a && member a (binders t)) && not (enclosed a (wayTo t j))
 
 -- the same for one atom, by its mark v
 unfoldable pub faultBy : ℕ → ℕ → ℕ → ℕ
-faultBy v a j = cond (ltb (j + 1) v) 0 (cond (leb 32768 a) 2 (cond (eqb v 0) 0 1))
+faultBy v a j = cond (ltb (j + 1) v) 0 (cond (leb firstVariable a) 2 (cond (eqb v 0) 0 1))
 
 -- by the directory, each atom is as bad at place j as p and q say
 pub record Levels (pages marks : List ℕ) (j : ℕ) (p q : ℕ → Bool) : Type 0 where

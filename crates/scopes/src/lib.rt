@@ -10,6 +10,7 @@ ghost use mathlib.Core.Bool.{Bool, true};
 ghost use mathlib.Core.List.{List};
 ghost use Prim.Native.Nat.{ℕ, _+_, _*_, _/_, _<_, _≤_};
 ghost use lib.ListN.{length, getD};
+ghost use Rattle.cows.specs.Limits.{maxRecords};
 ghost use Rattle.cows.specs.Basics.{any, every};
 ghost use Rattle.cows.specs.Terms.{Term, atom};
 ghost use Rattle.cows.specs.Places.{first, spotAt};
@@ -88,7 +89,7 @@ fn enter_all(s: &[u8], pages: &mut [u32], marks: &mut [u16]) -> bool
 
 // The use of a at place j: 0 in order, 1 a delimited value outside, 2 a variable or a label outside.
 fn use_fault(pages: &[u32], marks: &[u16], a: u16, j: usize) -> u8
-    requires { ⌜ Paged (now pages) (now marks) × (j < 2048) ⌝ }
+    requires { ⌜ Paged (now pages) (now marks) × (j < maxRecords) ⌝ }
     ensures { λ r. ⌜ r ≡ faultBy (getD (now (marks .entry)) (directorySlot (now (pages .entry)) a) 0) a j ⌝ }
 {
     let v = wide16(marks[slot_of(pages, a)]);
@@ -109,7 +110,7 @@ fn worse(x: u8, y: u8) -> u8
 
 // The worst use among the tuple's atoms of the record at place j.
 fn tuple_fault(s: &[u8], pages: &[u32], marks: &[u16], j: usize) -> u8
-    requires { ⌜ Paged (now pages) (now marks) × (j < 2048) × (j < length (now s) / 16) ⌝ }
+    requires { ⌜ Paged (now pages) (now marks) × (j < maxRecords) × (j < length (now s) / 16) ⌝ }
     ensures { λ r. ⌜ ((p q : ℕ → Bool) (ws : List ℕ) → Levels (now (pages .entry)) (now (marks .entry)) j p q → TupleAt (now (s .entry)) j ws → every atom ws ≡ true → r ≡ level (any p ws) (any q ws)) ⌝ }
 {
     let c = wide8(s[16 * j + 1]);
@@ -130,7 +131,7 @@ fn tuple_fault(s: &[u8], pages: &[u32], marks: &[u16], j: usize) -> u8
 
 // The worst use of the record at place j.
 fn record_fault(s: &[u8], pages: &[u32], marks: &[u16], j: usize) -> u8
-    requires { ⌜ Paged (now pages) (now marks) × (j < 2048) × (j < length (now s) / 16) ⌝ }
+    requires { ⌜ Paged (now pages) (now marks) × (j < maxRecords) × (j < length (now s) / 16) ⌝ }
     ensures { λ r. ⌜ ((t : Term) → PassedTo (now (s .entry)) (now (pages .entry)) (now (marks .entry)) j t → r ≡ level (unbound j (spotAt t j)) (escaped t j (spotAt t j))) ⌝ }
 {
     let k = s[16 * j];

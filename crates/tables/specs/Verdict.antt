@@ -4,6 +4,7 @@ use mathlib.Core.List.{List, map}
 use mathlib.Core.Option.{none}
 use Prim.Native.Nat.{ℕ, _/_, _%_, _≤_}
 use lib.ListN.{length}
+use Rattle.cows.specs.Limits.{maxBytes}
 use Rattle.cows.specs.Basics.{Result, refuse, accept, _>>=_, _>>_, forbid}
 use Rattle.cows.specs.Terms.{Term, size}
 use Rattle.cows.specs.Places.{first}
@@ -54,7 +55,7 @@ judgeShape b = do
 
 -- the bytes are whole records, not too many, and each is right: refusals 1 and 2 do not apply, but for an empty table
 pub record RightRecords (b : List ℕ) : Type 0 where
-  pub short : length b ≤ 32768
+  pub short : length b ≤ maxBytes
   pub whole : length b % 16 ≡ 0
   pub right : firstWrong 0 (records b) ≡ none
 

@@ -4,6 +4,7 @@ use scopes::Scoping;
 ghost use mathlib.Core.Path.{_≡_};
 ghost use Prim.Native.Nat.{_+_, _/_, _<_, min};
 ghost use lib.ListN.{length};
+ghost use Rattle.cows.specs.Limits.{maxRecords};
 ghost use Rattle.cows.specs.Terms.{Term};
 ghost use Rattle.cows.specs.Tables.{judge};
 ghost use Rattle.records.specs.Holds.{Holds};
@@ -117,7 +118,7 @@ fn judge_records(s: &[u8], ends: &mut [u16]) -> Verdict
 
 // All refusals of a table; `ends` takes the ends of the terms of an accepted one.
 fn judge_table(s: &[u8], ends: &mut [u16]) -> Verdict
-    requires { ⌜ min (length (now s) / 16) 2048 + 1 < length (now ends) ⌝ }
+    requires { ⌜ min (length (now s) / 16) maxRecords + 1 < length (now ends) ⌝ }
     ensures { λ v. ⌜ Checked (now (s .entry)) (now (ends .exit)) (verdictReply v) ⌝ }
 {
     let n = s.len();
@@ -133,7 +134,7 @@ fn judge_table(s: &[u8], ends: &mut [u16]) -> Verdict
 
 // Whether bytes are a well-formed table, as `check` says, with the ends of its terms if it is.
 pub fn check_ends(table: &[u8], ends: &mut [u16]) -> Reply
-    requires { ⌜ min (length (now table) / 16) 2048 + 1 < length (now ends) ⌝ }
+    requires { ⌜ min (length (now table) / 16) maxRecords + 1 < length (now ends) ⌝ }
     ensures { λ r. ⌜ Checked (now (table .entry)) (now (ends .exit)) r ⌝ }
 {
     answer_of(judge_table(table, ends))

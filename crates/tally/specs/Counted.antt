@@ -1,5 +1,6 @@
 -- Tallies as the code has them, and added; that the sums fit, and how far the counts are after so many moves.
 use Prim.Native.Nat.{ℕ, _+_, _*_, _<_, _≤_, _^_}
+use Rattle.cows.specs.Limits.{maxRecords}
 use Rattle.cows.specs.Run as meaning
 use Rattle.tally.specs.declared.Tally.{Tally}
 
@@ -23,4 +24,4 @@ pub record Small (c : Tally) (i : ℕ) : Type 0 where
   pub communications-small : c .communications ≤ i
   pub kills-small : c .kills ≤ i
   pub timeouts-small : c .timeouts ≤ i
-  pub copied-small : c .copied ≤ 2048 * i
+  pub copied-small : c .copied ≤ maxRecords * i

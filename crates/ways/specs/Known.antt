@@ -3,6 +3,7 @@ use mathlib.Core.Path.{_≡_}
 use mathlib.Core.List.{List}
 use Prim.Native.Nat.{ℕ, _+_, _*_, _/_, _≤_, _<_}
 use lib.ListN.{length, getD}
+use Rattle.cows.specs.Limits.{maxRecords}
 use Rattle.cows.specs.Terms.{Term, size}
 use Rattle.cows.specs.Places.{sub}
 use Rattle.cows.specs.Within.{Within}
@@ -20,7 +21,7 @@ pub record Known (s ends : List ℕ) : Type 0 where
   pub term : Term
   pub table : Table s ends term
   pub whole : length s ≡ 16 * (length s / 16)
-  pub few : length s / 16 ≤ 2048
+  pub few : length s / 16 ≤ maxRecords
   pub room : length s / 16 + 1 < length ends
 
 -- the end of the term at each place

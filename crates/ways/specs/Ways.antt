@@ -6,6 +6,7 @@ use mathlib.Core.Option.{Option, none, some}
 use Prim.Native.Nat.{ℕ, _/_, _≤_, _<_}
 use lib.Dec.{ltb, eqb}
 use lib.ListN.{length, getD, take, drop}
+use Rattle.cows.specs.Limits.{maxDepth, maxRecords}
 use Rattle.cows.specs.Terms.{Term, size, depth}
 use Rattle.cows.specs.Kinds.{kindOf}
 use Rattle.cows.specs.Places.{Frame, plug, Way, fill, wayTo, sub, frameDelimits, frameChooses}
@@ -33,10 +34,10 @@ pub record Climbs (t : Term) (a : ℕ) (way : List ℕ) (n : ℕ) : Type 0 where
 pub record Climbable (ends : List ℕ) (a : ℕ) : Type 0 where
   pub term : Term
   pub end : EndPlaces ends term
-  pub shallow : depth term ≤ 256
+  pub shallow : depth term ≤ maxDepth
   pub inside : a < size term
   pub room : a < length ends
-  pub few : a < 2048
+  pub few : a < maxRecords
 
 -- The table s holds t, and the first n numbers of `way` are the places on the way to its place a.
 pub record Walks (s way : List ℕ) (n : ℕ) (t : Term) (a : ℕ) : Type 0 where
@@ -50,7 +51,7 @@ pub record Walk (s way : List ℕ) (n : ℕ) : Type 0 where
   pub place : ℕ
   pub walks : Walks s way n term place
   pub room : n ≤ length way
-  pub short : n < 256
+  pub short : n < maxDepth
   pub small : (k : ℕ) → k < n → getD way k 0 < length s / 16
 
 -- where the whole choice around a place begins, and where the nearest delimitation of an atom on a way stands

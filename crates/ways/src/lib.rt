@@ -10,6 +10,7 @@ use records::wide16;
 ghost use mathlib.Core.Path.{_≡_};
 ghost use Prim.Native.Nat.{ℕ, _+_, _*_, _≤_, _<_};
 ghost use lib.ListN.{length};
+ghost use Rattle.cows.specs.Limits.{maxDepth};
 ghost use Rattle.cows.specs.Terms.{Term, size, delimitsAt};
 ghost use Rattle.cows.specs.Kinds.{liveKind};
 ghost use Rattle.cows.specs.Places.{wayTo, sub};
@@ -22,7 +23,7 @@ ghost use Rattle.ways.specs.Ways.{Climbs, Climbable, Walks, Walk, startO
 
 // The places of the records on the way to place a, the nearest first, and how many there are: those that begin before it and end behind it.
 pub fn climb(ends: &[u16], a: usize, out: &mut [u16]) -> usize
-    requires { ⌜ Climbable (now ends) a × (256 ≤ length (now out)) ⌝ }
+    requires { ⌜ Climbable (now ends) a × (maxDepth ≤ length (now out)) ⌝ }
     ensures { λ n. ⌜ ((t : Term) → EndPlaces (now (ends .entry)) t → a < size t → Climbs t a (now (out .exit)) n) ⌝ }
 {
     let mut n = 0;
@@ -106,7 +107,7 @@ pub fn scope(s: &[u8], way: &[u16], n: usize, atom: Atom) -> Found
 
 // Whether a live record of the kind stands at place a; if so, the records on the way to it are put down in `way`, and their number is the answer.
 pub fn live_at(s: &[u8], ends: &[u16], a: usize, kind: u8, way: &mut [u16]) -> Found
-    requires { ⌜ Known (now s) (now ends) × (length (now way) ≡ 256) ⌝ }
+    requires { ⌜ Known (now s) (now ends) × (length (now way) ≡ maxDepth) ⌝ }
     ensures { λ r. ⌜ ((t : Term) → Table (now (s .entry)) (now (ends .entry)) t → Lives (now (s .entry)) (now (way .exit)) a kind t r) ⌝ }
 {
     if s.len() / 16 <= a {
