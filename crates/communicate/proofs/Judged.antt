@@ -15,7 +15,7 @@ use Rattle.cows.specs.Format.{byte, layout, record16}
 use Rattle.cows.specs.Active.{live, wanted}
 use Rattle.cows.specs.Moves.{Substitution, Matching, binds, differs, closedAction, fit, matched, inScope, heldBack, tighter, silence, continue, bind, communicateAt}
 use Rattle.cows.proofs.Meeting.{fit-fits}
-use Rattle.cows.proofs.Stands.{receives-is, invokes-is, prefixed-is, live-wanted}
+use Rattle.cows.proofs.Stands.{looks, invokes-is, prefixed-is, live-wanted}
 use Rattle.ways.specs.Known.{Table, Known}
 use Rattle.ways.specs.Ways.{startOf, LiveAt, Walk}
 use Rattle.ways.proofs.KnownTables.{table-size, table-ended, live-inside, walk-known}
@@ -36,7 +36,7 @@ use Rattle.communicate.proofs.Left.{Matched, left, accepted-met}
 
 kind-of-receive : (s : Term) (q : Action) → prefixed receives s ≡ some q → kindOf s ≡ 3
 unfolding kindOf root record16 layout byte
-kind-of-receive s q e = ap kindOf (prefixed-is receives receiveOf receives-is s q e)
+kind-of-receive s q e = ap kindOf (prefixed-is receives receiveOf (λ u. looks u .receiving) s q e)
 
 kind-of-invoke : (s : Term) (m : Action) → invokes s ≡ some m → kindOf s ≡ 2
 unfolding kindOf root record16 layout byte

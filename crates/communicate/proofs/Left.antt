@@ -25,7 +25,7 @@ use Rattle.cows.specs.Records.{boundNodes}
 use Rattle.cows.proofs.BoundNodes.{bound-append, bind-nodes, bind-depth, Once, bind-size}
 use Rattle.cows.proofs.Meeting.{fit-fits, matched-binds, inScope-reaches}
 use Rattle.cows.proofs.Preserving.{meeting-binds, scopes-passed}
-use Rattle.cows.proofs.Stands.{right-at, invokes-is, receives-is, prefixed-is, wanted-live}
+use Rattle.cows.proofs.Stands.{right-at, invokes-is, looks, prefixed-is, wanted-live}
 use Rattle.ways.specs.Ways.{startOf}
 use Rattle.plans.proofs.Continuing.{cuts}
 use Rattle.communicate.proofs.Continued.{silence-enclosed, left-nodes, left-size, left-depth}
@@ -145,7 +145,7 @@ accepted-met t r a b w e =
     let (m, em, e₂) = bind-accept (wanted invokes t b) _ r e₁ in
     let (σ, eσ, e₃) = bind-accept (matched a (fit q m)) _ r e₂ in
     let (es, is) = scopes-passed t a b m σ (bind σ (continue (silence t b) a)) r e₃ in
-    let x = wanted-live (prefixed receives) t a q (under (receiveOf q) (below (sub t a))) (prefixed-is receives receiveOf receives-is (sub t a) q) eq in
+    let x = wanted-live (prefixed receives) t a q (under (receiveOf q) (below (sub t a))) (prefixed-is receives receiveOf (λ u. looks u .receiving) (sub t a) q) eq in
     let y = wanted-live invokes t b m _ (invokes-is (sub t b) m) em in
     let h : Matched t a b q m σ =
     record { receiver = x .at .placed; receives = x .at .stands; sender = y .at .placed; invokes = y .at .stands; fits = matched-binds a (fit q m) σ eσ; scopes = es } in

@@ -21,7 +21,7 @@ use Rattle.cows.proofs.Basics.{never, and-true, or-false, or-right, not
 use Rattle.cows.proofs.Renaming.{renaming-renames, renames-unique}
 use Rattle.cows.proofs.Atoms.{few-binders, few-atoms, binders-right}
 use Rattle.cows.proofs.Places.{fill-spot}
-use Rattle.cows.proofs.Stands.{sub-ind, right-at, scoped-at, kills-is, invokes-is, receives-is, waits-is, delimits-is, replicates-is, prefixed-is, wanted-live, live-wanted, first-fails, fails-first, prefixed-stands}
+use Rattle.cows.proofs.Stands.{sub-ind, right-at, scoped-at, kills-is, invokes-is, looks, prefixed-is, wanted-live, live-wanted, first-fails, fails-first, prefixed-stands}
 use Rattle.cows.proofs.Meeting.{fit-fits, fits-fit, matched-binds, inScope-reaches, reaches-inScope, heldBack-unheld, unheld-heldBack, tighter-tightest, tightest-tighter}
 use Rattle.cows.proofs.Scopes.{counts-fill, counts-enclosed}
 use Rattle.cows.proofs.Parts.{part-counts, part-silence, part-continue}
@@ -95,7 +95,7 @@ meets t a b r m σ er em eσ sc hb tg =
       pattern = r .tuple;
       sent = m .tuple;
       body = below (sub t a);
-      receiver = rw (f .partner, f .operation) at (wanted-under receives receiveOf receives-is t a r er);
+      receiver = rw (f .partner, f .operation) at (wanted-under receives receiveOf (λ u. looks u .receiving) t a r er);
       sender = wanted-live invokes t b m _ (invokes-is (sub t b) m) em;
       closed = f .closed;
       matches = f .matches;
@@ -177,7 +177,7 @@ timeout-allows t s a e =
     let (i, ei, e₁) = bind-accept (wanted (prefixed waits) t a) _ s e in
     let (z, e₂) = forbid-accept 16 (placeIf (not (eqb i 0)) a) _ s e₁ in
     let q = eqb-true i 0 (not-false _ (placeIf-none _ a z)) in
-    subst (Allows t (Timeout a)) (same-accept e₂) (timeout-leaves t a (below (sub t a)) (rw q at (wanted-under waits wait waits-is t a i ei)))
+    subst (Allows t (Timeout a)) (same-accept e₂) (timeout-leaves t a (below (sub t a)) (rw q at (wanted-under waits wait (λ u. looks u .waiting) t a i ei)))
 
 allows-timeout : (t : Term) (a : ℕ) (r : Term) (c w : Way) → StandsLive t a (under (wait 0) r) → wayTo t a ≡ c ++ w → Choice c w → timeoutAt t a ≡ accept (fill w r)
 unfolding timeoutAt _>>=_ _>>_ forbid placeIf prefixed waits
@@ -195,7 +195,7 @@ covered-shorter : (t : Term) (d : ℕ) → Covered t d → first (shorter d) t �
 unfolding shorter
 covered-shorter t d h = fails-first (shorter d) t (λ n p e.
     let (l, e₁) = and-true (live (wayTo t n)) _ e in
-    let (i, st, e₂) = prefixed-stands waits wait waits-is (λ i. ltb i d) t n p e₁ in
+    let (i, st, e₂) = prefixed-stands waits wait (λ u. looks u .waiting) (λ i. ltb i d) t n p e₁ in
     omega (arith, ltb-true i d e₂, h n i _ (record { at = st; live = l })))
 
 elapse-allows : (t s : Term) (d : ℕ) → elapseBy t d ≡ accept s → Allows t (Elapse d) s
@@ -231,7 +231,7 @@ unfold-allows : (t s : Term) (a : ℕ) → Within t → unfoldAt t a ≡ accept 
 unfolding unfoldAt
 unfold-allows t s a w e =
     let (i, ei, e₁) = bind-accept (wanted (prefixed replicates) t a) _ s e in
-    let l = wanted-under replicates (λ x. replication) replicates-is t a i ei in
+    let l = wanted-under replicates (λ x. replication) (λ u. looks u .replicating) t a i ei in
     let c = map-replaced (renaming (atoms t) (binders (below (sub t a)))) (below (sub t a)) in
     subst (Allows t (Unfold a)) (sym (unfolded-is t _ _ a _ (l .at .stands) refl c) ∙ same-accept e₁) (by-unfold a _ _ _ l (copy-renames t _ a w (l .at .stands)) c)
 
@@ -275,7 +275,7 @@ extrude-allows t s a e =
     let (d, ed, e₁) = bind-accept (wanted (prefixed delimits) t a) _ s e in
     let (z, e₂) = forbid-accept 18 (placeIf (label d || not (fitting (wayTo t a))) a) _ s e₁ in
     let (h, f) = or-false (label d) (not (fitting (wayTo t a))) (placeIf-none _ a z) in
-    subst (Allows t (Extrude a)) (same-accept e₂) (fitting-allows t a d (wanted-under delimits delimitation delimits-is t a d ed) h (not-false _ f))
+    subst (Allows t (Extrude a)) (same-accept e₂) (fitting-allows t a d (wanted-under delimits delimitation (λ u. looks u .delimiting) t a d ed) h (not-false _ f))
 
 allows-extrude : (t : Term) (a d : ℕ) (s : Term) (f : Frame) (w : Way) → StandsLive t a (under (delimitation d) s) → label d ≡ false → wayTo t a ≡ f ∷ w → Parent f
     → extrudeAt t a ≡ accept (fill w (under (delimitation d) (plug f s)))

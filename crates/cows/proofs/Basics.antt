@@ -11,7 +11,7 @@ use native.Mathlib.Numerals.{add-one}
 use lib.Dec.{ltb, eqb}
 use lib.ListN.{getD, replicate}
 use borrow.Author.Tests.{ltb-true, ltb-false, eqb-true, eq-eqb, eqb-false}
-use Rattle.cows.specs.Basics.{any, every, member, sameList, foundWith, found, only, placeIf, orElse, firstFrom, Result, refuse, accept, _>>=_, _>>_, forbid, need}
+use Rattle.cows.specs.Basics.{any, every, member, foundWith, found, only, placeIf, orElse, firstFrom, Result, refuse, accept, _>>=_, _>>_, forbid, need}
 
 -- a false test proves anything
 pub never : {A : Type 0} → false ≡ true → A
@@ -241,15 +241,6 @@ pub getD-zeros : (n i : ℕ) → _≡_ {A = ℕ} (getD (replicate n 0) i 0) 0
 getD-zeros zero i = refl
 getD-zeros (suc n) zero = refl
 getD-zeros (suc n) (suc i) = getD-zeros n i
-
-pub same-eq : (xs ys : List ℕ) → sameList xs ys ≡ true → xs ≡ ys
-unfolding sameList
-same-eq [] [] e = refl
-same-eq [] (y ∷ ys) e = cc
-same-eq (x ∷ xs) [] e = cc
-same-eq (x ∷ xs) (y ∷ ys) e =
-    let (h, t) = and-true (eqb x y) (sameList xs ys) e in
-    rw (eqb-true x y h, same-eq xs ys t)
 
 pub eqb-swap : (a b : ℕ) → eqb a b ≡ false → eqb b a ≡ false
 eqb-swap a b e = not-so (λ h. never (sym e ∙ eq-eqb a b (sym (eqb-true b a h))))

@@ -20,15 +20,8 @@ use Rattle.cows.proofs.Sets.{value-range, variable-range}
 use Rattle.cows.proofs.Mapping.{counts-at}
 use Rattle.cows.proofs.Parts.{Sound}
 use Rattle.cows.proofs.CommunicateKeeps.{delimits-one, AllBind, sound-instantiate, all-instantiate}
-use Rattle.cows.proofs.Recordwise.{size-map}
+use Rattle.cows.proofs.Recordwise.{of-size, of-depth, map-keeps}
 use Rattle.cows.proofs.Cut.{flatMap-append}
-
--- mapping changes no shape
-pub depth-mapped : (f : ℕ → ℕ) (t : Term) → depth (mapAtoms f t) ≡ depth t
-unfolding depth mapAtoms
-depth-mapped f (leaf x) = refl
-depth-mapped f (under u t) = ap suc (depth-mapped f t)
-depth-mapped f (both j s t) = rw (depth-mapped f s, depth-mapped f t)
 
 -- two lists of records, one behind the other
 pub bound-append : (σ : Substitution) (ms ns : List Node) → boundNodes σ (ms ++ ns) ≡ boundNodes σ ms ++ boundNodes σ ns
@@ -117,14 +110,14 @@ module _ (x v : ℕ) where
   instantiate-size (leaf y) l = refl
   instantiate-size (under u t) l =
       cond-case (λ r. size r + (oneIf (delimitsAtom x u) + counts x t) ≡ suc (size t)) (delimitsAtom x u)
-      (λ e. omega (arith, ap oneIf e, size-map at t)) (λ e. omega (arith, ap oneIf e, instantiate-size t (omega arith)))
+      (λ e. omega (arith, ap oneIf e, map-keeps of-size at t)) (λ e. omega (arith, ap oneIf e, instantiate-size t (omega arith)))
   instantiate-size (both j s t) l = omega (arith, instantiate-size s (omega arith), instantiate-size t (omega arith))
 
   pub instantiate-depth : (t : Term) → depth (instantiate x v t) ≤ depth t
   unfolding instantiate depth
   instantiate-depth (leaf y) = omega arith
   instantiate-depth (under u t) =
-      cond-case (λ r. depth r ≤ suc (depth t)) (delimitsAtom x u) (λ e. omega (arith, depth-mapped at t)) (λ e. omega (arith, instantiate-depth t))
+      cond-case (λ r. depth r ≤ suc (depth t)) (delimitsAtom x u) (λ e. omega (arith, map-keeps of-depth at t)) (λ e. omega (arith, instantiate-depth t))
   instantiate-depth (both j s t) = omega (arith, instantiate-depth s, instantiate-depth t)
 
   -- another atom is delimited as often as before

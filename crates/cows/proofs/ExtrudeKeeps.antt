@@ -10,7 +10,7 @@ use Rattle.cows.specs.Kinds.{guard, guardKind, kind}
 use Rattle.cows.specs.Places.{Frame, plug, Way, fill, wayTo, sub, passed}
 use Rattle.cows.specs.Moves.{fitting, exchange, afterExtrude}
 use Rattle.cows.proofs.Places.{fill-spot}
-use Rattle.cows.proofs.Stands.{delimits-is, prefixed-is}
+use Rattle.cows.proofs.Stands.{looks, prefixed-is}
 use Rattle.cows.proofs.Parts.{Part, whole, outward, fill-part}
 use Rattle.cows.proofs.Rows.{plug-kind, floats-guard}
 
@@ -28,4 +28,4 @@ pub part-extrude : (d : ℕ) (t : Term) (n : ℕ) → prefixed delimits (sub t n
 unfolding afterExtrude below
 part-extrude d t n e h =
     subst (λ s. Part true s (afterExtrude d t n)) (fill-spot t n)
-    (rw (prefixed-is delimits delimitation delimits-is (sub t n) d e) (part-exchange d (below (sub t n)) (wayTo t n) h))
+    (rw (prefixed-is delimits delimitation (λ u. looks u .delimiting) (sub t n) d e) (part-exchange d (below (sub t n)) (wayTo t n) h))

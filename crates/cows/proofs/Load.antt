@@ -14,7 +14,7 @@ use Rattle.cows.specs.Load.{load, shieldedUnder, shieldedBoth, shielded,
 use Rattle.cows.proofs.Basics.{cond-case, cond-case₂}
 use Rattle.cows.proofs.Rows.{mapped-kind, lowered-kind}
 use Rattle.cows.proofs.Places.{fill-spot}
-use Rattle.cows.proofs.Stands.{kills-is, invokes-is, delimits-is, prefixed-is}
+use Rattle.cows.proofs.Stands.{kills-is, invokes-is, looks, prefixed-is}
 use Rattle.cows.proofs.Silence.{silence-prefix}
 
 -- Halting: what it keeps is the load of the protections reached; halting twice is halting once.
@@ -216,7 +216,7 @@ load-unfold t a =
 -- Extrude: nothing changes.
 weighs-delimitation : (s : Term) (d : ℕ) → prefixed delimits s ≡ some d → load s ≡ load (below s)
 unfolding load open-kinds
-weighs-delimitation s d e = ap load (prefixed-is delimits delimitation delimits-is s d e) ∙ omega arith
+weighs-delimitation s d e = ap load (prefixed-is delimits delimitation (λ u. looks u .delimiting) s d e) ∙ omega arith
 
 load-exchange : (d : ℕ) (s : Term) (w : Way) → load (exchange d s w) ≡ loadWay w + load s
 unfolding exchange load open-kinds loadWay

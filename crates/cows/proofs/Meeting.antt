@@ -15,7 +15,7 @@ use Rattle.cows.specs.Active.{ready}
 use Rattle.cows.specs.Moves.{Substitution, Matching, Mismatch, unsetVariable, otherEndpoint, otherCount, otherValue, binds, differs, provided, besides, match, closedAction, fit, matched, outside, inScope, readyKill, heldBack, fewer, tighter}
 use Rattle.cows.specs.Allows.{Stands, Matches, empty, takes, equals, Reaches, AllReach, Unheld, Tightest}
 use Rattle.cows.proofs.Basics.{never, clash, bool-case, and-true, true-and, or-left, or-right, or-second, or-case, found-none, none-found, holds-some, same-accept}
-use Rattle.cows.proofs.Stands.{kills-is, receives-is, delimits-is, prefixed-stands, first-fails, fails-first, first-found, Delimited, member-delimited, delimited-member}
+use Rattle.cows.proofs.Stands.{kills-is, looks, prefixed-stands, first-fails, fails-first, first-found, Delimited, member-delimited, delimited-member}
 
 -- matching
 same-binds : {σ τ : Substitution} → binds σ ≡ binds τ → σ ≡ τ
@@ -107,7 +107,7 @@ nested-outside t v x h =
     none-outside : Delimited v t → not (found (first (outside v x) t)) ≡ true
     none-outside (m, r, k) = ap not (none-found _ (fails-first (outside v x) t (λ n p e.
         let (e₁, e₂) = and-true (foundWith (eqb x) (prefixed delimits (sub t n))) (not (enclosed v (wayTo t n))) e in
-        let (d, st, q) = prefixed-stands delimits delimitation delimits-is (eqb x) t n p e₁ in
+        let (d, st, q) = prefixed-stands delimits delimitation (λ u. looks u .delimiting) (eqb x) t n p e₁ in
         clash (h m n r _ k (subst (λ c. Stands t n (under (delimitation c) (below (sub t n)))) (sym (eqb-true x d q)) st)) (not-true _ e₂))))
 
 inScope-reach : (t : Term) (a b x v : ℕ) → inScope t a b (x, v) ≡ true → Reaches t a b x v
@@ -164,7 +164,7 @@ pub unheld-heldBack : (t : Term) (a b : ℕ) → Unheld t a → Unheld t b → f
 unfolding heldBack
 unheld-heldBack t a b h k = fails-first (heldBack a b) t (λ n p e.
     let (i, e₁) = and-true (encloses n (sub t n) a || encloses n (sub t n) b) _ e in
-    let (d, st, e₂) = prefixed-stands delimits delimitation delimits-is (λ d. found (first (readyKill d) (sub t n))) t n p e₁ in
+    let (d, st, e₂) = prefixed-stands delimits delimitation (λ u. looks u .delimiting) (λ d. found (first (readyKill d) (sub t n))) t n p e₁ in
     or-case ⊥ (encloses n (sub t n) a) (encloses n (sub t n) b) i
     (λ i. clash e₂ (none-found _ (unheld-none t a n d _ h st i)))
     (λ i. clash e₂ (none-found _ (unheld-none t b n d _ k st i))))
@@ -187,7 +187,7 @@ pub tightest-tighter : (t : Term) (m : Action) (l : ℕ) → Tightest t (m .part
 unfolding tighter
 tightest-tighter t m l h = fails-first (tighter m l) t (λ n p e.
     let (rd, e₁) = and-true (ready (wayTo t n)) _ e in
-    let (r, st, e₂) = prefixed-stands receives receiveOf receives-is (λ r. fewer l (fit r m)) t n p e₁ in
+    let (r, st, e₂) = prefixed-stands receives receiveOf (λ u. looks u .receiving) (λ r. fewer l (fit r m)) t n p e₁ in
     let (τ, e₃, k) = fewer-binds l (fit r m) e₂ in
     let f = fit-fits r m τ e₃ in
     omega (arith, h n (r .tuple) (below (sub t n)) τ (record { at = rw (f .partner, f .operation) at st; ready = rd }) (f .matches)))

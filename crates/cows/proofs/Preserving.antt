@@ -15,7 +15,7 @@ use Rattle.cows.specs.Moves.{Substitution, binds, fit, matched, inScope,
 use Rattle.cows.specs.Step.{stepTerm}
 use Rattle.cows.proofs.Basics.{or-false, bind-accept, same-accept, forbid-accept, placeIf-none}
 use Rattle.cows.proofs.Parts.{Sound, part-sound, part-kill, part-silence, part-elapse, part-continue}
-use Rattle.cows.proofs.Stands.{right-at, wanted-is, invokes-is, replicates-is, prefixed-is}
+use Rattle.cows.proofs.Stands.{right-at, wanted-is, invokes-is, looks, prefixed-is}
 use Rattle.cows.proofs.Step.{Accepted, step-accepted}
 use Rattle.cows.proofs.ExtrudeKeeps.{part-extrude}
 use Rattle.cows.proofs.Meeting.{matched-binds}
@@ -67,7 +67,7 @@ sound-unfold : (t s : Term) (a : ℕ) → unfoldAt t a ≡ accept s → size t �
 unfolding unfoldAt
 sound-unfold t s a e small h =
     let (x, ex, e₁) = bind-accept (wanted (prefixed replicates) t a) _ s e in
-    subst Sound (same-accept e₁) (sound-afterUnfold t a (prefixed-is replicates (λ i. replication) replicates-is (sub t a) x (wanted-is (prefixed replicates) t a x ex)) small h)
+    subst Sound (same-accept e₁) (sound-afterUnfold t a (prefixed-is replicates (λ i. replication) (λ u. looks u .replicating) (sub t a) x (wanted-is (prefixed replicates) t a x ex)) small h)
 
 -- A communication: the invoke is silenced, the receive continues, and the pattern's variables are bound. Before they are, the term is sound, and each may take its value in it.
 pub meeting-binds : (t : Term) (a b : ℕ) (r m : Action) (σ : Substitution) → prefixed receives (sub t a) ≡ some r → invokes (sub t b) ≡ some m → fit r m ≡ binds σ

@@ -15,12 +15,12 @@ use Rattle.cows.specs.Tables.{delimitedBefore}
 use Rattle.cows.specs.Records.{reachOf}
 use Rattle.cows.proofs.Basics.{clash, cond-case, bool-case, lt-case, or-left, or-right, or-case, not-so, same-test, found-none, none-found, holds-some, firstFrom-none, none-firstFrom, any-append}
 use Rattle.cows.proofs.Places.{size-pos, descend-way, PartOf, part-inherited, part-first, part-here, spot-part, inherited-spot}
-use Rattle.cows.proofs.Stands.{delimits-is, prefixed-is, member-delimited, delimited-member}
+use Rattle.cows.proofs.Stands.{looks, prefixed-is, member-delimited, delimited-member}
 
 pub delimitsAt-is : (a : ℕ) (s : Term) → delimitsAt a s ≡ true → s ≡ under (delimitation a) (below s)
 delimitsAt-is a s h =
     let (d, e, k) = holds-some (eqb a) (prefixed delimits s) h in
-    prefixed-is delimits delimitation delimits-is s d e ∙ ap (λ i. under (delimitation i) (below s)) (sym (eqb-true a d k))
+    prefixed-is delimits delimitation (λ u. looks u .delimiting) s d e ∙ ap (λ i. under (delimitation i) (below s)) (sym (eqb-true a d k))
 
 pub is-delimitsAt : (a : ℕ) (s c : Term) → s ≡ under (delimitation a) c → delimitsAt a s ≡ true
 unfolding foundWith prefixed delimits

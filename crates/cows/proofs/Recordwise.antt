@@ -10,7 +10,7 @@ use lib.ListN.{getD}
 use lib.Seq.{ext-getD, getD-at}
 use borrow.Author.Tests.{eqb-true, eqb-false, eq-eqb, ne-eqb}
 use Rattle.cows.specs.Basics.{every}
-use Rattle.cows.specs.Terms.{nil, kill, invoke, receive, wait, protection, delimitation, replication, Term, leaf, under, both, size, Join, choice, parallel}
+use Rattle.cows.specs.Terms.{Basic, nil, kill, invoke, Prefix, receive, wait, protection, delimitation, replication, Term, leaf, under, both, size, depth, Join, choice, parallel}
 use Rattle.cows.specs.Kinds.{Node, basic, prefix, join, root, kind, liveKind, open-kinds}
 use Rattle.cows.specs.Places.{inside, leftOf, rightOf, Way, Spot, descend, spotAt, wayTo, sub, passed}
 use Rattle.cows.specs.Format.{nodes, decode}
@@ -91,11 +91,33 @@ rewritten-is (as-delimitation h) = cc (becomes-is h)
 rewritten-is as-replication = refl
 rewritten-is as-join = refl
 
-pub size-map : (f : ℕ → ℕ) (t : Term) → size (mapAtoms f t) ≡ size t
-unfolding size mapAtoms
-size-map f (leaf x) = refl
-size-map f (under u t) = ap suc (size-map f t)
-size-map f (both j s t) = omega (arith, size-map f s, size-map f t)
+-- a number that a term's shape alone gives: its size, its depth
+pub record OfShape (m : Term → ℕ) : Type 0 where
+  pub leaves : (x y : Basic) → m (leaf x) ≡ m (leaf y)
+  pub prefixes : (u v : Prefix) (s t : Term) → m s ≡ m t → m (under u s) ≡ m (under v t)
+  pub joins : (j : Join) (s t s′ t′ : Term) → m s ≡ m s′ → m t ≡ m t′ → m (both j s t) ≡ m (both j s′ t′)
+
+pub of-size : OfShape size
+unfolding size
+of-size = record { leaves = λ x y. refl; prefixes = λ u v s t e. ap suc e; joins = λ j s t s′ t′ e h. rw (e, h) }
+
+pub of-depth : OfShape depth
+unfolding depth
+of-depth = record { leaves = λ x y. refl; prefixes = λ u v s t e. ap suc e; joins = λ j s t s′ t′ e h. rw (e, h) }
+
+-- mapping atoms keeps it, and so does time
+pub map-keeps : {m : Term → ℕ} → OfShape m → (f : ℕ → ℕ) (t : Term) → m (mapAtoms f t) ≡ m t
+unfolding mapAtoms
+map-keeps k f (leaf x) = k .leaves _ x
+map-keeps k f (under u t) = k .prefixes _ u _ t (map-keeps k f t)
+map-keeps k f (both j s t) = k .joins j _ _ s t (map-keeps k f s) (map-keeps k f t)
+
+pub elapse-keeps : {m : Term → ℕ} → OfShape m → (d : ℕ) (t : Term) → m (elapse d t) ≡ m t
+unfolding elapse
+elapse-keeps k d (leaf x) = refl
+elapse-keeps {m} k d (under u t) =
+    k .prefixes _ u _ t (cond-case (λ r. m r ≡ m t) (liveKind (kind (prefix u))) (λ e. elapse-keeps k d t) (λ e. refl))
+elapse-keeps k d (both j s t) = k .joins j _ _ s t (elapse-keeps k d s) (elapse-keeps k d t)
 
 root-map : (f : ℕ → ℕ) (v w : Way) (t : Term) (n : ℕ) → root (descend v (mapAtoms f t) n .here) ≡ mapNode f (root (descend w t n .here))
 unfolding descend mapAtoms root mapNode
@@ -104,7 +126,7 @@ root-map f v w (under u t) zero = refl
 root-map f v w (under u t) (suc n) = root-map f (inside (mapPrefix f u) ∷ v) (inside u ∷ w) t n
 root-map f v w (both j s t) zero = refl
 root-map f v w (both j s t) (suc n) =
-    rw (size-map f s)
+    rw (map-keeps of-size f s)
     (cond-case₂ (λ (x y : Spot). root (x .here) ≡ mapNode f (root (y .here))) (ltb n (size s))
     (λ e. root-map f (leftOf j (mapAtoms f t) ∷ v) (leftOf j t ∷ w) s n) (λ e. root-map f (rightOf j (mapAtoms f s) ∷ v) (rightOf j s ∷ w) t (n - size s)))
 
@@ -113,24 +135,18 @@ unfolding sub spotAt
 root-mapped f t n = root-map f [] [] t n
 
 pub map-replaced : (σ : Substitution) (t : Term) → Replaced σ t (mapAtoms (image σ) t)
-map-replaced σ t = record { count = size-map (image σ) t; records = λ n l. rw (root-mapped (image σ) t n) (rewritten-map σ (root (sub t n))) }
+map-replaced σ t = record { count = map-keeps of-size (image σ) t; records = λ n l. rw (root-mapped (image σ) t n) (rewritten-map σ (root (sub t n))) }
 
 pub replaced-map : (σ : Substitution) (t s : Term) → Replaced σ t s → s ≡ mapAtoms (image σ) t
 replaced-map σ t s h =
-    same-records s (mapAtoms (image σ) t) (h .count ∙ sym (size-map (image σ) t))
-    (λ n l. rewritten-is (h .records n (omega (arith, size-map (image σ) t))) ∙ sym (root-mapped (image σ) t n))
+    same-records s (mapAtoms (image σ) t) (h .count ∙ sym (map-keeps of-size (image σ) t))
+    (λ n l. rewritten-is (h .records n (omega (arith, map-keeps of-size (image σ) t))) ∙ sym (root-mapped (image σ) t n))
 
 -- time
 lowerNode : ℕ → Node → Node
 lowerNode d (basic x) = basic x
 lowerNode d (prefix u) = prefix (lower d u)
 lowerNode d (join j) = join j
-
-pub size-elapse : (d : ℕ) (t : Term) → size (elapse d t) ≡ size t
-unfolding size elapse
-size-elapse d (leaf x) = refl
-size-elapse d (under u t) = ap suc (cond-case (λ r. size r ≡ size t) (liveKind (kind (prefix u))) (λ e. size-elapse d t) (λ e. refl))
-size-elapse d (both j s t) = omega (arith, size-elapse d s, size-elapse d t)
 
 -- a join on the way does not stop it
 join-live : (j : Join) (t : Term) (w : Way) → live w ≡ true → (live (leftOf j t ∷ w) ≡ true) × (live (rightOf j t ∷ w) ≡ true)
@@ -152,7 +168,7 @@ root-elapse d v w h (under u t) (suc n) =
     (λ e. rw (dormant (inside u ∷ w) (unfold live every onKind passed in rw e) t n) (ap root (descend-here (inside (lower d u) ∷ v) (inside u ∷ w) t n)))
 root-elapse d v w h (both j s t) zero = rw h
 root-elapse d v w h (both j s t) (suc n) =
-    rw (size-elapse d s)
+    rw (elapse-keeps of-size d s)
     (cond-case₂ (λ (x y : Spot). root (x .here) ≡ timed d (live (y .way)) (root (y .here))) (ltb n (size s))
     (λ e. root-elapse d (leftOf j (elapse d t) ∷ v) (leftOf j t ∷ w) (join-live j t w h .0) s n)
     (λ e. root-elapse d (rightOf j (elapse d s) ∷ v) (rightOf j s ∷ w) (join-live j s w h .1) t (n - size s)))
@@ -190,15 +206,15 @@ falls-live d t n i r l = rw (root-elapsed d t n, l .live, l .at .stands)
 pub elapse-elapsed : (d : ℕ) (t : Term) → Elapsed d t (elapse d t)
 elapse-elapsed d t =
     record {
-      count = size-elapse d t;
+      count = elapse-keeps of-size d t;
       falls = falls-live d t;
       stays = λ n l h. wait-or-not (root (sub (elapse d t) n) ≡ root (sub t n)) d t n l (λ i r k. absurd (h i r k)) (λ k e. root-elapsed d t n ∙ e);
     }
 
 pub elapsed-elapse : (d : ℕ) (t s : Term) → Elapsed d t s → s ≡ elapse d t
 elapsed-elapse d t s h =
-    same-records s (elapse d t) (h .count ∙ sym (size-elapse d t))
+    same-records s (elapse d t) (h .count ∙ sym (elapse-keeps of-size d t))
     (λ n l.
-    let k : n < size t = omega (arith, size-elapse d t) in
+    let k : n < size t = omega (arith, elapse-keeps of-size d t) in
     wait-or-not (root (sub s n) ≡ root (sub (elapse d t) n)) d t n k
     (λ i r y. h .falls n i r y ∙ sym (falls-live d t n i r y)) (λ y e. h .stays n k y ∙ sym (root-elapsed d t n ∙ e)))

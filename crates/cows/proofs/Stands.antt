@@ -55,43 +55,25 @@ invokes-is (leaf (invoke p o ws)) m e = ap (λ i. leaf (invokeOf i)) (same-some 
 invokes-is (under u t) m e = cc
 invokes-is (both j s t) m e = cc
 
-pub receives-is : (u : Prefix) (r : Action) → receives u ≡ some r → u ≡ receiveOf r
-unfolding receives
-receives-is (receive p o ws) r e = ap receiveOf (same-some e)
-receives-is (wait n) r e = cc
-receives-is protection r e = cc
-receives-is (delimitation d) r e = cc
-receives-is replication r e = cc
+pub record Looks (u : Prefix) : Type 0 where
+  pub receiving : (r : Action) → receives u ≡ some r → u ≡ receiveOf r
+  pub waiting : (n : ℕ) → waits u ≡ some n → u ≡ wait n
+  pub delimiting : (d : ℕ) → delimits u ≡ some d → u ≡ delimitation d
+  pub replicating : (i : Unit {0}) → replicates u ≡ some i → u ≡ replication
 
-pub waits-is : (u : Prefix) (n : ℕ) → waits u ≡ some n → u ≡ wait n
-unfolding waits
-waits-is (receive p o ws) n e = cc
-waits-is (wait i) n e = cc
-waits-is protection n e = cc
-waits-is (delimitation d) n e = cc
-waits-is replication n e = cc
-
-pub delimits-is : (u : Prefix) (d : ℕ) → delimits u ≡ some d → u ≡ delimitation d
-unfolding delimits
-delimits-is (receive p o ws) d e = cc
-delimits-is (wait i) d e = cc
-delimits-is protection d e = cc
-delimits-is (delimitation c) d e = cc
-delimits-is replication d e = cc
+pub looks : (u : Prefix) → Looks u
+unfolding receives waits delimits replicates
+looks (receive p o ws) = record { receiving = λ r e. ap receiveOf (same-some e); waiting = λ n e. cc; delimiting = λ d e. cc; replicating = λ i e. cc }
+looks (wait n) = record { receiving = λ r e. cc; waiting = λ i e. cc; delimiting = λ d e. cc; replicating = λ i e. cc }
+looks protection = record { receiving = λ r e. cc; waiting = λ n e. cc; delimiting = λ d e. cc; replicating = λ i e. cc }
+looks (delimitation c) = record { receiving = λ r e. cc; waiting = λ n e. cc; delimiting = λ d e. cc; replicating = λ i e. cc }
+looks replication = record { receiving = λ r e. cc; waiting = λ n e. cc; delimiting = λ d e. cc; replicating = λ i e. refl }
 
 pub delimits-atom : (d : ℕ) (u : Prefix) → delimitsAtom d u ≡ true → u ≡ delimitation d
 unfolding delimitsAtom
 delimits-atom d u e =
     let (c, is, q) = holds-some (eqb d) (delimits u) e in
-    delimits-is u d (is ∙ ap some (sym (eqb-true d c q)))
-
-pub replicates-is : (u : Prefix) (i : Unit {0}) → replicates u ≡ some i → u ≡ replication
-unfolding replicates
-replicates-is (receive p o ws) i e = cc
-replicates-is (wait n) i e = cc
-replicates-is protection i e = cc
-replicates-is (delimitation d) i e = cc
-replicates-is replication i e = refl
+    looks u .delimiting d (is ∙ ap some (sym (eqb-true d c q)))
 
 pub prefixed-is : {A : Type 0} (f : Prefix → Option A) (g : A → Prefix) → ((u : Prefix) (x : A) → f u ≡ some x → u ≡ g x)
     → (s : Term) (x : A) → prefixed f s ≡ some x → s ≡ under (g x) (below s)
@@ -177,7 +159,7 @@ unfolding binders
 member-delimited v (leaf x) h = never (unfold member any in h)
 member-delimited v (under u t) h =
     or-case (Delimited v (under u t)) (member v (optional (delimits u))) (member v (binders t)) (rw member-append at h)
-    (λ e. (0, t, record { placed = unfold size in omega arith; stands = unfold sub spotAt descend in ap (λ p. under p t) (delimits-is u v (optional-is v (delimits u) e)) }))
+    (λ e. (0, t, record { placed = unfold size in omega arith; stands = unfold sub spotAt descend in ap (λ p. under p t) (looks u .delimiting v (optional-is v (delimits u) e)) }))
     (λ e. let (m, r, k) = member-delimited v t e in (suc m, r, stands-under u t m _ k))
 member-delimited v (both j s t) h =
     or-case (Delimited v (both j s t)) (member v (binders s)) (member v (binders t)) (rw member-append at h)

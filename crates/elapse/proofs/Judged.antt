@@ -1,24 +1,24 @@
 -- Elapse (specs/Moves, elapseBy) as it is judged and written.
-use mathlib.Core.Path.{_≡_, refl, sym, ap, _∙_}
+use mathlib.Core.Path.{_≡_, sym, ap, _∙_}
 use mathlib.Core.Logic.{_≢_}
-use mathlib.Core.Bool.{Bool, true, false, cond}
-use mathlib.Core.List.{List, [], append-nil}
-use Prim.Native.Nat.{ℕ, suc, _/_}
+use mathlib.Core.List.{List}
+use Prim.Native.Nat.{ℕ, _/_}
 use native.Mathlib.Omega.{arith}
 use lib.ListN.{length}
 use borrow.Author.Tests.{ne-eqb}
 use Rattle.cows.specs.Basics.{placeIf, refuse, accept, _>>_, forbid}
-use Rattle.cows.specs.Terms.{Term, leaf, under, both, size, depth}
+use Rattle.cows.specs.Terms.{Term, size}
 use Rattle.cows.specs.Places.{first}
 use Rattle.cows.specs.Format.{encode}
 use Rattle.cows.specs.Moves.{elapse, shorter, elapseBy}
 use Rattle.cows.proofs.Basics.{forbid-accept, same-accept}
 use Rattle.cows.proofs.Format.{length-encode}
-use Rattle.cows.proofs.Recordwise.{size-elapse}
+use Rattle.cows.proofs.Recordwise.{of-size, of-depth, elapse-keeps}
 use Rattle.records.specs.Answers.{foundOf}
 use Rattle.records.specs.Rewrites.{put, StandsIn, Rewritable, Rewrites}
 use Rattle.records.specs.declared.Found.{Found}
 use Rattle.records.specs.declared.Found.the-variants.{At, Nothing}
+use Rattle.records.proofs.StandsIn.{whole-stands}
 use Rattle.records.proofs.Rewrites.{ready}
 use Rattle.rewriting.specs.Aligned.{Aligned}
 use Rattle.records.proofs.Laws.{found-at, found-nothing}
@@ -28,18 +28,6 @@ use Rattle.plans.specs.declared.Judgement.the-variants.{Allowed}
 use Rattle.plans.specs.declared.Plan.{Plan}
 use Rattle.plans.specs.Plans.{Planned, Asks}
 use Rattle.plans.proofs.Planning.{within-limits, planned-allowed}
-use Rattle.cows.specs.Kinds.{prefix, kind, liveKind}
-
--- time changes no record's place
-depth-elapse : (d : ℕ) (t : Term) → depth (elapse d t) ≡ depth t
-unfolding elapse depth
-depth-elapse d (leaf x) = refl
-depth-elapse d (under u t) = ap suc (go (liveKind (kind (prefix u))) (depth-elapse d t))
-  where
-    go : (b : Bool) → depth (elapse d t) ≡ depth t → depth (cond b (elapse d t) t) ≡ depth t
-    go true e = e
-    go false e = refl
-depth-elapse d (both j s t) = rw (depth-elapse d s, depth-elapse d t)
 
 pub no-time : (t : Term) (d : ℕ) → d ≡ 0 → elapseBy t d ≡ refuse 17 0
 unfolding elapseBy _>>_ forbid placeIf
@@ -58,8 +46,8 @@ module _ (t : Term) (d : ℕ) (some-time : d ≢ 0) (f : Found) (e : f ≡ found
   pub elapse-planned : (s ends : List ℕ) → Table s ends t → f ≡ Nothing → (r : Plan) → r .judgement ≡ Allowed (length s / 16) → r .from ≡ 0 → Planned (elapseBy t d) 0 r
   elapse-planned s ends h x r j q =
       planned-allowed r (elapse d t) (length s / 16) j (elapses x)
-      (within-limits (elapse d t) (omega (arith, size-elapse d t, h .within .small)) (omega (arith, depth-elapse d t, h .within .shallow)))
-      (table-size s ends t h ∙ sym (size-elapse d t)) q
+      (within-limits (elapse d t) (omega (arith, elapse-keeps of-size d t, h .within .small)) (omega (arith, elapse-keeps of-depth d t, h .within .shallow)))
+      (table-size s ends t h ∙ sym (elapse-keeps of-size d t)) q
 
 -- what writing an allowed move asks and gives
 module _ (s ends : List ℕ) (d : ℕ) (out : List ℕ) (q : Asks (λ t. elapseBy t d) (λ t. 0) s ends 0 out) where
@@ -71,7 +59,7 @@ module _ (s ends : List ℕ) (d : ℕ) (out : List ℕ) (q : Asks (λ t. elapseB
   elapsed = same-accept (forbid-accept 17 _ _ _ (forbid-accept 17 _ _ _ (q .accepted) .1) .1)
 
   root-stands : StandsIn s 0 t
-  root-stands = record { rest = []; is = q .known .table .holds .is ∙ sym (append-nil (encode t)) }
+  root-stands = whole-stands t (q .known .table .holds .is)
 
   pub elapse-asks : Rewritable (elapse d) s 0 out 0 × Aligned s ends 0
   elapse-asks = (

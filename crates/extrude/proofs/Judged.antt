@@ -24,7 +24,7 @@ use Rattle.cows.specs.Records.{At, opens, closes, ahead, behind}
 use Rattle.cows.proofs.Places.{size-pos, fill-spot, spot-left, spot-right}
 use Rattle.cows.proofs.Format.{length-nodes, length-bytes, length-encode}
 use Rattle.cows.proofs.Fields.{record-at, append-bytes, kind-delimitation, first-delimitation}
-use Rattle.cows.proofs.Stands.{right-at, delimits-is, prefixed-is, wanted-is, wanted-live, live-wanted}
+use Rattle.cows.proofs.Stands.{right-at, looks, prefixed-is, wanted-is, wanted-live, live-wanted}
 use Rattle.cows.proofs.Ways.{length-ahead, take-ahead, drop-here, encode-plug, encode-fill, above-at, depth-part, depth-most, size-frame, size-swap}
 use Rattle.records.specs.Rewrites.{StandsIn}
 use Rattle.records.proofs.StandsIn.{encode-under, holds-kind, holds-word, holds-stands}
@@ -224,7 +224,7 @@ class-label d h =
 
 kind-of-delimitation : (s : Term) (d : ℕ) → prefixed delimits s ≡ some d → kindOf s ≡ 8
 unfolding kindOf root
-kind-of-delimitation s d e = ap kindOf (prefixed-is delimits delimitation delimits-is s d e)
+kind-of-delimitation s d e = ap kindOf (prefixed-is delimits delimitation (λ u. looks u .delimiting) s d e)
 
 pub no-delimitation : (t : Term) (a : ℕ) → (ltb a (size t) && live (wayTo t a) && eqb (kindOf (sub t a)) 8) ≡ false → extrudeAt t a ≡ refuse 11 a
 unfolding extrudeAt _>>=_
@@ -313,7 +313,7 @@ allowed-lift t a r e =
     let z = or-false (label d) (not (fitting (wayTo t a))) (placeIf-none _ a f) .1 in (
       d,
       wanted-live (prefixed delimits) t a d (sub t a) (λ y. refl) w .at .placed,
-      prefixed-is delimits delimitation delimits-is (sub t a) d (wanted-is (prefixed delimits) t a d w),
+      prefixed-is delimits delimitation (λ u. looks u .delimiting) (sub t a) d (wanted-is (prefixed delimits) t a d w),
       not-false _ z,
       same-accept (sym g),
     )

@@ -13,7 +13,7 @@ use Rattle.cows.specs.Kinds.{root, kindOf}
 use Rattle.cows.specs.Places.{sub}
 use Rattle.cows.specs.Format.{byte, layout, record16}
 use Rattle.cows.specs.Moves.{Matching, binds, differs, fit, fewer}
-use Rattle.cows.proofs.Stands.{receives-is, prefixed-is}
+use Rattle.cows.proofs.Stands.{looks, prefixed-is}
 use Rattle.records.specs.Holds.{Holds}
 use Rattle.records.proofs.StandsIn.{holds-kind}
 use Rattle.matching.specs.declared.Fit.{Fit}
@@ -42,7 +42,7 @@ module _ (s : List ℕ) (t : Term) (i l : ℕ) (m : Action) (h : Holds s t) (p :
     where
       go : (o : Option Action) → prefixed receives (sub t i) ≡ o → false ≡ foundWith (λ q. fewer l (fit q m)) o
       go none x = refl
-      go (some q) x = absurd (e (holds-kind s t i h p ∙ ap kindOf (prefixed-is receives receiveOf receives-is (sub t i) q x)))
+      go (some q) x = absurd (e (holds-kind s t i h p ∙ ap kindOf (prefixed-is receives receiveOf (λ u. looks u .receiving) (sub t i) q x)))
 
   module _ (e : getD s (16 * i) 0 ≡ 3) where
     receiving : (q : Action) × ActionAt s i q × (prefixed receives (sub t i) ≡ some q)

@@ -18,7 +18,7 @@ use Rattle.cows.specs.Tables.{unbound, escaped, again, delimitedBefore, clash}
 use Rattle.cows.proofs.Basics.{clash as refute, bool-case, and-true, or-case, or-false, not-so, holds-some, none-firstFrom, eq-case}
 use Rattle.cows.proofs.Sets.{variable-range, label-range}
 use Rattle.cows.proofs.Places.{spot-under}
-use Rattle.cows.proofs.Stands.{delimits-is, prefixed-is, member-delimited}
+use Rattle.cows.proofs.Stands.{looks, prefixed-is, member-delimited}
 use Rattle.cows.specs.Records.{reachOf}
 use Rattle.cows.proofs.Reach.{delimitsAt-is, is-delimitsAt, reach-some, reaches-enclosed, before-reach}
 use Rattle.records.specs.Holds.{Holds}
@@ -121,7 +121,7 @@ module _ (s ends pages marks : List ℕ) (t : Term) (h : Holds s t) (e : EndsOf 
       (λ x.
       let (d, y, k) = holds-some (delimitedBefore t j) (prefixed delimits (sub t j)) x in
       let (q, m, z, w) = reach-some t d j 0 (ltb-true 0 (reachOf t d j) (sym (before-reach t d j) ∙ k)) in
-      let a = entry-of d j (below (sub t j)) (place-inside s t j h l) (prefixed-is delimits delimitation delimits-is (sub t j) d y) in
+      let a = entry-of d j (below (sub t j)) (place-inside s t j h l) (prefixed-is delimits delimitation (λ u. looks u .delimiting) (sub t j) d y) in
       let b = entry-of d q (below (sub t q)) (omega (arith, place-inside s t j h l)) (delimitsAt-is d (sub t q) z) in
       omega arith)
 

@@ -2,7 +2,7 @@
 use mathlib.Core.Path.{_≡_, refl, sym, ap, subst, _∙_}
 use mathlib.Core.Logic.{_≢_}
 use mathlib.Core.Bool.{_&&_}
-use mathlib.Core.List.{List, [], append-nil}
+use mathlib.Core.List.{List}
 use Prim.Native.Nat.{ℕ, zero, suc, _+_, _*_, _-_, _/_, _≤_, _<_}
 use native.Mathlib.Omega.{arith}
 use native.Mathlib.Numerals.{add-one}
@@ -19,7 +19,7 @@ use Rattle.cows.proofs.Places.{spot-fits, spot-under}
 use Rattle.cows.proofs.Format.{length-encode}
 use Rattle.records.specs.Holds.{Holds}
 use Rattle.records.specs.Rewrites.{StandsIn}
-use Rattle.records.proofs.StandsIn.{stands-kind, stands-under, stands-left, stands-right, holds-stands, holds-size}
+use Rattle.records.proofs.StandsIn.{whole-stands, stands-kind, stands-under, stands-left, stands-right, holds-stands, holds-size}
 use Rattle.ways.specs.Known.{Table, Known}
 use Rattle.ways.proofs.KnownTables.{table-size, table-ended}
 use Rattle.tables.specs.declared.Reply.{Reply}
@@ -90,15 +90,12 @@ unfolding loadBetween
 load-stands s i j t h e = let z : j - i ≡ size t = omega arith in rw z (stands-load s i t h)
 
 -- a term's own table: so its load is at most the number of its records
-whole-stands : (t : Term) → StandsIn (encode t) 0 t
-whole-stands t = record { rest = []; is = sym (append-nil (encode t)) }
-
 pub load-size : (t : Term) → load t ≤ size t
-load-size t = omega (arith, few-from (encode t) 0 (size t), stands-load (encode t) 0 t (whole-stands t))
+load-size t = omega (arith, few-from (encode t) 0 (size t), stands-load (encode t) 0 t (whole-stands t refl))
 
 -- a table that holds a term; what stands behind the prefix at place a
 pub holds-load : (s : List ℕ) (t : Term) → Holds s t → loadBetween s 0 (length s / 16) ≡ load t
-holds-load s t h = load-stands s 0 (length s / 16) t (rw (h .is) (whole-stands t)) (omega (arith, holds-size s t h))
+holds-load s t h = load-stands s 0 (length s / 16) t (whole-stands t (h .is)) (omega (arith, holds-size s t h))
 
 module _ (s ends : List ℕ) (t : Term) (h : Table s ends t) where
   pub table-load : loadBetween s 0 (length s / 16) ≡ load t

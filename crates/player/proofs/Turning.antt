@@ -25,7 +25,7 @@ use Rattle.cows.specs.Load.{load, copies}
 use Rattle.cows.specs.Run.{noTally, sum, adds, RunState, judgement, enter, turn, kept}
 use Rattle.cows.proofs.Basics.{bind-accept, same-some}
 use Rattle.cows.proofs.Format.{length-encode}
-use Rattle.cows.proofs.Stands.{replicates-is, prefixed-is, wanted-live}
+use Rattle.cows.proofs.Stands.{looks, prefixed-is, wanted-live}
 use Rattle.cows.proofs.Step as steps
 use Rattle.cows.proofs.Bounds.{step-from-one}
 use Rattle.cows.proofs.Preserving.{step-within}
@@ -66,7 +66,7 @@ unfold-live : (t s : Term) (a : ℕ) → unfoldAt t a ≡ accept s → StandsLiv
 unfolding unfoldAt
 unfold-live t s a e =
     let (x, ex, es) = bind-accept (wanted (prefixed replicates) t a) _ s e in
-    wanted-live (prefixed replicates) t a x (under replication (below (sub t a))) (prefixed-is replicates (λ _. replication) replicates-is (sub t a) x) ex
+    wanted-live (prefixed replicates) t a x (under replication (below (sub t a))) (prefixed-is replicates (λ _. replication) (λ u. looks u .replicating) (sub t a) x) ex
 
 module _ (s ends : List ℕ) {m : code.Move} (h : Accepted s ends m) {a : ℕ} (unfolds : m ≡ Unfold a) where
   accepted-unfolds : StandsLive (h .known .term) a (under replication (below (sub (h .known .term) a)))

@@ -2,7 +2,7 @@
 use mathlib.Core.Path.{_≡_, refl, sym, ap, subst, _∙_}
 use mathlib.Core.Logic.{_≢_, _↔_}
 use mathlib.Core.Bool.{Bool, true, false, cond, not}
-use mathlib.Core.List.{List, [], append-nil}
+use mathlib.Core.List.{List}
 use mathlib.Core.Option.{Option, none, some}
 use Prim.Native.Nat.{ℕ, _+_, _-_, _*_, _/_, _≤_, _<_}
 use native.Mathlib.Omega.{arith}
@@ -12,7 +12,6 @@ use borrow.Author.Tests.{lt-ltb, le-ltb}
 use Rattle.cows.specs.Basics.{placeIf, orElse}
 use Rattle.cows.specs.Terms.{Basic, Prefix, Join, choice, parallel, Term, leaf, under, both, size, below}
 use Rattle.cows.specs.Kinds.{guard, kindOf, childrenOf, guardKind}
-use Rattle.cows.specs.Format.{encode}
 use Rattle.cows.specs.Places.{first}
 use Rattle.cows.specs.Tables.{tooDeep, noGuard}
 use Rattle.cows.proofs.Basics.{same-some, orElse-none}
@@ -24,7 +23,7 @@ use Rattle.records.specs.Answers.{placeOr}
 use Rattle.records.specs.Rewrites.{StandsIn}
 use Rattle.records.specs.Holds.{Holds}
 use Rattle.records.proofs.Laws.{place-tells}
-use Rattle.records.proofs.StandsIn.{holds-size, stands-kind, stands-fits, stands-under, stands-left, stands-right}
+use Rattle.records.proofs.StandsIn.{whole-stands, holds-size, stands-kind, stands-fits, stands-under, stands-left, stands-right}
 use Rattle.readers.proofs.Searches.{deep-first, fault-first, fault-below}
 use Rattle.readers.specs.Reads.{Reading, earlierOf, deepIn, chooses, faultIn, nextOf, About, Reads}
 
@@ -204,7 +203,7 @@ next-tells n m (some q) e = (omega arith, (λ h. cc, λ h. absurd (omega arith))
 pub reads-tells : (s : List ℕ) (t : Term) (r : Reading) → Holds s t → Reads false s 0 1 r → Tells t r
 reads-tells s t r h x =
     let e = holds-size s t h in
-    let a = x .right t (rw (h .is) (record { rest = []; is = sym (append-nil (encode t)) })) in
+    let a = x .right t (whole-stands t (h .is)) in
     let n = rw (e, deep-first t, zero-add) at (a .next) in
     let (whole, shallow, deep) = next-tells (size t) (r .next) (first tooDeep t) n in
     let f : first tooDeep t ≡ none → r .fault ≡ placeOr (size t) (first noGuard t) = λ z. rw (e, fault-first t) at (a .fault (deep-first t ∙ z)) in

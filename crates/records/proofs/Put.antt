@@ -6,7 +6,7 @@ use native.Mathlib.Omega.{arith}
 use native.Mathlib.Nat.{add-zero}
 use native.Mathlib.Numerals.{add-one}
 use lib.ListN.{length, take, drop, getD, set, length-append, length-drop, List·getD-append}
-use lib.Seq.{sets, length-sets, drop-drop, drop-at, take-at, take-suc, getD-drop, getD-set-other, length-take-le}
+use lib.Seq.{sets, length-sets, drop-drop, drop-at, take-at, take-suc, getD-drop, length-take-le}
 use Rattle.records.specs.Rewrites.{put, Has}
 
 pub length-put : (d : List ℕ) (i : ℕ) (bs : List ℕ) → length (put d i bs) ≡ length d
@@ -29,17 +29,6 @@ unfolding put
 put-more d j xs i h =
     put-put d j (j + i) (take i xs) (getD xs i 0 ∷ []) (omega (arith, length-take-le i xs (omega arith)))
     ∙ ap (sets d j) (let e : take (i + 1) xs ≡ take i xs ++ (getD xs i 0 ∷ []) = rw add-one (take-suc xs i 0 h) in sym e)
-
--- the bytes before a write and behind it stay as they were
-pub put-before : (d : List ℕ) (i : ℕ) (bs : List ℕ) (n : ℕ) → n < i → getD (put d i bs) n 0 ≡ getD d n 0
-unfolding put
-put-before d i [] n h = refl
-put-before d i (x ∷ bs) n h = put-before (set d i x) (suc i) bs n (omega arith) ∙ getD-set-other d i n x 0 (omega arith)
-
-pub put-behind : (d : List ℕ) (i : ℕ) (bs : List ℕ) (n : ℕ) → i + length bs ≤ n → getD (put d i bs) n 0 ≡ getD d n 0
-unfolding put
-put-behind d i [] n h = refl
-put-behind d i (x ∷ bs) n h = put-behind (set d i x) (suc i) bs n (omega arith) ∙ getD-set-other d i n x 0 (omega arith)
 
 -- The parts of bytes that stand in s from byte i on.
 module _ {s : List ℕ} {i : ℕ} where

@@ -1,6 +1,6 @@
 -- Terms that stand at a byte of a table (specs/Rewrites): their first record, their children, their places in a table that holds a term.
-use mathlib.Core.Path.{_≡_, refl, ap, subst, _∙_}
-use mathlib.Core.List.{List, _++_, append-nil, flatMap}
+use mathlib.Core.Path.{_≡_, refl, sym, ap, subst, _∙_}
+use mathlib.Core.List.{List, [], _++_, append-nil, flatMap}
 use Prim.Native.Nat.{ℕ, _+_, _*_, _/_, _≤_, _<_}
 use native.Mathlib.Omega.{arith}
 use lib.ListN.{length, take, drop, getD}
@@ -31,6 +31,10 @@ encode-both j s t = ap (λ l. record16 (join j) ++ l) (append-bytes (nodes s) (n
 
 pub long : (t : Term) → 16 ≤ length (encode t)
 long t = omega (arith, length-encode t, size-pos t)
+
+-- A term whose table s is stands at its first byte.
+pub whole-stands : {s : List ℕ} (t : Term) → s ≡ encode t → StandsIn s 0 t
+whole-stands t e = record { rest = []; is = e ∙ sym (append-nil (encode t)) }
 
 -- A term at byte i of s.
 module _ {s : List ℕ} {i : ℕ} where

@@ -12,7 +12,7 @@ use borrow.Author.Tests.{eqb-true, eq-eqb, ne-eqb}
 use Rattle.cows.specs.Basics.{any, every, member}
 use Rattle.cows.specs.Terms.{Basic, nil, kill, invoke, Prefix, receive, wait, protection, delimitation, replication, Join, choice, parallel, Term, leaf, under, both, value, variable, label, datum, atom, size, delimits, usesBasic, usesPrefix, optional, atoms}
 use Rattle.cows.specs.Kinds.{basic, prefix, join}
-use Rattle.cows.specs.Format.{word, nodes, layout, record16, slots, encode}
+use Rattle.cows.specs.Format.{word, nodes, layout, record16, slots}
 use Rattle.cows.specs.Within.{RightBasic, RightPrefix, Right}
 use Rattle.cows.proofs.Basics.{never, and-true, true-and, or-left, or-right, or-case, member-append, every-append, eq-case}
 use Rattle.cows.proofs.Records.{small-atom}
@@ -20,8 +20,8 @@ use Rattle.cows.proofs.Format.{length-encode}
 use Rattle.cows.proofs.Fields.{layout-first, layout-second, layout-slot}
 use Rattle.cows.proofs.Cut.{flatMap-append}
 use Rattle.records.specs.Holds.{Holds}
-use Rattle.records.specs.Rewrites.{StandsIn}
 use Rattle.records.proofs.Pieces.{piece, word-piece}
+use Rattle.records.proofs.StandsIn.{whole-stands}
 use Rattle.renaming.specs.Mapped.{across}
 use Rattle.renaming.specs.Names.{fields, entered, Marks}
 use Rattle.renaming.proofs.Across.{across-next, across-end, across-term}
@@ -195,16 +195,13 @@ marks-entered l taken ws all m small same = record {
 -- What the whole table marks: its term's atoms.
 pub marked-term : (s : List ℕ) (t : Term) → Holds s t → (l taken : List ℕ) → Marks l taken → Marks (entered l (across fields s 0 (length s / 16))) (atoms t ++ taken)
 marked-term s t h l taken m =
-    rw (n, across-term fields (λ r. fields (record16 r)) (λ r. refl) s 0 t stands) (marks-entered l taken (atoms t) all m small same)
+    rw (n, across-term fields (λ r. fields (record16 r)) (λ r. refl) s 0 t (whole-stands t (h .is))) (marks-entered l taken (atoms t) all m small same)
   where
     all : List ℕ
     all = flatMap (λ r. fields (record16 r)) (nodes t)
 
     n : length s / 16 ≡ size t
     n = omega (arith, ap length (h .is) ∙ length-encode t)
-
-    stands : StandsIn s (16 * 0) t
-    stands = record { rest = []; is = h .is ∙ sym (append-nil (encode t)) }
 
     same : (b : ℕ) → b ≢ 0 → member b all ≡ member b (atoms t)
     same b z = member-fields b (ne-eqb b 0 z) t (h .right)

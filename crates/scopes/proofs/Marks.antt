@@ -15,7 +15,7 @@ use Rattle.cows.specs.Format.{byte, layout, record16}
 use Rattle.cows.specs.Tables.{delimitedBefore, again}
 use Rattle.cows.proofs.Basics.{lt-case}
 use Rattle.cows.proofs.Places.{size-pos}
-use Rattle.cows.proofs.Stands.{delimits-is, prefixed-is, delimited-member}
+use Rattle.cows.proofs.Stands.{looks, prefixed-is, delimited-member}
 use Rattle.cows.specs.Records.{reachOf}
 use Rattle.cows.proofs.Reach.{is-delimitsAt, before-reach, binders-reach}
 use Rattle.scopes.specs.Scopes.{enteredOf, markOf}
@@ -25,7 +25,7 @@ no-delimits s h = go (prefixed delimits s) refl
   where
     go : (o : Option ℕ) → prefixed delimits s ≡ o → o ≡ none
     go none e = refl
-    go (some d) e = absurd (h (ap kindOf (prefixed-is delimits delimitation delimits-is s d e) ∙ (unfold kindOf root record16 layout byte in refl)))
+    go (some d) e = absurd (h (ap kindOf (prefixed-is delimits delimitation (λ u. looks u .delimiting) s d e) ∙ (unfold kindOf root record16 layout byte in refl)))
 
 two : (r : ℕ) → leb 2 (suc r) ≡ ltb 0 r
 two r = lt-case (leb 2 (suc r) ≡ ltb 0 r) 0 r (λ h. rw (le-leb 2 (suc r) (omega arith), lt-ltb 0 r h)) (λ h. rw (lt-leb 2 (suc r) (omega arith), le-ltb 0 r h))

@@ -18,7 +18,7 @@ use Rattle.cows.specs.Active.{live, wanted}
 use Rattle.cows.specs.Moves.{continue, timeoutAt}
 use Rattle.cows.proofs.Basics.{bind-accept, forbid-accept, same-accept}
 use Rattle.cows.proofs.Fields.{kind-wait, interval-wait}
-use Rattle.cows.proofs.Stands.{waits-is, prefixed-is, wanted-is, wanted-live, live-wanted}
+use Rattle.cows.proofs.Stands.{looks, prefixed-is, wanted-is, wanted-live, live-wanted}
 use Rattle.records.proofs.StandsIn.{holds-word}
 use Rattle.ways.specs.Known.{Table}
 use Rattle.ways.specs.Ways.{startOf, LiveAt}
@@ -31,7 +31,7 @@ use Rattle.plans.proofs.Continuing.{continue-limits, span, left-size, cut-room,
 
 kind-of-wait : (s : Term) (n : ℕ) → prefixed waits s ≡ some n → kindOf s ≡ 4
 unfolding kindOf root record16 layout byte
-kind-of-wait s n e = ap kindOf (prefixed-is waits wait waits-is s n e)
+kind-of-wait s n e = ap kindOf (prefixed-is waits wait (λ u. looks u .waiting) s n e)
 
 pub no-wait : (t : Term) (a : ℕ) → (ltb a (size t) && live (wayTo t a) && eqb (kindOf (sub t a)) 4) ≡ false → timeoutAt t a ≡ refuse 11 a
 unfolding timeoutAt _>>=_
@@ -79,7 +79,7 @@ unfolding timeoutAt
 allowed-wait t a r e =
     let (i, w, k) = bind-accept (wanted (prefixed waits) t a) _ r e in
     let (f, g) = forbid-accept 16 _ _ r k in
-    let v = prefixed-is waits wait waits-is (sub t a) i (wanted-is (prefixed waits) t a i w) in
+    let v = prefixed-is waits wait (λ u. looks u .waiting) (sub t a) i (wanted-is (prefixed waits) t a i w) in
     (i, wanted-live (prefixed waits) t a i (sub t a) (λ z. refl) w .at .placed, v, same-accept (sym g))
 
 -- so what writing asks is what cutting asks, and what is cut out is the successor

@@ -25,9 +25,8 @@ use Rattle.cows.proofs.Places.{size-pos, fill-spot, spot-fits, spot-under}
 use Rattle.cows.proofs.Format.{length-encode}
 use Rattle.cows.proofs.Fields.{table-at, kind-is}
 use Rattle.cows.proofs.Ways.{encode-replaced, depth-part, depth-most, size-swap}
-use Rattle.cows.proofs.Stands.{replicates-is, prefixed-is, wanted-is, wanted-live, live-wanted}
-use Rattle.cows.proofs.Recordwise.{size-map}
-use Rattle.cows.proofs.BoundNodes.{depth-mapped}
+use Rattle.cows.proofs.Stands.{looks, prefixed-is, wanted-is, wanted-live, live-wanted}
+use Rattle.cows.proofs.Recordwise.{OfShape, of-size, of-depth, map-keeps}
 use Rattle.records.specs.Rewrites.{put, StandsIn}
 use Rattle.records.proofs.Put.{and-then}
 use Rattle.records.proofs.StandsIn.{encode-both, holds-stands}
@@ -45,13 +44,9 @@ use Rattle.plans.specs.Plans.{Planned, Asks}
 use Rattle.plans.proofs.Planning.{within-limits, planned-allowed, planned-large, absent}
 
 -- a copy has as many records as the body, and is as deep
-size-copy : (t s : Term) → size (copy t s) ≡ size s
+copy-keeps : {m : Term → ℕ} → OfShape m → (t s : Term) → m (copy t s) ≡ m s
 unfolding freshCopy
-size-copy t s = size-map _ s
-
-depth-copy : (t s : Term) → depth (copy t s) ≡ depth s
-unfolding freshCopy
-depth-copy t s = depth-mapped _ s
+copy-keeps k t s = map-keeps k _ s
 
 -- The successor: its records, its depth and its bytes.
 module _ (t : Term) (a : ℕ) (l : a < size t) (e : sub t a ≡ under replication (below (sub t a))) where
@@ -67,11 +62,11 @@ module _ (t : Term) (a : ℕ) (l : a < size t) (e : sub t a ≡ under replicatio
 
   size-new : size new ≡ size (sub t a) + size (sub t a)
   unfolding size
-  size-new = omega (arith, size-copy t body, size-body)
+  size-new = omega (arith, copy-keeps of-size t body, size-body)
 
   depth-new : depth new ≡ 1 + depth (sub t a)
   unfolding depth
-  depth-new = let b : depth (sub t a) ≡ suc (depth body) = ap depth e in omega (arith, depth-copy t body)
+  depth-new = let b : depth (sub t a) ≡ suc (depth body) = ap depth e in omega (arith, copy-keeps of-depth t body)
 
   pub unfold-size : size (afterUnfold t a) ≡ size t + size (sub t a)
   unfolding afterUnfold
@@ -102,7 +97,7 @@ module _ (t : Term) (a : ℕ) (l : a < size t) (e : sub t a ≡ under replicatio
 -- 11: no live replication
 kind-of-replication : (s : Term) (i : Unit {0}) → prefixed replicates s ≡ some i → kindOf s ≡ 9
 unfolding kindOf root record16 layout byte
-kind-of-replication s i e = ap kindOf (prefixed-is replicates (λ j. replication) replicates-is s i e)
+kind-of-replication s i e = ap kindOf (prefixed-is replicates (λ j. replication) (λ u. looks u .replicating) s i e)
 
 pub no-replication : (t : Term) (a : ℕ) → (ltb a (size t) && live (wayTo t a) && eqb (kindOf (sub t a)) 9) ≡ false → unfoldAt t a ≡ refuse 11 a
 unfolding unfoldAt _>>=_
@@ -176,7 +171,7 @@ pub allowed-replication : (t : Term) (a : ℕ) (r : Term) → unfoldAt t a ≡ a
 unfolding unfoldAt
 allowed-replication t a r e =
     let (i, w, k) = bind-accept (wanted (prefixed replicates) t a) _ r e in
-    let v = prefixed-is replicates (λ j. replication) replicates-is (sub t a) i (wanted-is (prefixed replicates) t a i w) in
+    let v = prefixed-is replicates (λ j. replication) (λ u. looks u .replicating) (sub t a) i (wanted-is (prefixed replicates) t a i w) in
     (wanted-live (prefixed replicates) t a i (sub t a) (λ z. refl) w .at .placed, v, same-accept (sym k))
 
 -- What writing asks of the numbers: the body ends at place `end`, and there is room for what stands ahead of the replication, the parallel, the copy, and the rest.
@@ -216,7 +211,7 @@ module _ (s ends : List ℕ) (a : ℕ) (out : List ℕ) (q : Asks (λ t. unfoldA
       let o = asks-opens end z in
       let h = q .known .table in
       let c = encode (copy t (sub t (a + 1))) in
-      let n : length c ≡ 16 * (end - (a + 1)) = omega (arith, length-encode (copy t (sub t (a + 1))), size-copy t (sub t (a + 1)), ap size (body-at t a l e .1), size-body t a l e, table-ended s ends t h a l) in
+      let n : length c ≡ 16 * (end - (a + 1)) = omega (arith, length-encode (copy t (sub t (a + 1))), copy-keeps of-size t (sub t (a + 1)), ap size (body-at t a l e .1), size-body t a l e, table-ended s ends t h a l) in
       let u : take (length s - 16 * a) (drop (16 * a) s) ≡ drop (16 * a) s = take-all (length s - 16 * a) (drop (16 * a) s) (omega (arith, length-drop (16 * a) s)) in
       let b : encode (q .successor) ≡ take (16 * a) s ++ (record16 (join parallel) ++ (c ++ drop (16 * a) s)) = ap encode r ∙ (unfold-bytes t a l e ∙ rw (← h .holds .is)) in
       rw b
