@@ -7,7 +7,7 @@
  *
  * A reply is one number: see the three functions below. Answer 0 is accepted: place 0, and the number of records.
  * Any other answer is a refusal, with 0 records and untouched buffers. The lowest number that applies is given,
- * then the lowest place. Places count records from 0.
+ * then the lowest place. Places count records from 0, but that of 22.
  *
  *   the table's author
  *    1  no bytes, over 32,768, or not a multiple of 16                                  place 0
@@ -36,6 +36,8 @@
  *   20  the successor has over 2,048 records or a depth over 256                        place 0
  *   21  a step's output is shorter than the successor; a play's is shorter than
  *       32,768 bytes, or its replies than 6 bytes for each move                         place 0
+ *   the lender of the list of open moves
+ *   22  the list is shorter than 6 bytes for each of them                               their number
  */
 #ifndef WIGANDOY_H
 #define WIGANDOY_H
@@ -63,7 +65,7 @@ enum {
     WIGANDOY_NO_GUARD = 5, WIGANDOY_OUT_OF_SCOPE = 6, WIGANDOY_CLASH = 7,
     WIGANDOY_NO_MOVE = 10, WIGANDOY_ABSENT = 11, WIGANDOY_DIFFERS = 12, WIGANDOY_APART = 13, WIGANDOY_HELD_BACK = 14,
     WIGANDOY_LOOSER = 15, WIGANDOY_UNRIPE = 16, WIGANDOY_TOO_EARLY = 17, WIGANDOY_STUCK = 18, WIGANDOY_LIST_TOO_LONG = 19,
-    WIGANDOY_TOO_LARGE = 20, WIGANDOY_NO_ROOM = 21
+    WIGANDOY_TOO_LARGE = 20, WIGANDOY_NO_ROOM = 21, WIGANDOY_LIST_TOO_SHORT = 22
 };
 
 /* The bytes that the output of a play must hold. */
@@ -75,6 +77,7 @@ enum {
 #define WIGANDOY_STACK_CHECK 196608 /* check and load */
 #define WIGANDOY_STACK_STEP 262144
 #define WIGANDOY_STACK_PLAY 327680
+#define WIGANDOY_STACK_OPEN 196608
 
 /* Whether bytes are a well-formed table: refusals 1 to 7, or 0 and its records. */
 uint64_t wigandoy_check(const uint8_t *table, size_t bytes);
@@ -94,6 +97,12 @@ uint64_t wigandoy_step(const uint8_t *table, size_t bytes, const uint8_t *move, 
  * unfoldings copied, of the accepted moves; zeros if the play was refused. */
 uint64_t wigandoy_play(const uint8_t *table, size_t bytes, const uint8_t *moves, size_t length, uint8_t *out, size_t room,
                        uint8_t *replies, size_t space, uint32_t tally[4]);
+
+/* What can happen now: every move but time that a step on the table would accept with an output of 32,768 bytes, in this order:
+ * kills by a, communications by a then b, timeouts by a, unfoldings by a, extrusions by a. Refusals 1 to 7 and 22; or 0 and the
+ * number of moves in place of the records (it may pass 65,535, and is 0 where nothing can happen), with the moves, six bytes
+ * each, from the list's start; the bytes behind them stay as they were. */
+uint64_t wigandoy_open(const uint8_t *table, size_t bytes, uint8_t *list, size_t room);
 
 /* The parts of a reply. */
 static inline unsigned wigandoy_answer(uint64_t reply) { return (unsigned)(reply & 0xff); }

@@ -11,7 +11,7 @@
 enum { STACK = 4 << 20, PAINT = 0xa5 };
 
 static uint8_t *stack;
-static uint8_t table[32768], out[32768], replies[60000], moves[60000];
+static uint8_t table[32768], out[32768], replies[60000], moves[60000], opened[60000];
 static size_t bytes, list, above;
 
 /* A record at the end of the table. */
@@ -93,11 +93,13 @@ static void wide_night(void) {
 
 static uint64_t reply;
 static uint8_t *move_at;
+static size_t room;
 static uint32_t tally[4];
 static ucontext_t back, there;
 
 static void call_check(void) { reply = wigandoy_check(table, bytes); }
 static void call_load(void) { reply = wigandoy_load(table, bytes); }
+static void call_open(void) { reply = wigandoy_open(table, bytes, opened, room); }
 static void call_step(void) { reply = wigandoy_step(table, bytes, move_at, 6, out, sizeof out); }
 static void call_play(void) { reply = wigandoy_play(table, bytes, moves, list, out, sizeof out, replies, sizeof replies, tally); }
 
@@ -123,14 +125,18 @@ static void clash(void) {
     table[16 * above + 3] = 0;
 }
 
-static size_t check, load, step, play;
+static size_t check, load, step, play, open;
 
-/* Every function on a table and its list; whether check and each step have the answer. */
+/* Every function on a table and its list, open with room and without; whether check, open and each step have the answer. */
 static int measured(unsigned answer) {
     int right = 1;
     check = most(check, taken(call_check));
     right &= wigandoy_answer(reply) == answer;
     load = most(load, taken(call_load));
+    for (room = 0; room <= sizeof opened; room += sizeof opened) {
+        open = most(open, taken(call_open));
+        right &= wigandoy_answer(reply) == (answer == WIGANDOY_ACCEPTED && room == 0 ? WIGANDOY_LIST_TOO_SHORT : answer);
+    }
     for (move_at = moves; move_at < moves + list; move_at += 6) {
         step = most(step, taken(call_step));
         right &= wigandoy_answer(reply) == answer;
@@ -152,6 +158,7 @@ int main(void) {
         printf("stack: a table or a move has another answer than this program is made for\n");
         return 1;
     }
-    printf("stack: check %zu, load %zu, step %zu, play %zu bytes\n", check, load, step, play);
-    return check > WIGANDOY_STACK_CHECK || load > WIGANDOY_STACK_CHECK || step > WIGANDOY_STACK_STEP || play > WIGANDOY_STACK_PLAY;
+    printf("stack: check %zu, load %zu, open %zu, step %zu, play %zu bytes\n", check, load, open, step, play);
+    return check > WIGANDOY_STACK_CHECK || load > WIGANDOY_STACK_CHECK || open > WIGANDOY_STACK_OPEN || step > WIGANDOY_STACK_STEP ||
+           play > WIGANDOY_STACK_PLAY;
 }

@@ -1,6 +1,7 @@
 // The library beside the independent implementation: one case, compared byte by byte, and what was reached.
 use crate::bytes;
 use crate::library;
+use crate::lists::Listed;
 use crate::reference;
 use crate::reply::Reply;
 
@@ -79,12 +80,16 @@ pub fn check(table: &[u8]) -> Outcome {
     Outcome { ours, theirs, successor: vec![], same_output: same_load, input_kept: lent == table }
 }
 
+/// A reply in words.
+pub fn said(r: &Reply) -> String {
+    format!("{} at {}, {} records", r.answer, r.place, r.records)
+}
+
 /// A case and the two answers, for the reader.
 pub fn describe(case: &Case) -> String {
     let outcome = step(case);
     let (checked, expected) = (library::check(&case.table), reference::check(&case.table));
     let (loaded, weighed) = (library::load(&case.table), reference::load(&case.table));
-    let said = |r: &Reply| format!("{} at {}, {} records", r.answer, r.place, r.records);
     format!(
         "  table ({} records): {}\n  move {:?}, room {}\n  step: library {}; independent {}; output {}\n  check: library {}; independent {}\n  load: library {}; independent {}",
         case.table.len() / 16,
@@ -110,6 +115,7 @@ pub struct Reached {
     pub checks: u64,
     pub plays: u64,
     pub played: u64,
+    pub listed: Listed,
 }
 
 impl Reached {
@@ -128,6 +134,12 @@ impl Reached {
     pub fn check(&mut self, reply: &Reply) {
         self.checks += 1;
         self.answers[reply.answer as usize] += 1;
+    }
+
+    /// A list of open moves in a buffer of so many bytes.
+    pub fn list(&mut self, room: usize, reply: &Reply) {
+        self.answers[reply.answer as usize] += 1;
+        self.listed.list(room, reply);
     }
 
     /// A list of so many moves.

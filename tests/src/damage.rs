@@ -1,8 +1,9 @@
-// Damage: single bytes changed, random bytes, every length, and outputs of every length.
+// Damage: single bytes changed, random bytes, every length, and outputs and lists of every length.
 use crate::bytes;
 use crate::compare::{Case, Reached};
 use crate::differ::{compare_check, compare_step};
 use crate::generate;
+use crate::lists;
 use crate::nights::Fault;
 use crate::papers::{self, Paper};
 use crate::plays;
@@ -56,6 +57,7 @@ fn single_bytes(extent: Extent, reached: &mut Reached) -> Result<(), Fault> {
             let mut changed = table.clone();
             changed[at] ^= change;
             compare_check(&changed, reached)?;
+            lists::compare(&changed, reached)?;
             compare_step(Case { room: table.len() + 48, table: changed, m: m.clone() }, reached)?;
         }
         for (at, change) in changes(6, extent) {
@@ -82,6 +84,7 @@ fn random_bytes(random: &mut Random, extent: Extent, reached: &mut Reached) -> R
         let length = random.below(13);
         let m = random.bytes(length);
         compare_check(&table, reached)?;
+        lists::compare(&table, reached)?;
         compare_step(Case { room: random.below(400), table, m }, reached)?;
     }
     Ok(())
@@ -96,6 +99,7 @@ fn lengths(random: &mut Random, extent: Extent, reached: &mut Reached) -> Result
         cut.resize(length, 0);
         for table in [vec![0; length], random.bytes(length), cut] {
             compare_check(&table, reached)?;
+            lists::compare(&table, reached)?;
             compare_step(Case { table, m: bytes::a_move(3, 1, 0).to_vec(), room: 64 }, reached)?;
         }
     }
@@ -110,9 +114,11 @@ fn limits(reached: &mut Reached) -> Result<(), Fault> {
     for levels in 254..=258 {
         let chain = (0..levels).fold(bytes::nil(), |t, _| bytes::protection(t));
         compare_check(&chain, reached)?;
+        lists::compare(&chain, reached)?;
     }
     for records in [2_046, 2_047, 2_048, 2_049] {
         compare_check(&full(records), reached)?;
+        lists::compare(&full(records), reached)?;
         compare_step(Case { table: full(records), m: bytes::a_move(3, 1, 0).to_vec(), room: 32_768 }, reached)?;
     }
     for count in 0..=6 {
@@ -141,7 +147,8 @@ fn full(records: usize) -> Vec<u8> {
     rows.remove(0)
 }
 
-/// Outputs of every length from 0 to the successor's and 32 more, for the papers' moves and some drawn ones.
+/// Outputs of every length from 0 to the successor's and 32 more, for the papers' moves and some drawn ones; and the lists of open moves in rooms of every
+/// length.
 fn outputs(random: &mut Random, extent: Extent, reached: &mut Reached) -> Result<(), Fault> {
     let mut cases: Vec<(Vec<u8>, Vec<u8>)> = all_papers().iter().map(|p| (p.table.clone(), first_move(p))).collect();
     for _ in 0..60 / extent.stride(6) {
@@ -150,6 +157,7 @@ fn outputs(random: &mut Random, extent: Extent, reached: &mut Reached) -> Result
         cases.push((table, m));
     }
     for (table, m) in cases {
+        lists::compare_lengths(&table, extent.stride(5), reached)?;
         let mut out = vec![0; 32_768];
         let records = crate::library::step(&table, &m, &mut out).records;
         for room in (0..=16 * records + 32).step_by(extent.stride(5)) {

@@ -1,6 +1,7 @@
 // The differential trial: generated cases through the library and the independent implementation.
 use crate::compare::{self, Case, Reached};
 use crate::generate;
+use crate::lists;
 use crate::nights::{self, Fault};
 use crate::papers::{self, Paper};
 use crate::plays;
@@ -14,9 +15,10 @@ pub struct Found {
     pub words: String,
 }
 
-/// Every n-th case is a night of hundreds of moves, every n-th a large table, every n-th a short play with buffers of any length.
+/// Every n-th case is a night of hundreds of moves, every n-th a large table, every n-th a gathering, every n-th a short play with buffers of any length.
 const NIGHTS: u64 = 400;
 const LARGE: u64 = 90;
+const GATHERINGS: u64 = 43;
 const PLAYS: u64 = 31;
 
 /// The papers, then so many generated cases; the first disagreement stops it.
@@ -24,19 +26,27 @@ pub fn run(seed: u64, cases: u64, reached: &mut Reached) -> Result<(), Found> {
     for paper in papers::nights().iter().chain(&papers::further()) {
         run_paper(paper, reached).map_err(|fault| found(0, fault))?;
     }
-    generated(seed, cases, reached)
+    lists::longest(reached).map_err(|fault| found(0, fault))?;
+    generated(seed, cases, Lists::Compared, reached)
+}
+
+/// Whether the list of open moves of each table is compared too.
+#[derive(Clone, Copy, PartialEq, Eq)]
+pub enum Lists {
+    Compared,
+    LeftOut,
 }
 
 /// The generated cases; the number of a case and the seed give it again.
-pub fn generated(seed: u64, cases: u64, reached: &mut Reached) -> Result<(), Found> {
+pub fn generated(seed: u64, cases: u64, lists: Lists, reached: &mut Reached) -> Result<(), Found> {
     for case in 1..=cases {
         let mut random = Random::new(seed.wrapping_mul(1_000_003).wrapping_add(case));
-        run_case(&mut random, case, reached).map_err(|fault| found(case, fault))?;
+        run_case(&mut random, case, lists, reached).map_err(|fault| found(case, fault))?;
     }
     Ok(())
 }
 
-fn run_case(random: &mut Random, case: u64, reached: &mut Reached) -> Result<(), Fault> {
+fn run_case(random: &mut Random, case: u64, lists: Lists, reached: &mut Reached) -> Result<(), Fault> {
     if case % NIGHTS == 0 {
         return run_night(random, reached);
     }
@@ -45,6 +55,9 @@ fn run_case(random: &mut Random, case: u64, reached: &mut Reached) -> Result<(),
     }
     let table = draw_table(random, case);
     compare_check(&table, reached)?;
+    if lists == Lists::Compared {
+        lists::compare(&table, reached)?;
+    }
     let large = case % LARGE == 0 && random.chance(50);
     let m = if large { generate::a_large_move(random, &table) } else { generate::any_move(random, &table) };
     let room = draw_room(random, &table);
@@ -55,6 +68,9 @@ fn draw_table(random: &mut Random, case: u64) -> Vec<u8> {
     let records = random.pick(&[3, 6, 10, 16, 24, 40]);
     if case % LARGE == 0 {
         return generate::large(random);
+    }
+    if case % GATHERINGS == 0 {
+        return generate::gathering(random);
     }
     if random.chance(25) {
         return generate::damaged(random, records);
@@ -123,6 +139,7 @@ fn run_paper(paper: &Paper, reached: &mut Reached) -> Result<(), Fault> {
 /// Each move of a list compared on the tables that the library leaves.
 fn compare_moves(table: &[u8], list: &[u8], reached: &mut Reached) -> Result<(), Fault> {
     compare_check(table, reached)?;
+    lists::compare(table, reached)?;
     let mut now = table.to_vec();
     for m in list.chunks_exact(6) {
         let case = Case { table: now.clone(), m: m.to_vec(), room: 32_768 };
@@ -139,8 +156,12 @@ fn compare_moves(table: &[u8], list: &[u8], reached: &mut Reached) -> Result<(),
 pub fn found(case: u64, fault: Fault) -> Found {
     match fault {
         Fault::Step(first) => {
-            let small = shrink::shrink(first);
+            let small = shrink::shrink(first, shrink::differ);
             Found { case, records: small.table.len() / 16, words: compare::describe(&small) }
+        }
+        Fault::Open(table) => {
+            let small = shrink::shrink(Case { table, m: vec![], room: 0 }, |case| lists::differ(&case.table));
+            Found { case, records: small.table.len() / 16, words: lists::describe(&small.table) }
         }
         Fault::List { table, moves, what } => {
             let (table, moves) = shorter(table, moves);

@@ -13,6 +13,8 @@ pub struct Seen {
     pub accepted: u64,
     pub refused: u64,
     pub kills: u64,
+    pub listed: u64,
+    pub lists: u64,
 }
 
 /// Random nights, each law tried at each move; the first that fails is put into words.
@@ -25,6 +27,9 @@ pub fn run(seed: u64, count: u64) -> Result<Seen, String> {
         let moves = random.between(100, 400);
         one_night(&mut random, table, moves, &mut seen)?;
         seen.nights += 1;
+        if night % 10 == 0 {
+            whole_list(&generate::large(&mut random), &mut seen)?;
+        }
     }
     Ok(seen)
 }
@@ -62,10 +67,16 @@ fn one_move(now: Vec<u8>, m: &[u8], tally: &mut Tally, seen: &mut Seen) -> Resul
     let mut out = before.clone();
     let reply = library::step(&now, m, &mut out);
     law(library::step(&now, m, &mut before.clone()) == reply, "the same bytes, the same reply", &now, m)?;
+    let list = open_list(&now)?;
+    let listed = list.chunks_exact(6).any(|l| l == m);
+    law(listed == (reply.answer == 0 && m[0] != 3), "a move is listed exactly if it is accepted and no time", &now, m)?;
     if reply.answer != 0 {
         seen.refused += 1;
         law(out == before && reply.records == 0, "a refusal changes nothing", &now, m)?;
         return Ok(now);
+    }
+    if seen.accepted % 8 == 0 {
+        each_accepted(&now, &list, seen)?;
     }
     seen.accepted += 1;
     let next = out[..16 * reply.records].to_vec();
@@ -75,6 +86,47 @@ fn one_move(now: Vec<u8>, m: &[u8], tally: &mut Tally, seen: &mut Seen) -> Resul
     nights::tally(tally, &now, m);
     of_kind(&now, &next, m, seen)?;
     Ok(next)
+}
+
+/// The list of open moves: an empty buffer gives their number, and six bytes for each are room enough.
+fn open_list(now: &[u8]) -> Result<Vec<u8>, String> {
+    let asked = library::open(now, &mut []);
+    let mut list = vec![0; 6 * asked.place];
+    let number = Reply { answer: 0, place: 0, records: asked.place };
+    law(asked.answer == if asked.place == 0 { 0 } else { 22 } && asked.records == 0, "an empty buffer gives the number of moves", now, &[])?;
+    law(library::open(now, &mut list) == number, "six bytes for each open move are enough", now, &[])?;
+    Ok(list)
+}
+
+/// Step accepts each move of a list; kind, a and b go up from one to the next, so that the order is the request's and none stands twice.
+fn each_accepted(now: &[u8], list: &[u8], seen: &mut Seen) -> Result<(), String> {
+    let mut out = vec![0; 32_768];
+    let numbers = |m: &[u8]| (m[0], bytes::word(m, 2), bytes::word(m, 4));
+    seen.lists += 1;
+    for (i, m) in list.chunks_exact(6).enumerate() {
+        seen.listed += 1;
+        law(m[0] != 3 && library::step(now, m, &mut out).answer == 0, "a listed move is accepted", now, m)?;
+        law(i == 0 || numbers(&list[6 * i - 6..]) < numbers(m), "each listed move once, in the order of kind, a and b", now, m)?;
+    }
+    Ok(())
+}
+
+/// A table at the limits, if it is well formed: what step accepts of its kills, timeouts, unfoldings and extrusions is listed, and nothing else is.
+fn whole_list(table: &[u8], seen: &mut Seen) -> Result<(), String> {
+    if library::check(table).answer != 0 {
+        return Ok(());
+    }
+    let list = open_list(table)?;
+    each_accepted(table, &list, seen)?;
+    let mut out = vec![0; 32_768];
+    for (kind, record) in [(0, 1), (2, 4), (4, 9), (5, 8)] {
+        for a in bytes::places_of(table, record) {
+            let m = bytes::a_move(kind, a, 0);
+            let accepted = library::step(table, &m, &mut out).answer == 0;
+            law(accepted == list.chunks_exact(6).any(|l| l == m), "a move is listed exactly if it is accepted", table, &m)?;
+        }
+    }
+    Ok(())
 }
 
 /// What each kind of move does to the records.

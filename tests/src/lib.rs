@@ -6,6 +6,7 @@ pub mod differ;
 pub mod generate;
 pub mod laws;
 pub mod library;
+pub mod lists;
 pub mod nights;
 pub mod papers;
 pub mod planted;

@@ -6,6 +6,7 @@ mod raw {
         pub fn wigandoy_check(table: *const u8, bytes: usize) -> u64;
         pub fn wigandoy_step(table: *const u8, bytes: usize, m: *const u8, length: usize, out: *mut u8, room: usize) -> u64;
         pub fn wigandoy_load(table: *const u8, bytes: usize) -> u64;
+        pub fn wigandoy_open(table: *const u8, bytes: usize, list: *mut u8, room: usize) -> u64;
         pub fn wigandoy_play(
             table: *const u8,
             bytes: usize,
@@ -41,6 +42,12 @@ pub fn step(table: &[u8], m: &[u8], out: &mut [u8]) -> Reply {
 pub fn load(table: &[u8]) -> Reply {
     // SAFETY: pointer and length are those of a slice, which is only read.
     unpack(unsafe { raw::wigandoy_load(table.as_ptr(), table.len()) })
+}
+
+/// The open moves of a table, six bytes each, in the list and their number in place of the records; or the refusal of 1 to 7 or 22 and an untouched list.
+pub fn open(table: &[u8], list: &mut [u8]) -> Reply {
+    // SAFETY: pointers and lengths are those of two slices; the one that is written is borrowed mutably and does not overlap the other.
+    unpack(unsafe { raw::wigandoy_open(table.as_ptr(), table.len(), list.as_mut_ptr(), list.len()) })
 }
 
 /// A list of moves on a table: play's own reply, the last table in the output, six bytes for each move in the replies, and the tally.

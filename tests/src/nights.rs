@@ -59,9 +59,10 @@ pub fn by_reference(table: &[u8], moves: &[u8]) -> Night {
     Night { replies, table: out, tally }
 }
 
-/// What went wrong with a night: a single move, or the list as a whole.
+/// What went wrong: a single move, a night's list as a whole, or the list of open moves of a table.
 pub enum Fault {
     Step(Case),
+    Open(Vec<u8>),
     List { table: Vec<u8>, moves: Vec<u8>, what: &'static str },
 }
 

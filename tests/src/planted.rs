@@ -1,14 +1,16 @@
 // That the trial can fail: each planted fault of the independent implementation is found by generated cases alone.
 use crate::compare::Reached;
-use crate::differ;
-use crate::reference::faults::{plant, FAULTS};
+use crate::differ::{self, Lists};
+use crate::reference::faults::{of_list, plant, FAULTS};
 
-/// Plants each fault in turn, and says at which case it was found, and shows that case if asked; the number of those that were not found.
+/// Plants each fault in turn, and says at which case it was found, and shows that case if asked; the number of those that were not found. The lists of
+/// open moves are compared for their own faults only, so that check, step and play have to show theirs.
 pub fn run(seed: u64, cases: u64, show: bool) -> usize {
     let mut missed = 0;
     for (fault, words) in FAULTS {
         plant(Some(*fault));
-        let result = differ::generated(seed, cases, &mut Reached::new());
+        let lists = if of_list(*fault) { Lists::Compared } else { Lists::LeftOut };
+        let result = differ::generated(seed, cases, lists, &mut Reached::new());
         plant(None);
         match result {
             Err(found) => {

@@ -11,9 +11,9 @@ pub fn differ(case: &Case) -> bool {
 const TRIES: usize = 600;
 
 /// Smaller cases are tried until none differs any more.
-pub fn shrink(mut case: Case) -> Case {
+pub fn shrink(mut case: Case, differ: impl Fn(&Case) -> bool) -> Case {
     loop {
-        let Some(next) = smaller(&case).take(TRIES).find(differ) else { break };
+        let Some(next) = smaller(&case).take(TRIES).find(&differ) else { break };
         case = next;
     }
     case

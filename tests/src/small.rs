@@ -1,8 +1,10 @@
-// Small scope: every term of up to five records over a few atoms, and every move on it. What goes wrong at all mostly goes wrong on a small table.
+// Small scope: every term of up to five records over a few atoms, every move on it, and the list of those that are open. What goes wrong at all mostly
+// goes wrong on a small table.
 use crate::bytes::{self, a_move};
 use crate::compare::{Case, Reached};
 use crate::differ::{compare_check, compare_step};
 use crate::library;
+use crate::lists;
 use crate::nights::Fault;
 
 const X: u16 = 32_768;
@@ -56,22 +58,23 @@ fn terms(most: usize) -> Vec<Vec<Vec<u8>>> {
     by_size
 }
 
-/// Every move whose places stand in the table.
+/// Every move whose places stand in the table, time first, then in the order of the list of open moves.
 fn moves(records: usize) -> Vec<[u8; 6]> {
     let mut all: Vec<[u8; 6]> = (1..=2).map(|d| a_move(3, d, 0)).collect();
-    for a in 0..records {
-        all.extend([0, 2, 4, 5].map(|kind| a_move(kind, a, 0)));
-        all.extend((0..records).map(|b| a_move(1, a, b)));
+    for kind in [0, 1, 2, 4, 5] {
+        let others = if kind == 1 { records } else { 1 };
+        all.extend((0..records).flat_map(|a| (0..others).map(move |b| a_move(kind, a, b))));
     }
     all
 }
 
-/// Every term checked, and every move on those that are well formed.
+/// Every term checked, and every move on those that are well formed, and the list of open moves of all.
 pub fn run(most: usize, reached: &mut Reached) -> Result<(), Fault> {
     for (records, tables) in terms(most).into_iter().enumerate() {
         let moves = moves(records);
         for table in tables {
             compare_check(&table, reached)?;
+            lists::compare(&table, reached)?;
             if library::check(&table).answer == 0 {
                 every_move(&table, &moves, reached)?;
             }
@@ -81,8 +84,18 @@ pub fn run(most: usize, reached: &mut Reached) -> Result<(), Fault> {
 }
 
 fn every_move(table: &[u8], moves: &[[u8; 6]], reached: &mut Reached) -> Result<(), Fault> {
+    let mut accepted = vec![];
     for m in moves {
+        let before = reached.answers[0];
         compare_step(Case { table: table.to_vec(), m: m.to_vec(), room: 2 * table.len() + 16 }, reached)?;
+        if reached.answers[0] > before && m[0] != 3 {
+            accepted.extend(m);
+        }
     }
-    Ok(())
+    let mut list = vec![0; accepted.len()];
+    let reply = library::open(table, &mut list);
+    if reply.records == accepted.len() / 6 && list == accepted {
+        return Ok(());
+    }
+    Err(Fault::Open(table.to_vec()))
 }

@@ -5,6 +5,7 @@
 // A case of play goes on with the word >>, the lengths of the output and of the reply buffer, and the moves' bytes, with xN for N more of the last 6.
 // Its line has the reply, the tally, and then of the output and of the reply buffer what a step's line has of its output.
 // A case of load goes on with the word >#. Its line has the reply, with the load in place of the records.
+// A case of the open moves goes on with the word >? and the list buffer's length. Its line has the reply, and of the buffer what a step's line has of its output.
 use libc::STDIN_FILENO;
 use libc::STDOUT_FILENO;
 ghost use mathlib.Core.Path.{_≡_};
@@ -254,6 +255,24 @@ fn run_play(text: &[u8], from: usize, to: usize, table: &[u8], out: &mut [u8])
     }
 }
 
+// The open moves, with all of the list buffer: the reply, and what is left there.
+fn print_open(table: &[u8], list: &mut [u8]) {
+    fill(list);
+    let r = lister::open(table, list);
+    print_reply(r);
+    print_left(list);
+}
+
+// The open moves: the list buffer's length.
+fn run_open(text: &[u8], from: usize, to: usize, table: &[u8], out: &mut [u8])
+    requires { ⌜ (from ≤ to) × (to ≤ length (now text)) ⌝ }
+{
+    let room = number(text, from, to);
+    if room <= out.len() {
+        print_open(table, &mut out[..room]);
+    }
+}
+
 // What a line asks of its table: the word at a place before the line's end says it, and no word asks for a check.
 fn run_table(text: &[u8], mark: usize, to: usize, table: &[u8], out: &mut [u8])
     requires { ⌜ (mark ≤ to) × (to ≤ length (now text)) ⌝ }
@@ -264,6 +283,8 @@ fn run_table(text: &[u8], mark: usize, to: usize, table: &[u8], out: &mut [u8])
         run_step(text, mark + 2, to, table, out);
     } else if text[mark + 1] == b'#' {
         print_reply(player::load(table));
+    } else if text[mark + 1] == b'?' {
+        run_open(text, mark + 2, to, table, out);
     } else if 3 <= to - mark {
         run_play(text, mark + 3, to, table, out);
     }

@@ -1,21 +1,24 @@
--- That every reply fits its number: places are below 2^16, records and loads at most 2,048.
+-- That every reply fits its number: places are below 2^16, records and loads at most 2,048; of open moves there are at most 4,202,496, below 2^24.
 use mathlib.Core.Path.{_≡_, refl, sym, ap, subst}
 use mathlib.Core.List.{List}
-use Prim.Native.Nat.{ℕ, suc, _<_, _≤_}
+use Prim.Native.Nat.{ℕ, suc, _*_, _<_, _≤_}
 use native.Mathlib.Omega.{arith}
 use lib.ListN.{length, getD}
 use Rattle.cows.specs.Basics.{Result, refuse, accept}
-use Rattle.cows.specs.Terms.{size}
+use Rattle.cows.specs.Terms.{Term, size}
 use Rattle.cows.specs.Format.{AreBytes, byte, word}
 use Rattle.cows.specs.Tables.{judge}
 use Rattle.cows.specs.Load.{load}
 use Rattle.cows.specs.Step.{readMove, judgeStep, replyTo, stepReply}
+use Rattle.cows.specs.Moves.{Move}
 use Rattle.cows.specs.Run.{movesOf, PlayEnd, playFrom, judgePlay, playedReply, play}
-use Rattle.cows.proofs.Basics.{bind-accept, forbid-accept, same-accept}
+use Rattle.cows.proofs.Basics.{lt-case, bind-accept, forbid-accept, same-accept}
 use Rattle.cows.proofs.Tables.{judge-within}
 use Rattle.cows.proofs.Bounds.{Below, below-judge, below-judgeStep, below-judgePlay}
 use Rattle.cows.proofs.Preserving.{step-within}
 use Rattle.cows.proofs.Theorems.{tables-within}
+use Rattle.opening.specs.Opening.{openMoves, judgeOpen, openReply}
+use Rattle.opening.proofs.Theorems.{open-number, open-refused, open-listed, open-too-short}
 use Rattle.tables.specs.declared.Reply.{Reply}
 use Rattle.tables.specs.Verdict.{refusal, checkReply}
 use Rattle.stepper.specs.Replies.{replyOf}
@@ -62,3 +65,18 @@ play-fits table moves out slots k =
     fits (λ x. replyOf (playedReply x)) (λ r. size (r .last .table)) (λ n p. refl) (λ r. refl) (judgePlay table moves (length out) (length slots))
     (below-judgePlay 65536 (omega arith) table moves (length out) (length slots))
     (λ r e. last-small table moves (length out) (length slots) r k e)
+
+pub open-fits : (table : List ℕ) (room : ℕ) → AreBytes table → Fits (replyOf (openReply (judgeOpen table room)))
+unfolding openReply
+open-fits table room k = go (judge table) refl
+  where
+    shown : (x : Result (List Move)) → judgeOpen table room ≡ x → Fits (replyOf (openReply x)) → Fits (replyOf (openReply (judgeOpen table room)))
+    shown x e = subst (λ y. Fits (replyOf (openReply y))) (sym e)
+
+    go : (x : Result Term) → judge table ≡ x → Fits (replyOf (openReply (judgeOpen table room)))
+    go (refuse n p) e = shown (refuse n p) (open-refused table room n p e) (record { place = omega (arith, (rw e at (below-judge 65536 (omega arith) table)) .1); records = omega arith })
+    go (accept t) e =
+        let few = open-number t (judge-within table t k e) in
+        lt-case _ room (6 * length (openMoves t))
+        (λ l. shown (refuse 22 (length (openMoves t))) (open-too-short table room t e l) (record { place = omega arith; records = omega arith }))
+        (λ l. shown (accept (openMoves t)) (open-listed table room t e l) (record { place = omega arith; records = omega arith }))

@@ -2,8 +2,10 @@
 use mathlib.Core.Path.{_≡_}
 use mathlib.Core.List.{List, [], _∷_}
 use Prim.Native.Nat.{ℕ, _+_, _*_, _<_}
+use lib.ListN.{length}
 use Rattle.cows.specs.Step.{stepReply, stepOutput}
 use Rattle.cows.specs.Run.{play, playedReply, playedTally, playedOutput, playedReplies}
+use Rattle.opening.specs.Opening.{judgeOpen, openReply, openBuffer}
 use Rattle.tables.specs.declared.Reply.{Reply}
 use Rattle.stepper.specs.Replies.{replyOf}
 use Rattle.tally.specs.declared.Tally.{Tally}
@@ -33,3 +35,8 @@ pub record PlayedWith (table moves out after slots after′ tally : List ℕ) (r
   pub tallied : tally ≡ fourCounts (tallyOf (playedTally (play table moves out slots)))
   pub output : after ≡ playedOutput (play table moves out slots) out
   pub slots-are : after′ ≡ playedReplies (play table moves out slots) slots
+
+-- What the list of open moves of any bytes gives, its reply packed.
+pub record OpenPacked (table list after : List ℕ) (r : ℕ) : Type 0 where
+  pub replies : r ≡ packed (replyOf (openReply (judgeOpen table (length list))))
+  pub output : after ≡ openBuffer (judgeOpen table (length list)) list

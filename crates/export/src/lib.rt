@@ -5,7 +5,7 @@ ghost use mathlib.Core.Path.{_≡_};
 ghost use Rattle.cows.specs.Tables.{judge};
 ghost use Rattle.tables.specs.Verdict.{checkReply};
 ghost use Rattle.player.specs.Loads.{loadReply};
-ghost use Rattle.export.specs.Packing.{Fits, packed, StepPacked, PlayedWith};
+ghost use Rattle.export.specs.Packing.{Fits, packed, StepPacked, PlayedWith, OpenPacked};
 
 // A reply in 64 bits: the answer in the lowest 8, the place in the 24 above them, the records in the highest 32.
 fn pack(r: Reply) -> u64
@@ -62,4 +62,12 @@ pub extern "C" fn wigandoy_play(
         counts.copied,
     ];
     pack(played.reply)
+}
+
+// What can happen now: `lister::open`, packed.
+#[no_mangle]
+pub extern "C" fn wigandoy_open(table: &[u8], list: &mut [u8]) -> u64
+    ensures { λ r. ⌜ OpenPacked (now (table .entry)) (now (list .entry)) (now (list .exit)) r ⌝ }
+{
+    pack(lister::open(table, list))
 }

@@ -28,7 +28,7 @@ module _ (t : Term) (n : ℕ) (l : n < size t) (i : ℕ) (m : i < size (sub t n)
   unfolding wayTo sub spotAt
   part-way = ap (λ (z : Spot). z .way) (spot-part t n l .1 i m) ∙ descend-way [] (wayTo t n) (sub t n) i
 
-  part-sub : sub t (n + i) ≡ sub (sub t n) i
+  pub part-sub : sub t (n + i) ≡ sub (sub t n) i
   unfolding wayTo sub spotAt
   part-sub = ap (λ (z : Spot). z .here) (spot-part t n l .1 i m) ∙ descend-here (wayTo t n) [] (sub t n) i
 
@@ -55,6 +55,12 @@ kill-label t r k i e = subst Right e (right-at t i r)
 pub kills-labelled : (t : Term) → Right t → (k : ℕ) → found (first (readyKill k) t) ≡ true → label k ≡ true
 kills-labelled t r k = found-at _ (readyKill k) t (λ i l e. kill-label t r k i (kill-is k i _ e .1))
 
+pub kill-enclosed : (t : Term) → Within t → (k i : ℕ) → sub t i ≡ leaf (kill k) → enclosed k (wayTo t i) ≡ true
+unfolding uses usesBasic
+kill-enclosed t w k i s =
+    subst (λ u. Bound bindable (λ x. enclosed x (wayTo t i)) (uses u)) s (scoped-at bindable t i (w .formed .closed)) .0
+    (or-right (variable k) _ (kill-label t (w .right) k i s))
+
 -- the [k] at place n encloses the live place a
 module _ (t : Term) (w : Within t) (a n k : ℕ) (la : a < size t) (v : live (wayTo t a) ≡ true) (l : n < a) (m : a < n + size (sub t n)) (d : prefixed delimits (sub t n) ≡ some k) where
   within : n < size t
@@ -76,17 +82,11 @@ module _ (t : Term) (w : Within t) (a n k : ℕ) (la : a < size t) (v : live (wa
       let (r, s) = kill-is k i _ e in
       is-kill k t (n + i) (omega (arith, spot-fits t n within)) (whole-way i p ∙ true-and r way-ready) (part-sub t n within i p ∙ s))
 
-  kill-enclosed : (i : ℕ) → sub t i ≡ leaf (kill k) → enclosed k (wayTo t i) ≡ true
-  unfolding uses usesBasic
-  kill-enclosed i s =
-      subst (λ u. Bound bindable (λ x. enclosed x (wayTo t i)) (uses u)) s (scoped-at bindable t i (w .formed .closed)) .0
-      (or-right (variable k) _ (kill-label t (w .right) k i s))
-
   from-whole : found (first (readyKill k) t) ≡ true → found (first (readyKill k) (sub t n)) ≡ true
   unfolding foundWith
   from-whole = found-at _ (readyKill k) t (λ i p e.
       let (r, s) = kill-is k i _ e in
-      let (q, b, f, g) = enclosed-reaches t k i p (kill-enclosed i s) in
+      let (q, b, f, g) = enclosed-reaches t k i p (kill-enclosed t w k i s) in
       let z : q ≡ n = one-delimitation t (w .formed) k q n (omega arith) within f (ap (foundWith (eqb k)) d ∙ eq-eqb k k refl) in
       let y : n + size (sub t n) ≡ q + size (sub t q) = rw z in
       let j = i - n in
@@ -102,7 +102,7 @@ pub held-none : (t : Term) (a b n : ℕ) → prefixed delimits (sub t n) ≡ non
 unfolding heldBack foundWith sub
 held-none t a b n e = rw e (and-none (encloses n (sub t n) a || encloses n (sub t n) b))
 
-and-where : (e : Bool) {x y : Bool} → (e ≡ true → x ≡ y) → (e && x) ≡ (e && y)
+pub and-where : (e : Bool) {x y : Bool} → (e ≡ true → x ≡ y) → (e && x) ≡ (e && y)
 and-where true f = f refl
 and-where false f = refl
 

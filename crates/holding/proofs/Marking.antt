@@ -20,6 +20,7 @@ use Rattle.cows.specs.Moves.{readyKill, heldBack}
 use Rattle.cows.proofs.Basics.{clash, bool-case, not-so, and-none, none-found}
 use Rattle.cows.proofs.Fields.{kind-kill, kind-delimitation, first-kill, first-delimitation}
 use Rattle.cows.proofs.Sets.{in-labels, label-range}
+use Rattle.records.specs.Holds.{Holds}
 use Rattle.records.proofs.StandsIn.{holds-kind, holds-word}
 use Rattle.ways.specs.Known.{Table}
 use Rattle.holding.specs.Holding.{Unmarked, KillsMarked, Parties, Sides}
@@ -45,6 +46,11 @@ delimits-none (under protection t) e = refl
 delimits-none (under (delimitation d) t) e = absurd (e refl)
 delimits-none (under replication t) e = refl
 delimits-none (both j l r) e = refl
+
+pub kill-at : (s : List ℕ) (t : Term) (i : ℕ) → Holds s t → i < size t → getD s (16 * i) 0 ≡ 1 → (w : ℕ) → w ≡ word s (16 * i + 2) → sub t i ≡ leaf (kill w)
+kill-at s t i h l e w at =
+    let (k, q) = kind-kill (sub t i) (sym (holds-kind s t i h l) ∙ e) in
+    q ∙ ap (λ d. leaf (kill d)) (sym (at ∙ (holds-word s t i 2 h l (omega arith) ∙ (ap (λ r. word (record16 (root r)) 2) q ∙ first-kill k))))
 
 -- the record is a kill of k
 abbrev pub killing : ℕ → Term → Bool
@@ -86,13 +92,11 @@ module _ (s ends : List ℕ) (t : Term) (h : Table s ends t) (i : ℕ) (l : i < 
 
   -- a kill, and its label
   module _ (e : getD s (16 * i) 0 ≡ 1) (w : ℕ) (at : w ≡ word s (16 * i + 2)) where
-    kill-at : sub t i ≡ leaf (kill w)
-    kill-at =
-        let (k, q) = kind-kill (sub t i) (sym (holds-kind s t i (h .holds) placed) ∙ e) in
-        q ∙ ap (λ d. leaf (kill d)) (sym (at ∙ (holds-word s t i 2 (h .holds) placed (omega arith) ∙ (ap (λ r. word (record16 (root r)) 2) q ∙ first-kill k))))
+    here : sub t i ≡ leaf (kill w)
+    here = kill-at s t i (h .holds) placed e w at
 
     pub kill-range : (49152 ≤ w) × (w < 65536)
-    kill-range = label-range w (kill-label t (h .within .right) w i kill-at)
+    kill-range = label-range w (kill-label t (h .within .right) w i here)
 
     module _ (marks : List ℕ) (room : length marks ≡ 16384) where
       same-mark : getD (set marks (w - 49152) 1) (w - 49152) 0 ≡ 1
@@ -103,7 +107,7 @@ module _ (s ends : List ℕ) (t : Term) (h : Table s ends t) (i : ℕ) (l : i < 
 
       past-kill : (test : Term → Bool) → Seeking readyKind test t i → test (sub t i) ≡ false → Seeking readyKind test t (i + 1)
       unfolding size open-kinds
-      past-kill test k miss = subst (Seeking readyKind test t) (ap (λ r. i + size r) kill-at) (seeking-over readyKind test t i k placed miss (ap (λ r. readyKind (kindOf r)) kill-at))
+      past-kill test k miss = subst (Seeking readyKind test t) (ap (λ r. i + size r) here) (seeking-over readyKind test t i k placed miss (ap (λ r. readyKind (kindOf r)) here))
 
       pub marking-kill : Marking marks t i → Marking (set marks (w - 49152) 1) t (i + 1)
       unfolding foundWith kills ready
@@ -112,9 +116,9 @@ module _ (s ends : List ℕ) (t : Term) (h : Table s ends t) (i : ℕ) (l : i < 
             walk = past-kill _ (m .walk) refl;
             ahead = λ k q z. bool-case (Seeking readyKind (killing k) t (i + 1)) (eqb k w)
                 (λ y. absurd (omega (arith, same-mark, ap (λ d. getD (set marks (w - 49152) 1) (d - 49152) 0) (eqb-true k w y))))
-                (λ n. past-kill _ (m .ahead k q (sym (other-mark k q n) ∙ z)) (ap (killing k) kill-at ∙ n));
+                (λ n. past-kill _ (m .ahead k q (sym (other-mark k q n) ∙ z)) (ap (killing k) here ∙ n));
             marked = λ k q z. bool-case (found (first (readyKill k) t) ≡ true) (eqb k w)
-                (λ y. is-kill k t i placed (m .walk .active placed) (kill-at ∙ ap (λ d. leaf (kill d)) (sym (eqb-true k w y))))
+                (λ y. is-kill k t i placed (m .walk .active placed) (here ∙ ap (λ d. leaf (kill d)) (sym (eqb-true k w y))))
                 (λ n. m .marked k q (λ y. z (other-mark k q n ∙ y)));
           }
 

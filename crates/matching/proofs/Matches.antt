@@ -93,15 +93,16 @@ any-four p e (w ∷ x ∷ y ∷ []) l = rw e
 any-four p e (w ∷ x ∷ y ∷ z ∷ []) l = ap (λ b. p w || (p x || (p y || b))) (or-none (p z))
 any-four p e (w ∷ x ∷ y ∷ z ∷ a ∷ ws) l = absurd (omega arith)
 
+-- whether the record at place b holds no variable
+pub closed-ends : (s : List ℕ) (b : ℕ) (m : Action) → ActionAt s b m → closedAt s (16 * b) ≡ closedAction m
+unfolding closedAt closedAction variable any
+closed-ends s b m k = rw (k .partner, k .operation, k .slot0, k .slot1, k .slot2, k .slot3, any-four variable refl (m .tuple) (k .few))
+
 -- The records at places a and b have the endpoints and tuples of q and m.
 module _ (s : List ℕ) (a b : ℕ) (q m : Action) (h : ActionAt s a q) (k : ActionAt s b m) where
-  pub closed-ends : closedAt s (16 * b) ≡ closedAction m
-  unfolding closedAt closedAction variable any
-  closed-ends = rw (k .partner, k .operation, k .slot0, k .slot1, k .slot2, k .slot3, any-four variable refl (m .tuple) (k .few))
-
   pub not-closed : closedAt s (16 * b) ≡ false → Differs Unset ≡ fitOf (fit q m)
   unfolding fit provided
-  not-closed e = rw (sym closed-ends ∙ e)
+  not-closed e = rw (sym (closed-ends s b m k) ∙ e)
 
   slots-same : length (q .tuple) ≡ length (m .tuple) → slotsAt s (16 * a) (16 * b) ≡ fitOf (match 0 (q .tuple) (m .tuple))
   unfolding slotsAt

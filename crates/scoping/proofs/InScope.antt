@@ -25,7 +25,7 @@ not-not : (b : Bool) → not (not b) ≡ b
 not-not true = refl
 not-not false = refl
 
-bound-used : (K E : ℕ → Bool) (l : List ℕ) (v : ℕ) → Bound K E l → member v l ≡ true → K v ≡ true → E v ≡ true
+pub bound-used : (K E : ℕ → Bool) (l : List ℕ) (v : ℕ) → Bound K E l → member v l ≡ true → K v ≡ true → E v ≡ true
 unfolding member any
 bound-used K E [] v h m k = never m
 bound-used K E (a ∷ l) v h m k =

@@ -7,7 +7,7 @@ ghost use Rattle.cows.specs.Terms.{Term, depth};
 ghost use Rattle.records.specs.Rewrites.{StandsIn};
 ghost use Rattle.ways.specs.Depths.{Standing};
 
-fn larger(a: usize, b: usize) -> usize
+pub fn larger(a: usize, b: usize) -> usize
     ensures { λ r. ⌜ r ≡ max a b ⌝ }
 {
     if a < b { b } else { a }

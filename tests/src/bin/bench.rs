@@ -1,6 +1,6 @@
 // The benchmark: `bench write DIR` writes the workloads, `bench time [FILE..]` times the library, the independent implementation and a copy of
-// the table on them, all in one run, and prints ratios; a FILE holds the figures of another program on the same folders. `bench repeat NAME` runs one
-// workload for a second, for a profiler.
+// the table on them, all in one run, and prints ratios; a FILE holds the figures of another program on the same folders; then the list of open moves beside
+// check. `bench lists` times the lists alone, `bench repeat NAME` runs one workload for a second, for a profiler.
 use std::collections::HashMap;
 use std::fs;
 use std::hint::black_box;
@@ -14,8 +14,12 @@ fn main() {
     match arguments.iter().map(String::as_str).collect::<Vec<_>>()[..] {
         ["write", folder] => write(Path::new(folder)),
         ["repeat", name] => repeat(name),
-        ["time", ref files @ ..] => time(&others(files)),
-        _ => println!("usage: bench write DIR | bench time [FILE..] | bench repeat NAME"),
+        ["lists"] => time_lists(),
+        ["time", ref files @ ..] => {
+            time(&others(files));
+            time_lists();
+        }
+        _ => println!("usage: bench write DIR | bench time [FILE..] | bench lists | bench repeat NAME"),
     }
 }
 
@@ -54,6 +58,7 @@ fn by_library(w: &Workload, out: &mut [u8], replies: &mut [u8]) {
     match w.operation {
         "check" => _ = black_box(library::check(black_box(&w.table))),
         "play" => _ = black_box(library::play(black_box(&w.table), &w.moves, out, replies)),
+        "open" => _ = black_box(library::open(black_box(&w.table), out)),
         _ => _ = black_box(library::step(black_box(&w.table), &w.moves[..6], out)),
     }
 }
@@ -72,12 +77,12 @@ fn by_reference(w: &Workload, out: &mut [u8], replies: &mut [u8]) {
 
 /// The library on one workload, again and again for a second.
 fn repeat(name: &str) {
-    let all = all();
-    let w = all.iter().find(|w| w.name == name).expect("the name of a workload");
-    let (mut out, mut replies) = (vec![0; 32_768], vec![0; 60_000]);
+    let mut all = all().into_iter().chain(workloads::listed());
+    let w = all.find(|w| w.name == name).expect("the name of a workload");
+    let (mut out, mut replies) = (vec![0; if w.operation == "open" { LIST } else { 32_768 }], vec![0; 60_000]);
     let start = Instant::now();
     while start.elapsed().as_secs() < 1 {
-        (0..64).for_each(|_| by_library(w, &mut out, &mut replies));
+        (0..64).for_each(|_| by_library(&w, &mut out, &mut replies));
     }
 }
 
@@ -166,4 +171,40 @@ fn exponent(points: &[(f64, f64)]) -> f64 {
     let (mx, my) = (logs.iter().map(|p| p.0).sum::<f64>() / n, logs.iter().map(|p| p.1).sum::<f64>() / n);
     let over: f64 = logs.iter().map(|(x, y)| (x - mx) * (y - my)).sum();
     over / logs.iter().map(|(x, _)| (x - mx) * (x - mx)).sum::<f64>()
+}
+
+/// Room for any list of open moves that is timed.
+const LIST: usize = 6 * 175_000;
+
+/// What a list costs beside a check of its table, in nanoseconds: with room for more than any list, and with room for just this one.
+struct ListCost {
+    moves: usize,
+    check: f64,
+    open: f64,
+    exact: f64,
+}
+
+fn list_cost(w: &Workload) -> ListCost {
+    let mut list = vec![0; LIST];
+    let reply = library::open(&w.table, &mut list);
+    assert_eq!(reply.answer, 0, "{}", w.name);
+    let check = median(|| _ = black_box(library::check(black_box(&w.table))));
+    let open = median(|| by_library(w, &mut list, &mut []));
+    let exact = median(|| by_library(w, &mut list[..6 * reply.records], &mut []));
+    ListCost { moves: reply.records, check, open, exact }
+}
+
+/// Three passes over the lists, of which the least counts.
+fn time_lists() {
+    let works = workloads::listed();
+    let passes: Vec<Vec<ListCost>> = (0..3).map(|_| works.iter().map(list_cost).collect()).collect();
+    println!("\n| list | records | moves | check ns | open ns | open / check | ns a move | open / check, just room enough |");
+    println!("|---|---|---|---|---|---|---|---|");
+    for (i, w) in works.iter().enumerate() {
+        let least = |of: fn(&ListCost) -> f64| passes.iter().map(|pass| of(&pass[i])).fold(f64::INFINITY, f64::min);
+        let (moves, check, open, exact) = (passes[0][i].moves, least(|c| c.check), least(|c| c.open), least(|c| c.exact));
+        let each = if moves == 0 { String::new() } else { format!("{:.1}", open / moves as f64) };
+        let (ratio, tight) = (open / check, exact / check);
+        println!("| {} | {} | {moves} | {check:.0} | {open:.0} | {ratio:.2} | {each} | {tight:.2} |", w.name, w.table.len() / 16);
+    }
 }

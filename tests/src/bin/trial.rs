@@ -4,6 +4,7 @@ use std::process::exit;
 use std::time::Instant;
 use trial::compare::Reached;
 use trial::damage::{self, Extent};
+use trial::lists::Listed;
 use trial::{differ, laws, planted, small};
 
 const CASES: u64 = 100_000;
@@ -51,8 +52,10 @@ const KINDS: [&str; 6] = ["kill", "communication", "timeout", "time", "unfolding
 fn report(reached: &Reached) {
     println!("  {} steps and {} checks and loads agree in reply, place, records and every byte", reached.steps, reached.checks);
     println!("  {} plays of {} moves agree in reply, tally and every byte of both buffers", reached.plays, reached.played);
+    let Listed { lists, tables, .. } = reached.listed;
+    println!("  {lists} lists of the open moves of {tables} tables agree in reply and every byte of the buffer");
     let mut missing = vec![];
-    for answer in (1..=7).chain(10..=21) {
+    for answer in (1..=7).chain(10..=22) {
         println!("  refusal {answer:2}: {}", reached.answers[answer]);
         if reached.answers[answer] == 0 {
             missing.push(format!("refusal {answer}"));
@@ -62,6 +65,12 @@ fn report(reached: &Reached) {
         println!("  accepted {kind}: {count}");
         if count == 0 {
             missing.push(format!("accepted {kind}"));
+        }
+    }
+    for (words, count) in reached.listed.counts() {
+        println!("  {words}: {count}");
+        if count == 0 {
+            missing.push(words);
         }
     }
     if !missing.is_empty() {
@@ -80,8 +89,8 @@ fn every_small(most: usize) {
     }
     let accepted: u64 = reached.accepted.iter().sum();
     println!(
-        "small scope: all {} tables of up to {most} records over a few atoms, {} moves on them, {accepted} accepted: agree",
-        reached.checks, reached.steps
+        "small scope: all {} tables of up to {most} records over a few atoms, {} moves on them, {accepted} accepted, {} lists: agree",
+        reached.checks, reached.steps, reached.listed.lists
     );
 }
 
@@ -90,8 +99,8 @@ fn damaged(seed: u64) {
     if let Err(fault) = damage::run(seed, Extent::All, &mut reached) {
         stop(differ::found(0, fault));
     }
-    let Reached { steps, checks, plays, played, .. } = reached;
-    println!("damage: {steps} steps, {checks} checks and loads and {plays} plays of {played} moves on damaged bytes and at every length agree");
+    let Reached { steps, checks, plays, played, listed: Listed { lists, .. }, .. } = reached;
+    println!("damage: {steps} steps, {checks} checks and loads, {lists} lists and {plays} plays of {played} moves on damaged bytes and at every length agree");
 }
 
 fn sample() {
@@ -99,14 +108,15 @@ fn sample() {
     if let Err(fault) = damage::run(1, Extent::Sample, &mut reached) {
         stop(differ::found(0, fault));
     }
-    println!("sample: {} steps, {} checks and {} plays on damaged bytes agree", reached.steps, reached.checks, reached.plays);
+    let Reached { steps, checks, plays, listed: Listed { lists, .. }, .. } = reached;
+    println!("sample: {steps} steps, {checks} checks, {lists} lists and {plays} plays on damaged bytes agree");
 }
 
 fn lawful(seed: u64) {
     match laws::run(seed, 600) {
         Ok(seen) => println!(
-            "laws: {} nights, {} accepted moves ({} kills), {} refused: demand 3's inequality, play as its steps, well-formed successors, untouched outputs, halting",
-            seen.nights, seen.accepted, seen.kills, seen.refused
+            "laws: {} nights, {} accepted moves ({} kills), {} refused, {} moves of {} lists: demand 3's inequality, play as its steps, well-formed successors, untouched outputs, halting, exactly the accepted moves listed",
+            seen.nights, seen.accepted, seen.kills, seen.refused, seen.listed, seen.lists
         ),
         Err(words) => {
             println!("{words}");

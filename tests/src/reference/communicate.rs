@@ -4,27 +4,82 @@ use super::moves::{refuse, wanted, whole_choice};
 use super::places::Place;
 use super::terms::{is_label, is_variable, Atom, Ends, Head, Term};
 use super::Refusal;
+use std::cell::OnceCell;
 
 /// What the variables of a pattern take.
 type Pairs = Vec<(Atom, Atom)>;
 
+/// What every communication of a table looks at: its places; the [k], each with whether it holds a ready kill of k, which is found when it is first
+/// asked; and the ready receives.
+pub struct Around<'a, 'b> {
+    all: &'b [Place<'a>],
+    scopes: Vec<(&'b Place<'a>, OnceCell<bool>)>,
+    rivals: Vec<&'b Place<'a>>,
+}
+
+/// Two parties that may communicate, and what the variables take.
+pub struct Meeting<'a, 'b> {
+    receive: &'b Place<'a>,
+    invoke: &'b Place<'a>,
+    pairs: Pairs,
+}
+
 pub fn communicate(all: &[Place], a: usize, b: usize) -> Result<Term, Refusal> {
-    if planted(Fault::FaultAtB) {
-        wanted(all, b, |h| matches!(h, Head::Invoke(_)))?;
-    }
-    let receive = wanted(all, a, |h| matches!(h, Head::Receive(_)))?;
-    let invoke = wanted(all, b, |h| matches!(h, Head::Invoke(_)))?;
-    let (pattern, sent) = (ends(receive), ends(invoke));
-    let Some(pairs) = matching(pattern, sent) else { return refuse(12, a) };
-    if pairs.iter().any(|pair| !in_scope(all, receive, invoke, pair, &pairs)) {
-        return refuse(13, a);
-    }
-    if planted(Fault::ConflictFirst) {
-        no_tighter(all, receive, invoke)?;
-    }
-    not_held(all, &[receive, invoke])?;
-    no_tighter(all, receive, invoke)?;
+    let Meeting { receive, invoke, pairs } = Around::new(all).meeting(a, b)?;
     Ok(joined(all, receive, invoke, &pairs))
+}
+
+impl<'a, 'b> Around<'a, 'b> {
+    pub fn new(all: &'b [Place<'a>]) -> Around<'a, 'b> {
+        let labelled = |p: &&Place| matches!(p.here.head, Head::Delimitation(label) if is_label(label));
+        let counts = |p: &Place| if planted(Fault::ConflictAmongLive) { p.live() } else { p.ready() };
+        let scopes = all.iter().filter(labelled).map(|p| (p, OnceCell::new())).collect();
+        let rivals = all.iter().filter(|p| matches!(p.here.head, Head::Receive(_)) && counts(p)).collect();
+        Around { all, scopes, rivals }
+    }
+
+    /// Refusals 11 to 15.
+    pub fn meeting(&self, a: usize, b: usize) -> Result<Meeting<'a, 'b>, Refusal> {
+        if planted(Fault::FaultAtB) {
+            wanted(self.all, b, |h| matches!(h, Head::Invoke(_)))?;
+        }
+        let receive = wanted(self.all, a, |h| matches!(h, Head::Receive(_)))?;
+        let invoke = wanted(self.all, b, |h| matches!(h, Head::Invoke(_)))?;
+        let (pattern, sent) = (ends(receive), ends(invoke));
+        let Some(pairs) = matching(pattern, sent) else { return refuse(12, a) };
+        if pairs.iter().any(|pair| !in_scope(self.all, receive, invoke, pair, &pairs)) {
+            return refuse(13, a);
+        }
+        if planted(Fault::ConflictFirst) {
+            self.no_tighter(receive, invoke, &pairs)?;
+        }
+        self.not_held(&[receive, invoke])?;
+        self.no_tighter(receive, invoke, &pairs)?;
+        Ok(Meeting { receive, invoke, pairs })
+    }
+
+    /// 14: no [k] around a party holds a ready kill of k.
+    pub fn not_held(&self, parties: &[&Place]) -> Result<(), Refusal> {
+        let watched = if planted(Fault::ReceiversScopes) { &parties[..1] } else { parties };
+        let around = |p: &Place| planted(Fault::KillNextDoor) || watched.iter().any(|party| party.below(p.number));
+        let holds = |p: &Place, known: &OnceCell<bool>| *known.get_or_init(|| holds_back(self.all, p));
+        let mut held = self.scopes.iter().filter(|(p, known)| around(p) && holds(p, known));
+        let first = if planted(Fault::NearestHeld) { held.last() } else { held.next() };
+        first.map_or(Ok(()), |(p, _)| refuse(14, p.number))
+    }
+
+    /// 15: no ready receive of the whole table that fits the same values has fewer pattern variables.
+    fn no_tighter(&self, receive: &Place, invoke: &Place, pairs: &Pairs) -> Result<(), Refusal> {
+        let left_out = |other: &Place| planted(Fault::HeldReceiveLeftOut) && self.not_held(&[other]).is_err();
+        let mut tighter = self.rivals.iter().filter(|other| fewer(other, receive, invoke, pairs));
+        tighter.find(|p| !left_out(p)).map_or(Ok(()), |p| refuse(15, p.number))
+    }
+
+    /// The receives that are held back themselves no longer count (of use to a planted fault only).
+    pub fn leave_held_out(&mut self) {
+        let free: Vec<&Place> = self.rivals.iter().copied().filter(|p| self.not_held(&[p]).is_ok()).collect();
+        self.rivals = free;
+    }
 }
 
 fn ends<'a>(p: &Place<'a>) -> &'a Ends {
@@ -36,9 +91,8 @@ fn ends<'a>(p: &Place<'a>) -> &'a Ends {
 
 /// The pairs of a pattern and what is sent: no variable is sent, endpoints and counts are equal, each value of the pattern is the one sent.
 fn matching(pattern: &Ends, sent: &Ends) -> Option<Pairs> {
-    let mut atoms = sent.tuple.clone();
-    atoms.extend([sent.partner, sent.operation]);
-    if atoms.iter().any(|a| is_variable(*a)) && !planted(Fault::VariableSent) {
+    let mut atoms = [sent.partner, sent.operation].into_iter().chain(sent.tuple.iter().copied());
+    if atoms.any(is_variable) && !planted(Fault::VariableSent) {
         return None;
     }
     let same_endpoint = (pattern.partner, pattern.operation) == (sent.partner, sent.operation);
@@ -62,15 +116,6 @@ fn in_scope(all: &[Place], receive: &Place, invoke: &Place, pair: &(Atom, Atom),
     encloses_both && value_fits(value) && others_fit
 }
 
-/// 14: no [k] around a party holds a ready kill of k.
-pub fn not_held(all: &[Place], parties: &[&Place]) -> Result<(), Refusal> {
-    let watched = if planted(Fault::ReceiversScopes) { &parties[..1] } else { parties };
-    let around = |p: &Place| planted(Fault::KillNextDoor) || watched.iter().any(|party| party.below(p.number));
-    let mut held = all.iter().filter(|p| around(p) && holds_back(all, p));
-    let first = if planted(Fault::NearestHeld) { held.last() } else { held.next() };
-    first.map_or(Ok(()), |p| refuse(14, p.number))
-}
-
 /// Whether a record is a [k] that holds a ready kill of k.
 fn holds_back(all: &[Place], p: &Place) -> bool {
     let Head::Delimitation(label) = p.here.head else { return false };
@@ -82,20 +127,9 @@ fn holds_back(all: &[Place], p: &Place) -> bool {
     is_label(label) && all.iter().any(|q| q.below(p.number) && counts(q) && own(q))
 }
 
-/// 15: no ready receive of the whole table that fits the same values has fewer pattern variables.
-fn no_tighter(all: &[Place], receive: &Place, invoke: &Place) -> Result<(), Refusal> {
-    let tighter = |other: &&Place| {
-        let counts = if planted(Fault::ConflictAmongLive) { other.live() } else { other.ready() };
-        counts && matches!(other.here.head, Head::Receive(_)) && fewer(other, receive, invoke)
-    };
-    let left_out = |other: &&Place| planted(Fault::HeldReceiveLeftOut) && not_held(all, &[other]).is_err();
-    all.iter().filter(tighter).find(|p| !left_out(p)).map_or(Ok(()), |p| refuse(15, p.number))
-}
-
 /// Whether another receive fits what is sent and has fewer pattern variables.
-fn fewer(other: &Place, receive: &Place, invoke: &Place) -> bool {
+fn fewer(other: &Place, receive: &Place, invoke: &Place, ours: &Pairs) -> bool {
     let Some(theirs) = matching(ends(other), ends(invoke)) else { return false };
-    let ours = matching(ends(receive), ends(invoke)).unwrap_or_default();
     let open_for = |pairs: &Pairs, at: &Place, p: &Place| {
         let shared = |x: Atom| at.scope(x).is_some_and(|i| p.below(at.way[i].number));
         pairs.iter().filter(|(x, _)| shared(*x)).count()
@@ -105,7 +139,7 @@ fn fewer(other: &Place, receive: &Place, invoke: &Place) -> bool {
         numbers.0 = open_for(&theirs, other, invoke);
     }
     if planted(Fault::OpenOfOurs) {
-        numbers.1 = open_for(&ours, receive, other);
+        numbers.1 = open_for(ours, receive, other);
     }
     let equal_hinders = planted(Fault::EqualHinders) && other.number != receive.number;
     numbers.0 < numbers.1 || (equal_hinders && numbers.0 == numbers.1)

@@ -13,6 +13,11 @@ pub fn plant(fault: Option<Fault>) {
     PLANTED.store(fault.map_or(usize::MAX, |f| f as usize), Ordering::Relaxed);
 }
 
+/// Whether a fault is one of the list of open moves alone; those stand last.
+pub fn of_list(fault: Fault) -> bool {
+    fault as usize >= Fault::LastFloatingLeftOut as usize
+}
+
 macro_rules! faults {
     ($($name:ident: $words:literal,)*) => {
         #[derive(Clone, Copy, PartialEq, Eq, Debug)]
@@ -103,4 +108,15 @@ faults! {
     NoRecordsKept: "a refused move's reply has no records",
     CopiedWholeTable: "an unfolding counts the load of the whole table",
     NoZerosBehind: "no zeros behind the last table",
+    // the list of open moves
+    LastFloatingLeftOut: "the list leaves out the last extrusion",
+    MeetingTwice: "the list has a communication twice",
+    TooLargeListed: "the list has moves that would be 20",
+    MeetingsByB: "the list has its communications by b, then a",
+    PartOfList: "the moves that fit are written before 22 is said",
+    HeldReceiveUnlisted: "a receive that is held back itself is left out of the list's conflict test",
+    ByPlace: "the list has its moves by place, not by kind first",
+    PlaceOfTheRest: "22's place is the number of moves that do not fit",
+    RoomForMoreThanList: "the list's buffer must be a byte longer",
+    ByteBehindList: "the byte behind the list is cleared",
 }

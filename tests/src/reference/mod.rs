@@ -1,16 +1,19 @@
-// The independent implementation: check, step, play and load as document 01 says, on a plain tree.
+// The independent implementation: check, step, play and load as document 01 says, and open as request 2026-01 does, on a plain tree.
 // It is written from the paper's text and shares no code with crates/. Nothing here is meant to be fast.
 mod communicate;
 pub mod faults;
 pub mod format;
 mod moves;
 mod night;
+mod open;
 mod places;
 mod tables;
 pub mod terms;
 
 pub use crate::reply::Reply;
+pub use moves::Move;
 pub use night::{check, load, play, step};
+pub use open::{open, open_moves, put_list, Found};
 
 /// A refusal: its number and its place.
 #[derive(Clone, Copy, PartialEq, Eq, Debug)]

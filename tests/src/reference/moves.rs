@@ -1,5 +1,5 @@
 // The six moves on a term: what refuses each (11 to 18), and its successor.
-use super::communicate;
+use super::communicate::{self, Around};
 use super::faults::{planted, Fault};
 use super::places::{places, Place};
 use super::terms::{is_label, set_of, smallest_of, Atom, Head, Term};
@@ -34,16 +34,45 @@ pub fn read_move(bytes: &[u8]) -> Option<Move> {
     }
 }
 
+impl Move {
+    /// Kind, a and b, as they stand in a move's bytes.
+    pub fn numbers(self) -> (usize, usize, usize) {
+        match self {
+            Move::Kill(a) => (0, a, 0),
+            Move::Communicate(a, b) => (1, a, b),
+            Move::Timeout(a) => (2, a, 0),
+            Move::Elapse(d) => (3, d as usize, 0),
+            Move::Unfold(a) => (4, a, 0),
+            Move::Extrude(a) => (5, a, 0),
+        }
+    }
+
+    pub fn kind(self) -> usize {
+        self.numbers().0
+    }
+}
+
+/// The six bytes of a move.
+pub fn write_move(m: Move) -> [u8; 6] {
+    let (kind, a, b) = m.numbers();
+    let (a, b) = ((a as u16).to_le_bytes(), (b as u16).to_le_bytes());
+    [kind as u8, 0, a[0], a[1], b[0], b[1]]
+}
+
 /// The successor of a well-formed term, or the move's refusal of 11 to 18.
 pub fn successor(term: &Term, m: Move) -> Result<Term, Refusal> {
-    let all = places(term);
+    successor_among(&places(term), m)
+}
+
+/// The same from the places of the term.
+pub fn successor_among(all: &[Place], m: Move) -> Result<Term, Refusal> {
     match m {
-        Move::Kill(a) => kill(&all, a),
-        Move::Communicate(a, b) => communicate::communicate(&all, a, b),
-        Move::Timeout(a) => timeout(&all, a),
-        Move::Elapse(d) => elapse(&all, d),
-        Move::Unfold(a) => unfold(&all, a),
-        Move::Extrude(a) => extrude(&all, a),
+        Move::Kill(a) => kill(all, a),
+        Move::Communicate(a, b) => communicate::communicate(all, a, b),
+        Move::Timeout(a) => timeout(all, a),
+        Move::Elapse(d) => elapse(all, d),
+        Move::Unfold(a) => unfold(all, a),
+        Move::Extrude(a) => extrude(all, a),
     }
 }
 
@@ -119,7 +148,7 @@ pub fn whole_choice(p: &Place) -> Vec<usize> {
 fn timeout(all: &[Place], a: usize) -> Result<Term, Refusal> {
     let p = wanted(all, a, |h| matches!(h, Head::Wait(_)))?;
     if planted(Fault::TimeoutHeld) {
-        communicate::not_held(all, &[p])?;
+        Around::new(all).not_held(&[p])?;
     }
     if p.here.head != Head::Wait(0) && !planted(Fault::TimeoutEarly) {
         return refuse(16, a);

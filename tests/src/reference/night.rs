@@ -35,15 +35,20 @@ fn judge(term: &Term, m: &[u8], room: usize) -> Result<Term, Refusal> {
     if no_room && planted(Fault::RoomBeforeLimits) {
         return Err(Refusal { answer: 21, place: 0 });
     }
-    let too_many = next.size() > 2_048 && !planted(Fault::NoLimitOfRecords);
-    let too_deep = next.depth() > 256 && !planted(Fault::NoLimitOfDepth);
-    if too_many || too_deep {
+    if too_large(&next) {
         return Err(Refusal { answer: 20, place: 0 });
     }
     if no_room {
         return Err(Refusal { answer: 21, place: 0 });
     }
     Ok(next)
+}
+
+/// 20: a successor of over 2,048 records or depth 256.
+pub fn too_large(next: &Term) -> bool {
+    let too_many = next.size() > 2_048 && !planted(Fault::NoLimitOfRecords);
+    let too_deep = next.depth() > 256 && !planted(Fault::NoLimitOfDepth);
+    too_many || too_deep
 }
 
 /// One move on a table: the reply, and the successor from the start of the output.

@@ -162,8 +162,9 @@ impl Term {
     /// The term with another one at the end of a path of child numbers.
     pub fn with(&self, path: &[usize], new: Term) -> Term {
         let Some((first, rest)) = path.split_first() else { return new };
-        let mut term = self.clone();
-        term.parts[*first] = self.parts[*first].with(rest, new);
-        term
+        let mut parts = self.parts[..*first].to_vec();
+        parts.push(self.parts[*first].with(rest, new));
+        parts.extend_from_slice(&self.parts[first + 1..]);
+        Term { head: self.head.clone(), parts }
     }
 }

@@ -12,4 +12,4 @@ fits-spec =
     (λ c. search needs) (λ c κs. search needs)
     (λ c q m h k. not-closed _ _ _ q m h k (sym (c .before .closed .ensures) ∙ not-true _ (c .if1 .taken)))
     (λ c κs. search needs)
-    (λ c q m h k. c .fits-closed .ensures q m h k (sym (closed-ends _ _ _ q m h k) ∙ (sym (c .before .before .closed .ensures) ∙ not-false _ (c .before .if1 .left)))))
+    (λ c q m h k. c .fits-closed .ensures q m h k (sym (closed-ends _ _ m k) ∙ (sym (c .before .before .closed .ensures) ∙ not-false _ (c .before .if1 .left)))))

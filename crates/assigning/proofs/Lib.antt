@@ -1,0 +1,5 @@
+pub mod Holding
+pub mod Turns
+pub mod Noting
+pub mod Living
+pub mod ByKind

@@ -1,0 +1,4 @@
+pub mod Heights
+pub mod Shallow
+pub mod Telling
+pub mod Casting
