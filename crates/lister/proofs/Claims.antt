@@ -25,7 +25,7 @@ use Rattle.lister.specs.Claims.{movesIn, Claims}
 
 -- what is read off the buffer is what was written
 read-off : (ms : List Move) (rest : List ℕ) → pieces 6 (length ms) (flatMap sixByteForm ms ++ rest) ≡ map sixByteForm ms
-unfolding pieces flatMap map
+unfolding pieces flatMap
 read-off [] rest = refl
 read-off (m ∷ ms) rest =
     let e = append-assoc (sixByteForm m) (flatMap sixByteForm ms) rest in

@@ -34,7 +34,7 @@ use Rattle.criteria.proofs.Theorems.{quick-open}
 use Rattle.lister.specs.Listing.{listing, Answered}
 
 each-map : {A B C : Type 0} (f : B → List C) (g : A → B) (xs : List A) → each f (map g xs) ≡ each (λ x. f (g x)) xs
-unfolding flatMap map
+unfolding flatMap
 each-map f g [] = refl
 each-map f g (x ∷ xs) = ap (λ l. f (g x) ++ l) (each-map f g xs)
 
