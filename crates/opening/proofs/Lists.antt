@@ -153,11 +153,6 @@ unfolding flatMap
 filter-each f g ys [] = unfold filter in refl
 filter-each f g ys (x ∷ xs) = filter-append f (map (g x) ys) (each (λ x. map (g x) ys) xs) ∙ rw (filter-map f (g x) ys, filter-each f g ys xs)
 
-pub filter-ext : {A : Type 0} (f g : A → Bool) → ((x : A) → f x ≡ g x) → (xs : List A) → filter f xs ≡ filter g xs
-unfolding filter
-filter-ext f g h [] = refl
-filter-ext f g h (x ∷ xs) = rw (h x, filter-ext f g h xs)
-
 pub each-ext : {A B : Type 0} (f g : A → List B) → ((x : A) → f x ≡ g x) → (xs : List A) → each f xs ≡ each g xs
 unfolding flatMap
 each-ext f g h [] = refl
