@@ -7,7 +7,7 @@
  *
  * A reply is one number: see the three functions below. Answer 0 is accepted: place 0, and the number of records.
  * Any other answer is a refusal, with 0 records and untouched buffers. The lowest number that applies is given,
- * then the lowest place. Places count records from 0, but that of 22.
+ * then the lowest place. Places count records from 0, but those of 12 and 22.
  *
  *   the table's author
  *    1  no bytes, over 32,768, or not a multiple of 16                                  place 0
@@ -22,7 +22,11 @@
  *   the proposer of the move
  *   10  not 6 bytes, a kind over 5, byte 1 not zero, or an unused b not zero            place 0
  *   11  no live record of the kind wanted                                               a if it is at fault, else b
- *   12  endpoint, count, value, or a variable sent                                      a
+ *   12  an invoke that does not fit the receive                                         what differs, the lowest of:
+ *       a variable in its endpoint or its tuple is unset                                0
+ *       another endpoint                                                                1
+ *       another count of the tuple                                                      2
+ *       another value, in the first such slot of one to four                            3 to 6
  *   13  a delimitation does not enclose as asked                                        a
  *   14  a ready kill holds a scope of a party back                                      the first such [k]
  *   15  a ready receive that fits binds fewer variables                                 the first
@@ -66,6 +70,11 @@ enum {
     WIGANDOY_NO_MOVE = 10, WIGANDOY_ABSENT = 11, WIGANDOY_DIFFERS = 12, WIGANDOY_APART = 13, WIGANDOY_HELD_BACK = 14,
     WIGANDOY_LOOSER = 15, WIGANDOY_UNRIPE = 16, WIGANDOY_TOO_EARLY = 17, WIGANDOY_STUCK = 18, WIGANDOY_LIST_TOO_LONG = 19,
     WIGANDOY_TOO_LARGE = 20, WIGANDOY_NO_ROOM = 21, WIGANDOY_LIST_TOO_SHORT = 22
+};
+
+/* The places of 12: what differs. In slot i of the tuple, from 0, it is WIGANDOY_OTHER_VALUE + i. */
+enum {
+    WIGANDOY_UNSET_VARIABLE = 0, WIGANDOY_OTHER_ENDPOINT = 1, WIGANDOY_OTHER_COUNT = 2, WIGANDOY_OTHER_VALUE = 3
 };
 
 /* The bytes that the output of a play must hold. */

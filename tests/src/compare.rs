@@ -106,10 +106,11 @@ pub fn describe(case: &Case) -> String {
     )
 }
 
-/// How often each answer was given, and each kind of move accepted.
+/// How often each answer was given, each place of 12 by a step, and each kind of move accepted.
 #[derive(Clone, Default)]
 pub struct Reached {
     pub answers: Vec<u64>,
+    pub differences: [u64; 7],
     pub accepted: [u64; 6],
     pub steps: u64,
     pub checks: u64,
@@ -126,8 +127,10 @@ impl Reached {
     pub fn step(&mut self, m: &[u8], reply: &Reply) {
         self.steps += 1;
         self.answers[reply.answer as usize] += 1;
-        if reply.answer == 0 {
-            self.accepted[m[0] as usize] += 1;
+        match reply.answer {
+            0 => self.accepted[m[0] as usize] += 1,
+            12 if reply.place < 7 => self.differences[reply.place] += 1,
+            _ => {}
         }
     }
 

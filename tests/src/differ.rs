@@ -15,11 +15,13 @@ pub struct Found {
     pub words: String,
 }
 
-/// Every n-th case is a night of hundreds of moves, every n-th a large table, every n-th a gathering, every n-th a short play with buffers of any length.
+/// Every n-th case is a night of hundreds of moves, every n-th a large table, every n-th a gathering, every n-th a short play with buffers of any length,
+/// every n-th a meeting of two that differ.
 const NIGHTS: u64 = 400;
 const LARGE: u64 = 90;
 const GATHERINGS: u64 = 43;
 const PLAYS: u64 = 31;
+const UNLIKE: u64 = 29;
 
 /// The papers, then so many generated cases; the first disagreement stops it.
 pub fn run(seed: u64, cases: u64, reached: &mut Reached) -> Result<(), Found> {
@@ -52,6 +54,10 @@ fn run_case(random: &mut Random, case: u64, lists: Lists, reached: &mut Reached)
     }
     if case % PLAYS == 0 {
         return plays::run(random, reached);
+    }
+    if case % UNLIKE == 0 {
+        let (table, m) = generate::unlike(random);
+        return compare_step(Case { table, m: m.to_vec(), room: 160 }, reached);
     }
     let table = draw_table(random, case);
     compare_check(&table, reached)?;

@@ -143,10 +143,10 @@ unfolding communicateAt
 accepted-met t r a b w e =
     let (q, eq, e₁) = bind-accept (wanted (prefixed receives) t a) _ r e in
     let (m, em, e₂) = bind-accept (wanted invokes t b) _ r e₁ in
-    let (σ, eσ, e₃) = bind-accept (matched a (fit q m)) _ r e₂ in
+    let (σ, eσ, e₃) = bind-accept (matched (fit q m)) _ r e₂ in
     let (es, is) = scopes-passed t a b m σ (bind σ (continue (silence t b) a)) r e₃ in
     let x = wanted-live (prefixed receives) t a q (under (receiveOf q) (below (sub t a))) (prefixed-is receives receiveOf (λ u. looks u .receiving) (sub t a) q) eq in
     let y = wanted-live invokes t b m _ (invokes-is (sub t b) m) em in
     let h : Matched t a b q m σ =
-    record { receiver = x .at .placed; receives = x .at .stands; sender = y .at .placed; invokes = y .at .stands; fits = matched-binds a (fit q m) σ eσ; scopes = es } in
+    record { receiver = x .at .placed; receives = x .at .stands; sender = y .at .placed; invokes = y .at .stands; fits = matched-binds (fit q m) σ eσ; scopes = es } in
     record { receive = q; invoke = m; pairs = σ; matched = h; leaves = subst (Left t a b σ) is (left t a b q m σ w h) }

@@ -3,11 +3,13 @@ use mathlib.Core.Path.{_≡_}
 use mathlib.Core.List.{List}
 use Prim.Native.Nat.{ℕ, _+_, _-_}
 use Rattle.cows.specs.Basics.{refuse, accept}
-use Rattle.cows.specs.Terms.{Term, size}
+use Rattle.cows.specs.Terms.{Term, Action, size}
 use Rattle.cows.specs.Places.{wayTo, sub}
-use Rattle.cows.specs.Moves.{communicateAt}
+use Rattle.cows.specs.Moves.{fit, communicateAt}
 use Rattle.ways.specs.Known.{Known}
 use Rattle.ways.specs.Ways.{startOf, LiveAt, Walk}
+use Rattle.matching.specs.declared.Fit.the-variants.{Binds}
+use Rattle.matching.specs.Matching.{fitOf, ActionAt}
 use Rattle.plans.specs.Plans.{resultOf}
 use Rattle.communicate.specs.declared.Sought.{Sought}
 use Rattle.communicate.specs.declared.Sought.the-variants.{Both, Missing}
@@ -22,6 +24,10 @@ pub record BothLive (s : List ℕ) (a b : ℕ) (receiver : List ℕ) (k : ℕ) (
 abbrev pub Seeks : (s : List ℕ) (a b : ℕ) (receiver sender : List ℕ) (t : Term) → Sought → Type 0
 Seeks s a b receiver sender t (Both k n) = BothLive s a b receiver k sender n t
 Seeks s a b receiver sender t (Missing p) = communicateAt t a b ≡ refuse 11 p
+
+-- The receive and the invoke match, and bind l variables.
+abbrev pub BothMatch : (s : List ℕ) (a b l : ℕ) → Type 0
+BothMatch s a b l = (q m : Action) → ActionAt s a q → ActionAt s b m → Binds l ≡ fitOf (fit q m)
 
 -- The two may meet and bind l variables, and so many records are left; or the refusal.
 pub record Meetable (t : Term) (a b l : ℕ) : Type 0 where

@@ -1,6 +1,7 @@
 // Communicate (meeting): a live receive and a live invoke that fits it. The invoke becomes nil, the receive, with the whole choice around it, its
 // continuation, and each variable that is bound takes its value throughout its delimitation, which goes.
 use matching::Fit;
+use matching::difference_number;
 use matching::fits;
 use matching::taking::takes_at;
 use plans::Judgement;
@@ -23,7 +24,7 @@ ghost use Rattle.cows.specs.Moves.{communicateAt};
 ghost use Rattle.ways.specs.Known.{Table, Known};
 ghost use Rattle.ways.specs.Ways.{startOf, LiveAt, Walk};
 ghost use Rattle.plans.specs.Plans.{Planned, Asks, Gives};
-ghost use Rattle.communicate.specs.Judging.{BothLive, Seeks, Meetable, Settles, Continues};
+ghost use Rattle.communicate.specs.Judging.{BothLive, Seeks, BothMatch, Meetable, Settles, Continues};
 
 // Looking for the parties: the lengths of the ways to both, or the place of one that is not live.
 enum Sought {
@@ -58,7 +59,34 @@ fn seek(
     Sought::Both(k, n)
 }
 
-// 12 to 15: whether the parties match, what they bind is in scope, and nothing holds them back.
+// 13 to 15, of parties that match and bind l variables: whether what they bind is in scope, and nothing holds them back.
+fn ask_matched(
+    s: &[u8],
+    ends: &[u16],
+    a: usize,
+    b: usize,
+    receiver: &[u16],
+    k: usize,
+    sender: &[u16],
+    n: usize,
+    l: usize,
+) -> Asked
+    requires { ⌜ Known (now s) (now ends) × Walk (now s) (now receiver) k × Walk (now s) (now sender) n × (a < length (now s) / 16) × (b < length (now s) / 16) ⌝ }
+    ensures { λ r. ⌜ ((t : Term) → Table (now (s .entry)) (now (ends .entry)) t → BothLive (now (s .entry)) a b (now (receiver .entry)) k (now (sender .entry)) n t → BothMatch (now (s .entry)) a b l → Settles t a b r) ⌝ }
+{
+    if !all_in_scope(s, a, b, receiver, k, sender, n) {
+        return Asked::Barred(Judgement::Apart(a));
+    }
+    if let Found::At(p) = holding::first_held(s, ends, a, b) {
+        return Asked::Barred(Judgement::Held(p));
+    }
+    if let Found::At(p) = holding::conflicts::first_tighter(s, ends, b, l) {
+        return Asked::Barred(Judgement::Looser(p));
+    }
+    Asked::Agreed(l)
+}
+
+// 12 to 15: whether the parties match, and if not the number of what differs; then 13 to 15.
 fn ask(
     s: &[u8],
     ends: &[u16],
@@ -72,19 +100,10 @@ fn ask(
     requires { ⌜ Known (now s) (now ends) × Walk (now s) (now receiver) k × Walk (now s) (now sender) n × (a < length (now s) / 16) × (b < length (now s) / 16) ⌝ }
     ensures { λ r. ⌜ ((t : Term) → Table (now (s .entry)) (now (ends .entry)) t → BothLive (now (s .entry)) a b (now (receiver .entry)) k (now (sender .entry)) n t → Settles t a b r) ⌝ }
 {
-    let Fit::Binds(l) = fits(s, a, b) else {
-        return Asked::Barred(Judgement::Differs(a));
-    };
-    if !all_in_scope(s, a, b, receiver, k, sender, n) {
-        return Asked::Barred(Judgement::Apart(a));
+    match fits(s, a, b) {
+        Fit::Differs(d) => Asked::Barred(Judgement::Differs(difference_number(d))),
+        Fit::Binds(l) => ask_matched(s, ends, a, b, receiver, k, sender, n, l),
     }
-    if let Found::At(p) = holding::first_held(s, ends, a, b) {
-        return Asked::Barred(Judgement::Held(p));
-    }
-    if let Found::At(p) = holding::conflicts::first_tighter(s, ends, b, l) {
-        return Asked::Barred(Judgement::Looser(p));
-    }
-    Asked::Agreed(l)
 }
 
 // The plan of a meeting that binds l variables: the records that are left, and where the whole choice around the receive begins.

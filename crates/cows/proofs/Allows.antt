@@ -110,11 +110,11 @@ unfolding communicateAt
 communicate-meets t s a b e =
     let (r, er, e₁) = bind-accept (wanted (prefixed receives) t a) _ s e in
     let (m, em, e₂) = bind-accept (wanted invokes t b) _ s e₁ in
-    let (σ, eσ, e₃) = bind-accept (matched a (fit r m)) _ s e₂ in
+    let (σ, eσ, e₃) = bind-accept (matched (fit r m)) _ s e₂ in
     let (sc, e₄) = forbid-accept 13 (placeIf (not (every (inScope t a b) σ)) a) _ s e₃ in
     let (hb, e₅) = forbid-accept 14 (first (heldBack a b) t) _ s e₄ in
     let (tg, e₆) = forbid-accept 15 (first (tighter m (length σ)) t) _ s e₅ in
-    (σ, meets t a b r m σ er em (matched-binds a (fit r m) σ eσ) (not-false _ (placeIf-none _ a sc)) hb tg, same-accept e₆)
+    (σ, meets t a b r m σ er em (matched-binds (fit r m) σ eσ) (not-false _ (placeIf-none _ a sc)) hb tg, same-accept e₆)
 
 pub meets-communicate : (t : Term) (a b : ℕ) (σ : Substitution) → Meets t a b σ → communicateAt t a b ≡ accept (bind σ (continue (silence t b) a))
 unfolding communicateAt _>>=_ _>>_ forbid matched placeIf prefixed receives invokes

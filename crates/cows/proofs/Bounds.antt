@@ -1,36 +1,48 @@
--- The number of a refusal is 1 or more, and its place is below any bound that the records and the numbers of the move are below: one walk over the
--- refusals of a table, of a step on it and of a play on it.
+-- One walk over the refusals of a table, of a step on it and of a play on it: what holds of 12 with the number of what differs, and of every other refusal
+-- with each place below a bound that the records and the numbers of the move are below, holds of each of them. So a refusal has a number from 1 on, and its
+-- place is below any such bound of 7 or more; and 12 comes from matching alone.
 use mathlib.Core.Path.{_≡_, refl, ap, subst}
-use mathlib.Core.Bool.{Bool, true, false}
+use mathlib.Core.Bool.{Bool, true, false, not, _||_}
 use mathlib.Core.Option.{Option, none, some}
 use mathlib.Core.List.{List, map}
 use Prim.Native.Nat.{ℕ, zero, suc, _+_, _≤_, _<_}
 use native.Mathlib.Omega.{arith}
+use lib.Dec.{ltb, eqb}
 use lib.ListN.{length, getElem?, length-map}
 use Rattle.cows.specs.Basics.{placeIf, Result, refuse, accept, _>>=_, _>>_, forbid, need}
-use Rattle.cows.specs.Terms.{Term, size}
+use Rattle.cows.specs.Terms.{Term, Action, size, invokes, prefixed, receives, receiveOf}
 use Rattle.cows.specs.Kinds.{kind}
-use Rattle.cows.specs.Places.{Spot, spotAt, first}
+use Rattle.cows.specs.Places.{Spot, spotAt, sub, first}
 use Rattle.cows.specs.Format.{byte, word, readNode, rightRecord, records, decode}
 use Rattle.cows.specs.Tables.{endOf, wrongEnd, children, misshapen, judgeTerm, judge}
+use Rattle.cows.specs.Within.{Within, Right}
 use Rattle.cows.specs.Active.{wanted}
-use Rattle.cows.specs.Moves.{Matching, binds, differs, matched, Move, Kill, Communicate, Timeout, Elapse, Unfold, Extrude, killAt, communicateAt, timeoutAt, elapseBy, unfoldAt, extrudeAt, successor}
+use Rattle.cows.specs.Moves.{Mismatch, Matching, binds, differs, fit, mismatchNumber, matched, Move, Kill, Communicate, Timeout, Elapse, Unfold, Extrude, killAt, communicateAt, timeoutAt, elapseBy, unfoldAt, extrudeAt, successor}
 use Rattle.cows.specs.Step.{rightMove, sixMoves, readMove, proposed, fitted, stepTerm, judgeStep}
 use Rattle.cows.specs.Run.{judgePlay}
-use Rattle.cows.proofs.Basics.{same-some, only-some, placeIf-none, firstFrom-below, need-accept}
+use Rattle.cows.proofs.Basics.{never, same-some, only-some, placeIf-none, firstFrom-below, need-accept}
 use Rattle.cows.proofs.Format.{length-nodes, nodes-decode}
 use Rattle.cows.proofs.Tables.{right-length}
 use Rattle.cows.proofs.Cut.{length-cut, failing-below}
 use Rattle.cows.proofs.Ends.{end-bounds}
-use lib.Dec.{ltb}
+use Rattle.cows.proofs.Stands.{right-at, looks, prefixed-is, wanted-is}
+use Rattle.cows.proofs.Unlike.{number-small}
+
+-- P of the number and the place of a refusal; a number from 1 on that is not 12
+abbrev pub OfRefusal : {A : Type 0} → (ℕ → ℕ → Type 0) → Result A → Type 0
+OfRefusal P (refuse n p) = P n p
+OfRefusal P (accept a) = Unit {0}
+
+abbrev pub beside12 : ℕ → Bool
+beside12 n = not (eqb n 0 || eqb n 12)
+
+beside-from-one : (n : ℕ) → beside12 n ≡ true → 1 ≤ n
+beside-from-one zero e = never e
+beside-from-one (suc n) e = omega arith
 
 -- a refusal has a number from 1 on, and its place is below b
 abbrev pub Below : {A : Type 0} → ℕ → Result A → Type 0
-Below b (refuse n p) = (1 ≤ n) × (p < b)
-Below b (accept a) = Unit {0}
-
-from-one : {A : Type 0} (b : ℕ) {n p : ℕ} {r : Result A} → r ≡ refuse n p → Below b r → 1 ≤ n
-from-one b e h = subst (Below b) e h .0
+Below b r = OfRefusal (λ n p. (1 ≤ n) × (p < b)) r
 
 -- the places of the tests
 place-below : (c : Bool) (a b : ℕ) → a < b → (p : ℕ) → placeIf c a ≡ some p → p < b
@@ -74,21 +86,27 @@ bound-of n (Elapse d) = (suc (n + d), omega arith, omega arith)
 bound-of n (Unfold a) = (suc (n + a), omega arith, omega arith)
 bound-of n (Extrude a) = (suc (n + a), omega arith, omega arith)
 
-module _ (b : ℕ) where
-  below-bind : {A B : Type 0} (m : Result A) (k : A → Result B) → Below b m → ((a : A) → m ≡ accept a → Below b (k a)) → Below b (m >>= k)
+-- what holds of 12 where a live receive and a live invoke differ
+abbrev pub OfMismatch : (ℕ → Type 0) → Term → Move → Type 0
+OfMismatch P t v =
+    (a c : ℕ) (r m : Action) (d : Mismatch) → v ≡ Communicate a c → wanted (prefixed receives) t a ≡ accept r → wanted invokes t c ≡ accept m
+    → fit r m ≡ differs d → P (mismatchNumber d)
+
+module _ (b : ℕ) (P : ℕ → ℕ → Type 0) (others : (n p : ℕ) → beside12 n ≡ true → p < b → P n p) where
+  refusal-bind : {A B : Type 0} (m : Result A) (k : A → Result B) → OfRefusal P m → ((a : A) → m ≡ accept a → OfRefusal P (k a)) → OfRefusal P (m >>= k)
   unfolding _>>=_
-  below-bind (refuse n p) k h f = h
-  below-bind (accept a) k h f = f a refl
+  refusal-bind (refuse n p) k h f = h
+  refusal-bind (accept a) k h f = f a refl
 
-  below-forbid : {B : Type 0} (n : ℕ) (o : Option ℕ) (k : Result B) → 1 ≤ n → ((p : ℕ) → o ≡ some p → p < b) → (o ≡ none → Below b k) → Below b (forbid n o >> k)
+  refusal-forbid : {B : Type 0} (n : ℕ) (o : Option ℕ) (k : Result B) → beside12 n ≡ true → ((p : ℕ) → o ≡ some p → p < b) → (o ≡ none → OfRefusal P k) → OfRefusal P (forbid n o >> k)
   unfolding forbid _>>_
-  below-forbid n none k l h f = f refl
-  below-forbid n (some p) k l h f = (l, h p refl)
+  refusal-forbid n none k l h f = f refl
+  refusal-forbid n (some p) k l h f = others n p l (h p refl)
 
-  below-need : {A : Type 0} (n p : ℕ) (o : Option A) → 1 ≤ n → p < b → Below b (need n p o)
+  refusal-need : {A : Type 0} (n p : ℕ) (o : Option A) → beside12 n ≡ true → p < b → OfRefusal P (need n p o)
   unfolding need
-  below-need n p none l h = (l, h)
-  below-need n p (some a) l h = tt
+  refusal-need n p none l h = others n p l h
+  refusal-need n p (some a) l h = tt
 
   -- 4 to 7, and the refusals of a move
   module _ (t : Term) (room : size t ≤ b) where
@@ -96,76 +114,103 @@ module _ (b : ℕ) where
     unfolding first
     first-below f p e = omega (arith, firstFrom-below (λ n. f n (spotAt t n)) 0 (size t) p e)
 
-    below-term : Below b (judgeTerm t)
+    refusal-term : OfRefusal P (judgeTerm t)
     unfolding judgeTerm
-    below-term =
-        below-forbid 4 _ _ (omega arith) (first-below _)
-        (λ _. below-forbid 5 _ _ (omega arith) (first-below _) (λ _. below-forbid 6 _ _ (omega arith) (first-below _) (λ _. below-forbid 7 _ _ (omega arith) (first-below _) (λ _. tt))))
+    refusal-term =
+        refusal-forbid 4 _ _ refl (first-below _)
+        (λ _. refusal-forbid 5 _ _ refl (first-below _) (λ _. refusal-forbid 6 _ _ refl (first-below _) (λ _. refusal-forbid 7 _ _ refl (first-below _) (λ _. tt))))
 
-    below-wanted : {A : Type 0} (kind : Term → Option A) (a : ℕ) → a < b → Below b (wanted kind t a)
+    refusal-wanted : {A : Type 0} (kind : Term → Option A) (a : ℕ) → a < b → OfRefusal P (wanted kind t a)
     unfolding wanted
-    below-wanted kind a l = below-need 11 a _ (omega arith) l
+    refusal-wanted kind a l = refusal-need 11 a _ refl l
 
-    below-matched : (a : ℕ) → a < b → (m : Matching) → Below b (matched a m)
+    refusal-matched : (x : Matching) → ((d : Mismatch) → x ≡ differs d → P 12 (mismatchNumber d)) → OfRefusal P (matched x)
     unfolding matched
-    below-matched a l (binds σ) = tt
-    below-matched a l (differs d) = (omega arith, l)
+    refusal-matched (binds σ) h = tt
+    refusal-matched (differs d) h = h d refl
 
-    below-successor : (v : Move) → NumbersBelow b v → Below b (successor t v)
+    refusal-successor : (v : Move) → NumbersBelow b v → OfMismatch (P 12) t v → OfRefusal P (successor t v)
     unfolding successor killAt communicateAt timeoutAt elapseBy unfoldAt extrudeAt
-    below-successor (Kill a) l = below-bind (wanted _ t a) _ (below-wanted _ a l) (λ k _. tt)
-    below-successor (Communicate a c) l =
-        below-bind (wanted _ t a) _ (below-wanted _ a (l .0))
-        (λ r _. below-bind (wanted _ t c) _ (below-wanted _ c (l .1))
-        (λ m _. below-bind (matched a _) _ (below-matched a (l .0) _)
-        (λ σ _. below-forbid 13 _ _ (omega arith) (place-below _ a b (l .0))
-        (λ _. below-forbid 14 _ _ (omega arith) (first-below _) (λ _. below-forbid 15 _ _ (omega arith) (first-below _) (λ _. tt))))))
-    below-successor (Timeout a) l = below-bind (wanted _ t a) _ (below-wanted _ a l) (λ i _. below-forbid 16 _ _ (omega arith) (place-below _ a b l) (λ _. tt))
-    below-successor (Elapse d) l = below-forbid 17 _ _ (omega arith) (place-below _ 0 b (omega (arith, l))) (λ _. below-forbid 17 _ _ (omega arith) (first-below _) (λ _. tt))
-    below-successor (Unfold a) l = below-bind (wanted _ t a) _ (below-wanted _ a l) (λ r _. tt)
-    below-successor (Extrude a) l = below-bind (wanted _ t a) _ (below-wanted _ a l) (λ d _. below-forbid 18 _ _ (omega arith) (place-below _ a b l) (λ _. tt))
+    refusal-successor (Kill a) l h = refusal-bind (wanted _ t a) _ (refusal-wanted _ a l) (λ k _. tt)
+    refusal-successor (Communicate a c) l h =
+        refusal-bind (wanted _ t a) _ (refusal-wanted _ a (l .0))
+        (λ r er. refusal-bind (wanted _ t c) _ (refusal-wanted _ c (l .1))
+        (λ m em. refusal-bind (matched (fit r m)) _ (refusal-matched (fit r m) (λ d e. h a c r m d refl er em e))
+        (λ σ _. refusal-forbid 13 _ _ refl (place-below _ a b (l .0))
+        (λ _. refusal-forbid 14 _ _ refl (first-below _) (λ _. refusal-forbid 15 _ _ refl (first-below _) (λ _. tt))))))
+    refusal-successor (Timeout a) l h = refusal-bind (wanted _ t a) _ (refusal-wanted _ a l) (λ i _. refusal-forbid 16 _ _ refl (place-below _ a b l) (λ _. tt))
+    refusal-successor (Elapse d) l h = refusal-forbid 17 _ _ refl (place-below _ 0 b (omega (arith, l))) (λ _. refusal-forbid 17 _ _ refl (first-below _) (λ _. tt))
+    refusal-successor (Unfold a) l h = refusal-bind (wanted _ t a) _ (refusal-wanted _ a l) (λ r _. tt)
+    refusal-successor (Extrude a) l h = refusal-bind (wanted _ t a) _ (refusal-wanted _ a l) (λ d _. refusal-forbid 18 _ _ refl (place-below _ a b l) (λ _. tt))
 
-    pub below-step : 0 < b → (m : Option Move) (out : ℕ) → ((v : Move) → m ≡ some v → NumbersBelow b v) → Below b (stepTerm t m out)
+    refusal-step : 0 < b → (m : Option Move) (out : ℕ) → ((v : Move) → m ≡ some v → NumbersBelow b v × OfMismatch (P 12) t v) → OfRefusal P (stepTerm t m out)
     unfolding stepTerm proposed fitted
-    below-step z m out l =
-        below-bind (proposed m t) _
-        (below-bind (need 10 0 m) _ (below-need 10 0 m (omega arith) z) (λ v e. below-successor v (l v (need-accept 10 0 m v e))))
-        (λ s _. below-forbid 20 _ _ (omega arith) (place-below _ 0 b z) (λ _. below-forbid 21 _ _ (omega arith) (place-below _ 0 b z) (λ _. tt)))
+    refusal-step z m out h =
+        refusal-bind (proposed m t) _
+        (refusal-bind (need 10 0 m) _ (refusal-need 10 0 m refl z) (λ v e. let (l, u) = h v (need-accept 10 0 m v e) in refusal-successor v l u))
+        (λ s _. refusal-forbid 20 _ _ refl (place-below _ 0 b z) (λ _. refusal-forbid 21 _ _ refl (place-below _ 0 b z) (λ _. tt)))
 
   -- on bytes
   module _ (limits : 2049 ≤ b) where
-    pub below-judge : (s : List ℕ) → Below b (judge s)
+    refusal-judge : (s : List ℕ) → OfRefusal P (judge s)
     unfolding judge misshapen
-    below-judge s =
-        below-forbid 1 _ _ (omega arith) (place-below _ 0 b (omega arith))
+    refusal-judge s =
+        refusal-forbid 1 _ _ refl (place-below _ 0 b (omega arith))
         (λ e₁. let (l, z) = right-length s (placeIf-none _ 0 e₁) in
         let r : length (records s) ≤ 2048 = omega (arith, length-cut 16 s) in
         let n : length (map readNode (records s)) ≤ 2048 = omega (arith, length-map (records s) readNode) in
-        below-forbid 2 _ _ (omega arith) (λ p e. omega (arith, failing-below rightRecord 0 (records s) p e))
-        (λ e₂. below-forbid 3 _ _ (omega arith) (λ p e. omega (arith, shape-below _ (endOf children 1 0 (map readNode (records s))) (λ k q. omega (arith, end-bounds children 1 0 (map readNode (records s)) k q)) p e))
-        (λ e₃. below-term (decode (map readNode (records s))) (omega (arith, length-nodes (decode (map readNode (records s))), ap length (nodes-decode (map readNode (records s)) e₃))))))
+        refusal-forbid 2 _ _ refl (λ p e. omega (arith, failing-below rightRecord 0 (records s) p e))
+        (λ e₂. refusal-forbid 3 _ _ refl (λ p e. omega (arith, shape-below _ (endOf children 1 0 (map readNode (records s))) (λ k q. omega (arith, end-bounds children 1 0 (map readNode (records s)) k q)) p e))
+        (λ e₃. refusal-term (decode (map readNode (records s))) (omega (arith, length-nodes (decode (map readNode (records s))), ap length (nodes-decode (map readNode (records s)) e₃))))))
 
-    pub below-judgeStep : (table m : List ℕ) (room : ℕ) → word m 2 < b → word m 4 < b → ((t : Term) → judge table ≡ accept t → size t ≤ b) → Below b (judgeStep table m room)
+    refusal-judgePlay : (table moves : List ℕ) (room slots : ℕ) → OfRefusal P (judgePlay table moves room slots)
+    unfolding judgePlay
+    refusal-judgePlay table moves room slots =
+        refusal-bind (judge table) _ (refusal-judge table)
+        (λ t _. refusal-forbid 19 _ _ refl (place-below _ 0 b (omega arith)) (λ _. refusal-forbid 21 _ _ refl (place-below _ 0 b (omega arith)) (λ _. tt)))
+
+-- Places below b. Those of 12 are 0 to 6.
+module _ (b : ℕ) where
+  beside-below : (n p : ℕ) → beside12 n ≡ true → p < b → (1 ≤ n) × (p < b)
+  beside-below n p e l = (beside-from-one n e, l)
+
+  mismatch-below : (t : Term) → Right t → 7 ≤ b → (v : Move) → OfMismatch (λ p. (1 ≤ 12) × (p < b)) t v
+  mismatch-below t h z v a c r m d _ er _ e =
+      (omega arith, omega (arith, number-small r m d e, subst Right (prefixed-is receives receiveOf (λ u. looks u .receiving) (sub t a) r (wanted-is (prefixed receives) t a r er)) (right-at t a h) .0 .2 .0))
+
+  pub below-step : (t : Term) → Right t → size t ≤ b → 7 ≤ b → (m : Option Move) (out : ℕ) → ((v : Move) → m ≡ some v → NumbersBelow b v) → Below b (stepTerm t m out)
+  below-step t h room z m out l = refusal-step b _ beside-below t room (omega arith) m out (λ v e. (l v e, mismatch-below t h z v))
+
+  module _ (limits : 2049 ≤ b) where
+    pub below-judge : (s : List ℕ) → Below b (judge s)
+    below-judge s = refusal-judge b _ beside-below limits s
+
+    pub below-judgeStep : (table m : List ℕ) (room : ℕ) → word m 2 < b → word m 4 < b → ((t : Term) → judge table ≡ accept t → Within t) → Below b (judgeStep table m room)
     unfolding judgeStep
-    below-judgeStep table m room h k small =
-        below-bind (judge table) _ (below-judge table) (λ t e. below-step t (small t e) (omega arith) (readMove m) room (read-small b m h k))
+    below-judgeStep table m room h k within =
+        refusal-bind b _ beside-below (judge table) _ (below-judge table)
+        (λ t e. below-step t (within t e .right) (omega (arith, within t e .small)) (omega arith) (readMove m) room (read-small b m h k))
 
     pub below-judgePlay : (table moves : List ℕ) (room slots : ℕ) → Below b (judgePlay table moves room slots)
-    unfolding judgePlay
-    below-judgePlay table moves room slots =
-        below-bind (judge table) _ (below-judge table)
-        (λ t _. below-forbid 19 _ _ (omega arith) (place-below _ 0 b (omega arith)) (λ _. below-forbid 21 _ _ (omega arith) (place-below _ 0 b (omega arith)) (λ _. tt)))
+    below-judgePlay table moves room slots = refusal-judgePlay b _ beside-below limits table moves room slots
+
+-- Any places: what holds of every other refusal, and of 12 where matching says what differs, holds of a step's refusal, on a term and on bytes.
+module _ (P : ℕ → ℕ → Type 0) (others : (n p : ℕ) → beside12 n ≡ true → P n p) where
+  pub step-refusal : (t : Term) (m : Option Move) (room : ℕ) → ((v : Move) → m ≡ some v → OfMismatch (P 12) t v) → OfRefusal P (stepTerm t m room)
+  step-refusal t none room h = refusal-step (suc (size t)) P (λ n p e _. others n p e) t (omega arith) (omega arith) none room (λ v k. absurd (let z : _≡_ {A = ℕ} 0 1 = cc in omega arith))
+  step-refusal t (some v) room h =
+      let (b, l, s) = bound-of (suc (size t)) v in
+      refusal-step b P (λ n p e _. others n p e) t (omega (arith, l)) (omega (arith, l)) (some v) room (λ w k. (subst (NumbersBelow b) (same-some k) s, h w k))
+
+  pub judgeStep-refusal : (table m : List ℕ) (room : ℕ) → ((t : Term) → judge table ≡ accept t → (v : Move) → readMove m ≡ some v → OfMismatch (P 12) t v) → OfRefusal P (judgeStep table m room)
+  unfolding judgeStep
+  judgeStep-refusal table m room h =
+      refusal-bind 2049 P (λ n p e _. others n p e) (judge table) _ (refusal-judge 2049 P (λ n p e _. others n p e) (omega arith) table) (λ t e. step-refusal t (readMove m) room (h t e))
 
 -- The number alone: of a step on a term, and on bytes.
 pub step-from-one : (t : Term) (m : Option Move) (room n p : ℕ) → stepTerm t m room ≡ refuse n p → 1 ≤ n
-step-from-one t none room n p e = from-one (suc (size t)) e (below-step (suc (size t)) t (omega arith) (omega arith) none room (λ v k. absurd (let z : _≡_ {A = ℕ} 0 1 = cc in omega arith)))
-step-from-one t (some v) room n p e = let (b, l, s) = bound-of (suc (size t)) v in
-    from-one b e (below-step b t (omega (arith, l)) (omega (arith, l)) (some v) room (λ w k. subst (NumbersBelow b) (same-some k) s))
+step-from-one t m room n p e = subst (OfRefusal (λ n p. 1 ≤ n)) e (step-refusal (λ n p. 1 ≤ n) (λ n p. beside-from-one n) t m room (λ v _ a c r i d _ _ _ _. omega arith))
 
 pub judgeStep-from-one : (table m : List ℕ) (room n p : ℕ) → judgeStep table m room ≡ refuse n p → 1 ≤ n
-unfolding judgeStep _>>=_
-judgeStep-from-one table m room n p e = go (judge table) (below-judge 2049 (omega arith) table) e
-  where
-    go : (r : Result Term) → Below 2049 r → (r >>= (λ t. stepTerm t (readMove m) room)) ≡ refuse n p → 1 ≤ n
-    go (refuse n₁ p₁) h e = from-one 2049 e h
-    go (accept t) h e = step-from-one t (readMove m) room n p e
+judgeStep-from-one table m room n p e =
+    subst (OfRefusal (λ n p. 1 ≤ n)) e (judgeStep-refusal (λ n p. 1 ≤ n) (λ n p. beside-from-one n) table m room (λ t _ v _ a c r i d _ _ _ _. omega arith))

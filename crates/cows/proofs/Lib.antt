@@ -11,6 +11,7 @@ pub mod Fields
 pub mod Refusals
 pub mod Tables
 pub mod Lists
+pub mod Unlike
 pub mod Bounds
 pub mod Step
 pub mod Stands
@@ -37,6 +38,7 @@ pub mod Remains
 pub mod Allows
 pub mod Corollaries
 pub mod Accepts
+pub mod Mismatched
 pub mod Load
 pub mod Run
 pub mod Theorems

@@ -81,10 +81,10 @@ pub fits-fit : (r m : Action) (σ : Substitution) → Fits r m σ → fit r m �
 unfolding fit closedAction provided
 fits-fit r m σ f = rw (f .closed, eq-eqb _ _ (f .partner), eq-eqb _ _ (f .operation), eq-eqb _ _ (matches-lengths (f .matches))) (matches-match (f .matches) 0)
 
-pub matched-binds : (a : ℕ) (m : Matching) (σ : Substitution) → matched a m ≡ accept σ → m ≡ binds σ
+pub matched-binds : (m : Matching) (σ : Substitution) → matched m ≡ accept σ → m ≡ binds σ
 unfolding matched
-matched-binds a (binds τ) σ e = ap binds (same-accept e)
-matched-binds a (differs d) σ e = cc
+matched-binds (binds τ) σ e = ap binds (same-accept e)
+matched-binds (differs d) σ e = cc
 
 -- 13: the delimitation of a value, if there is one, encloses the variable's
 abbrev Nested : Term → ℕ → ℕ → Type 0

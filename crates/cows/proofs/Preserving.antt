@@ -93,9 +93,9 @@ unfolding communicateAt
 sound-communicate t s a b e h =
     let (r, er, e₁) = bind-accept (wanted (prefixed receives) t a) _ s e in
     let (m, em, e₂) = bind-accept (wanted invokes t b) _ s e₁ in
-    let (σ, eσ, e₃) = bind-accept (matched a (fit r m)) _ s e₂ in
+    let (σ, eσ, e₃) = bind-accept (matched (fit r m)) _ s e₂ in
     let (es, is) = scopes-passed t a b m σ (bind σ (continue (silence t b) a)) s e₃ in
-    let (k, p) = meeting-binds t a b r m σ (wanted-is (prefixed receives) t a r er) (wanted-is invokes t b m em) (matched-binds a (fit r m) σ eσ) es h in
+    let (k, p) = meeting-binds t a b r m σ (wanted-is (prefixed receives) t a r er) (wanted-is invokes t b m em) (matched-binds (fit r m) σ eσ) es h in
     subst Sound is (sound-bind σ (continue (silence t b) a) p k)
 
 -- The successor of a term within the limits is right and well formed.

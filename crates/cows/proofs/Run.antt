@@ -37,7 +37,7 @@ unfolding communicateAt copies spent lost
 law-communicate t s a b e =
     let (r, er, e₁) = bind-accept (wanted (prefixed receives) t a) _ s e in
     let (m, em, e₂) = bind-accept (wanted invokes t b) _ s e₁ in
-    let (σ, eσ, e₃) = bind-accept (matched a (fit r m)) _ s e₂ in
+    let (σ, eσ, e₃) = bind-accept (matched (fit r m)) _ s e₂ in
     let e₆ = forbid-accept 15 _ _ s (forbid-accept 14 _ _ s (forbid-accept 13 _ _ s e₃ .1) .1) .1 in
     subst (Law t (Communicate a b)) (same-accept e₆)
     (omega (arith, load-communicate σ t a b r m (wanted-is (prefixed receives) t a r er) (wanted-is invokes t b m em)))

@@ -1,5 +1,5 @@
 -- The theorems, each with a one-line proof that cites where it is shown. What they speak of is defined in specs/; a table is a list of bytes.
-use mathlib.Core.Path.{_≡_, sym, ap, _∙_}
+use mathlib.Core.Path.{_≡_, sym, ap, subst, _∙_}
 use mathlib.Core.Logic.{_≢_, _↔_}
 use mathlib.Core.Bool.{false}
 use mathlib.Core.Option.{Option}
@@ -8,23 +8,27 @@ use Prim.Native.Nat.{ℕ, _+_, _*_, _≤_}
 use native.Mathlib.Omega.{arith}
 use lib.Dec.{T}
 use lib.ListN.{length, getD}
-use Rattle.cows.specs.Basics.{every, accept}
-use Rattle.cows.specs.Terms.{nil, kill, invoke, receive, delimitation, Term, leaf, under, kills, below}
+use Rattle.cows.specs.Basics.{any, every, refuse, accept}
+use Rattle.cows.specs.Terms.{nil, kill, invoke, receive, delimitation, Term, leaf, under, Action, variable, kills, below}
 use Rattle.cows.specs.Places.{inside, Way, fill, wayTo, sub, enclosed}
 use Rattle.cows.specs.Format.{AreBytes, encode}
 use Rattle.cows.specs.Tables.{judge}
 use Rattle.cows.specs.Within.{Within}
-use Rattle.cows.specs.Moves.{Substitution, silence, Move, Kill, Communicate, Timeout, Elapse, Unfold, Extrude, successor}
+use Rattle.cows.specs.Moves.{Substitution, Mismatch, differs, fit, mismatchNumber, silence, Move, Kill, Communicate, Timeout, Elapse, Unfold, Extrude, successor}
 use Rattle.cows.specs.Allows.{Stands, Meets, Matches, Unheld, Tightest, Halted, Ended, Allows}
 use Rattle.cows.specs.Remains.{MeetingLeaves}
 use Rattle.cows.specs.Step.{readMove, judgeStep, stepTerm, stepReply, stepOutput}
 use Rattle.cows.specs.Accepts.{Accepts}
+use Rattle.cows.specs.Mismatched.{Unlike, Lowest, Mismatched}
 use Rattle.cows.specs.Load.{load, shielded, endedBy, dropped, lost, spent, copies}
 use Rattle.cows.specs.Run.{RunState, start, judgement, run, losses}
 use Rattle.cows.specs.Papers.{rightNight, papers, papers-right}
 use Rattle.cows.specs.Misreadings.{misreadings, misreadings-right}
 use Rattle.cows.proofs.Format.{encode-bytes, encode-injective}
 use Rattle.cows.proofs.Tables.{judge-encode, judge-within, within-judge}
+use Rattle.cows.proofs.Meeting.{fit-fits, fits-fit}
+use Rattle.cows.proofs.Unlike.{fit-lowest, lowest-fit, fit-alike, alike-fit}
+use Rattle.cows.proofs.Mismatched.{refused-mismatched, mismatched-refused, mismatched-few}
 use Rattle.cows.proofs.Allows.{successor-allows, allows-successor, allows-unique}
 use Rattle.cows.proofs.Remains.{meeting-leaves, leaves-meeting}
 use Rattle.cows.proofs.Accepts.{accepted-accepts, accepts-accepted, accepts-one, accepts-within}
@@ -150,6 +154,24 @@ halting-twice t s h = halted-twice h
 
 pub halting-load : (t s : Term) → Halted t s → load s ≡ shielded t
 halting-load t s h = halted-load h
+
+-- 7. (2026-02) Matching finds the lowest number in which a receive and an invoke differ; there is none exactly if they match as `Meets` asks. A step refuses
+-- with 12 exactly where a live receive and a live invoke differ, and its place is that number, at most 6.
+pub lowest-found : (r m : Action) (n : ℕ) → ((d : Mismatch) × (fit r m ≡ differs d) × (mismatchNumber d ≡ n)) ↔ Lowest (Unlike r m) n
+lowest-found r m n = ((λ x. subst (Lowest (Unlike r m)) (x .2) (fit-lowest r m (x .0) (x .1))), lowest-fit r m n)
+
+pub alike-match : (r m : Action) → ((n : ℕ) → Unlike r m n → ⊥)
+    ↔ ((σ : Substitution) × (any variable (m .partner ∷ m .operation ∷ m .tuple) ≡ false) × (r .partner ≡ m .partner) × (r .operation ≡ m .operation) × Matches (r .tuple) (m .tuple) σ)
+alike-match r m = (
+  (λ h. let (σ, e) = alike-fit r m h in let f = fit-fits r m σ e in (σ, f .closed, f .partner, f .operation, f .matches)),
+  λ (σ, c, p, o, e). fit-alike r m σ (fits-fit r m σ (record { closed = c; partner = p; operation = o; matches = e })),
+)
+
+pub mismatch-told : (table m : List ℕ) (room n : ℕ) → AreBytes table → (judgeStep table m room ≡ refuse 12 n) ↔ Mismatched table m n
+mismatch-told table m room n h = (refused-mismatched table m room n h, mismatched-refused table m room n)
+
+pub mismatch-few : (table m : List ℕ) (n : ℕ) → Mismatched table m n → n ≤ 6
+mismatch-few table m n x = mismatched-few table m n x
 
 -- N1 to N12, and the misreadings.
 pub nights : T (every rightNight papers)

@@ -15,6 +15,7 @@ pub mod Allows
 pub mod Remains
 pub mod Step
 pub mod Accepts
+pub mod Mismatched
 pub mod Load
 pub mod Run
 pub mod Papers

@@ -1,7 +1,7 @@
 -- Readings of document 01 that N1 to N12 do not all tell apart: a small case for each, in the form of the nights on paper, and one
 -- check of them. First those that were seen to go wrong, then a case for each clause of specs/Moves, move by move, and for the rows of specs/Kinds:
 -- docs/DECISIONS.md has for every clause a change of it and the case that turns false. The files of must-fail/ make some of the wrong readings.
-use mathlib.Core.List.{List, [], _∷_, map}
+use mathlib.Core.List.{List, [], _∷_, _++_, map}
 use Prim.Native.Nat.{ℕ}
 use lib.Dec.{T}
 use Rattle.cows.specs.Basics.{every}
@@ -47,6 +47,12 @@ three a b c = new a (new b (new c (leaf (kill c) ∣ invoke! b a [])))
 
 abbrev body : ℕ → ℕ → Term
 body a b = new a (new b ⟦ receive? a 7 (b ∷ a ∷ []) (waitFor 6 (rep (invoke! b a (n ∷ []))) ∣ (receive? 7 a [] 𝟘 ⊕ 𝟘)) ⟧)
+
+abbrev unlike : Term
+unlike =
+    invoke! x 3 (v ∷ v ∷ v ∷ v ∷ []) ∣ invoke! 3 x (v ∷ v ∷ v ∷ v ∷ []) ∣ invoke! 3 2 (v ∷ v ∷ v ∷ x ∷ []) ∣ invoke! 1 2 (v ∷ v ∷ x ∷ v ∷ []) ∣ invoke! 1 2 (x ∷ [])
+    ∣ invoke! 3 2 (n ∷ []) ∣ invoke! 1 3 (n ∷ v ∷ v ∷ v ∷ []) ∣ invoke! 1 2 (n ∷ v ∷ v ∷ [])
+    ∣ invoke! 1 2 (n ∷ n ∷ n ∷ n ∷ []) ∣ invoke! 1 2 (v ∷ n ∷ n ∷ n ∷ []) ∣ invoke! 1 2 (v ∷ v ∷ n ∷ n ∷ [])
 
 -- A night that is not refused whole: the table, the moves, their replies, the table left, the total.
 abbrev night : Term → List (List ℕ) → List Reply → Term → List ℕ → Night
@@ -129,7 +135,12 @@ misreadings =
     -- M25: 12 looks at the count, from both sides, at partner, operation and each value, and at a variable that is sent
     ∷ night (new x (receive? 1 2 (x ∷ v ∷ []) 𝟘 ∣ offers x ∣ invoke! 1 2 (n ∷ v ∷ [])))
     (meeting 2 6 ∷ meeting 2 8 ∷ meeting 2 10 ∷ meeting 2 12 ∷ meeting 2 14 ∷ meeting 2 15 ∷ meeting 2 16 ∷ [])
-    (says 12 2 17 ∷ says 12 2 17 ∷ says 12 2 17 ∷ says 12 2 17 ∷ says 12 2 17 ∷ says 12 2 17 ∷ says 0 0 15 ∷ []) (𝟘 ∣ offers n ∣ 𝟘) (1 ∷ 0 ∷ 0 ∷ 6 ∷ [])
+    (says 12 2 17 ∷ says 12 2 17 ∷ says 12 1 17 ∷ says 12 1 17 ∷ says 12 4 17 ∷ says 12 0 17 ∷ says 0 0 15 ∷ []) (𝟘 ∣ offers n ∣ 𝟘) (1 ∷ 0 ∷ 0 ∷ 6 ∷ [])
+    -- M52: 12's place is the lowest that differs: 0 a variable in the endpoint or the tuple, also where endpoint or count differ or the pattern has one;
+    -- 1 before 2 and the values; 2 before the values; 3 to 6, the first value of the pattern that differs, its variables passed over
+    ∷ refused (new x (receive? 1 2 (v ∷ v ∷ x ∷ v ∷ []) 𝟘 ∣ receive? 1 2 (x ∷ v ∷ v ∷ v ∷ []) 𝟘 ∣ unlike))
+    (map (meeting 2) (8 ∷ 10 ∷ 12 ∷ 14 ∷ 16 ∷ 18 ∷ 20 ∷ 22 ∷ 24 ∷ 26 ∷ 27 ∷ []) ++ map (meeting 5) (24 ∷ 27 ∷ []))
+    (map (λ d. says 12 d 28) (0 ∷ 0 ∷ 0 ∷ 0 ∷ 0 ∷ 1 ∷ 1 ∷ 2 ∷ 3 ∷ 4 ∷ 6 ∷ 4 ∷ 5 ∷ [])) 13
     -- M26: 13 looks at every variable, and each takes the value at its own place
     ∷ night (new x (new y (new z (receive? 1 2 (x ∷ v ∷ y ∷ z ∷ []) (invoke! 3 2 (x ∷ y ∷ z ∷ []))) ∣ invoke! 1 2 (6 ∷ v ∷ n ∷ 7 ∷ []))))
     (meeting 4 6 ∷ float 3 ∷ meeting 4 6 ∷ []) (says 13 4 7 ∷ says 0 0 7 ∷ says 0 0 3 ∷ []) (invoke! 3 2 (6 ∷ n ∷ 7 ∷ []) ∣ 𝟘) (1 ∷ 0 ∷ 0 ∷ 1 ∷ [])

@@ -2,7 +2,7 @@
 -- Names of the calculus stand for the paper's: kill (stop fires), communicate (meeting), timeout (expiry), elapse (time), unfold (unfolding), extrude (floating).
 use mathlib.Core.Bool.{Bool, false, cond, not, _&&_, _||_}
 use mathlib.Core.List.{List, [], _∷_, map}
-use Prim.Native.Nat.{ℕ, zero, suc, _-_}
+use Prim.Native.Nat.{ℕ, zero, suc, _+_, _-_}
 use lib.Dec.{ltb, eqb}
 use lib.ListN.{length}
 use Rattle.cows.specs.Limits.{firstVariable, firstLabel}
@@ -89,10 +89,16 @@ fit r m =
     (provided (eqb (r .partner) (m .partner) && eqb (r .operation) (m .operation)) otherEndpoint
     (provided (eqb (length (r .tuple)) (length (m .tuple))) otherCount (match 0 (r .tuple) (m .tuple))))
 
--- 12: endpoint, count, value or unset variable, alike.
-unfoldable pub matched : ℕ → Matching → Result Substitution
-matched a (binds σ) = accept σ
-matched a (differs d) = refuse 12 a
+-- 12: its place says what differs (2026-02): 0 an unset variable, 1 the endpoint, 2 the count, 3 to 6 the first of the slots one to four whose value differs.
+unfoldable pub mismatchNumber : Mismatch → ℕ
+mismatchNumber unsetVariable = 0
+mismatchNumber otherEndpoint = 1
+mismatchNumber otherCount = 2
+mismatchNumber (otherValue n) = 3 + n
+
+unfoldable pub matched : Matching → Result Substitution
+matched (binds σ) = accept σ
+matched (differs d) = refuse 12 (mismatchNumber d)
 
 -- 13: the delimitation of a variable encloses both parties, and that of its value, if there is one, the variable's.
 -- (A delimitation of x that stands outside every one of v.)
@@ -173,7 +179,7 @@ unfoldable pub communicateAt : Term → ℕ → ℕ → Result Term
 communicateAt t a b = do
   r ← wanted (prefixed receives) t a
   m ← wanted invokes t b
-  σ ← matched a (fit r m)
+  σ ← matched (fit r m)
   forbid 13 (placeIf (not (every (inScope t a b) σ)) a)
   forbid 14 (first (heldBack a b) t)
   forbid 15 (first (tighter m (length σ)) t)
@@ -272,5 +278,5 @@ successor t (Extrude a) = extrudeAt t a
 
 -- (for computed checks) to unfold this is to unfold every definition of this file
 unfoldable pub open-moves : Unit {0}
-unfolding haltUnder haltBoth halt haltBeside haltInside afterKill killAt provided besides match closedAction fit matched outside inScope readyKill heldBack fewer tighter silence aroundChoice continue mapBasic mapPrefix mapNode mapAtoms image instantiate bind communicateAt timeoutAt lower elapse shorter elapseBy firstFree least fresh renaming freshCopy afterUnfold unfoldAt fitting exchange afterExtrude extrudeAt successor
+unfolding haltUnder haltBoth halt haltBeside haltInside afterKill killAt provided besides match closedAction fit mismatchNumber matched outside inScope readyKill heldBack fewer tighter silence aroundChoice continue mapBasic mapPrefix mapNode mapAtoms image instantiate bind communicateAt timeoutAt lower elapse shorter elapseBy firstFree least fresh renaming freshCopy afterUnfold unfoldAt fitting exchange afterExtrude extrudeAt successor
 open-moves = tt

@@ -96,11 +96,11 @@ module _ (t : Term) (w : Within t) (a b : ℕ) where
       let (s, es, _, _) = fine-accepts (communicateAt t a b) o in
       let (r, er, e₁) = bind-accept (wanted (prefixed receives) t a) _ s es in
       let (m, em, e₂) = bind-accept (wanted invokes t b) _ s e₁ in
-      let (σ, eσ, e₃) = bind-accept (matched a (fit r m)) _ s e₂ in
+      let (σ, eσ, e₃) = bind-accept (matched (fit r m)) _ s e₂ in
       let (h₁₃, e₄) = forbid-accept 13 (placeIf (not (every (inScope t a b) σ)) a) _ s e₃ in
       let (h₁₄, e₅) = forbid-accept 14 (first (heldBack a b) t) _ s e₄ in
       let (h₁₅, _) = forbid-accept 15 (first (tighter m (length σ)) t) _ s e₅ in
-      let f = matched-binds a (fit r m) σ eσ in
+      let f = matched-binds (fit r m) σ eσ in
       let x = wanted-seen (prefixed receives) t a r er in
       let (p, q) = heldBack-unheld t a b h₁₄ in
       has-pair t a b (seen (prefixed receives) t a) (seen invokes t b)

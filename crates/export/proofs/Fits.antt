@@ -55,7 +55,7 @@ pub step-fits : (table m out : List ℕ) → AreBytes table → ((k : ℕ) → g
 unfolding stepReply judgeStep replyTo
 step-fits table m out k h =
     fits (λ x. replyOf (replyTo x)) size (λ n p. refl) (λ s. refl) (judgeStep table m (length out))
-    (below-judgeStep 65536 (omega arith) table m (length out) (word-small m 2 h) (word-small m 4 h) (λ t e. omega (arith, judge-within table t k e .small)))
+    (below-judgeStep 65536 (omega arith) table m (length out) (word-small m 2 h) (word-small m 4 h) (λ t e. judge-within table t k e))
     (λ s e. let (t, et, es) = bind-accept (judge table) _ s e in
     step-within t s (readMove m) (length out) (judge-within table t k et) es .small)
 

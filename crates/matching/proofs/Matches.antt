@@ -1,24 +1,23 @@
 -- Matching by four slots of which those that are not used are 0 (specs/Matching) is matching of the tuples (cows, specs/Moves).
 use mathlib.Core.Path.{_≡_, refl, sym, ap, _∙_}
-use mathlib.Core.Logic.{_≢_}
 use mathlib.Core.Bool.{Bool, true, false, cond, _&&_, _||_}
 use mathlib.Core.List.{List, [], _∷_}
 use Prim.Native.Nat.{ℕ, zero, suc, _+_, _*_, _≤_}
 use native.Mathlib.Omega.{arith}
 use lib.Dec.{eqb}
 use lib.ListN.{length, getD}
-use borrow.Author.Tests.{eq-eqb, ne-eqb}
+use borrow.Author.Tests.{eqb-true}
 use Rattle.cows.specs.Basics.{any, every, oneIf}
 use Rattle.cows.specs.Allows.{Matches, empty, takes, equals}
 use Rattle.cows.specs.Terms.{Action, variable}
 use Rattle.cows.specs.Format.{byte, word}
-use Rattle.cows.specs.Moves.{Substitution, otherEndpoint, otherCount, otherValue, Matching, binds, differs, provided, besides, match, closedAction, fit}
-use Rattle.cows.proofs.Basics.{and-one, or-none}
+use Rattle.cows.specs.Moves.{Substitution, Mismatch, unsetVariable, otherEndpoint, otherCount, otherValue, Matching, binds, differs, provided, besides, match, closedAction, fit}
+use Rattle.cows.proofs.Basics.{never, and-true, and-one, or-none}
 use Rattle.records.specs.Atoms.{closedAt}
-use Rattle.matching.specs.declared.Difference.the-variants.{Unset, Endpoint, Count, Slot}
+use Rattle.matching.specs.declared.Difference.the-variants.{Slot}
 use Rattle.matching.specs.declared.Fit.{Fit}
 use Rattle.matching.specs.declared.Fit.the-variants.{Binds, Differs}
-use Rattle.matching.specs.Matching.{fitOf, agree, slotsOf, slotsAt, ActionAt, slotTest}
+use Rattle.matching.specs.Matching.{differenceOf, mismatchOf, fitOf, agree, firstUnlike, slotsOf, slotsAt, ActionAt, slotTest}
 
 -- So many variables more; k slots from the n-th on, w in the pattern and v in the message.
 more : ℕ → Fit → Fit
@@ -98,35 +97,54 @@ pub closed-ends : (s : List ℕ) (b : ℕ) (m : Action) → ActionAt s b m → c
 unfolding closedAt closedAction variable any
 closed-ends s b m k = rw (k .partner, k .operation, k .slot0, k .slot1, k .slot2, k .slot3, any-four variable refl (m .tuple) (k .few))
 
+-- what the answer says is what differs
+pub mismatch-same : (d : Mismatch) → mismatchOf (differenceOf d) ≡ d
+mismatch-same unsetVariable = refl
+mismatch-same otherEndpoint = refl
+mismatch-same otherCount = refl
+mismatch-same (otherValue n) = refl
+
+-- the tests ahead of the slots: one that fails is named, the first of them; else the slots decide
+tests-fail : (closed endpoint count : Bool) (rest : Matching) → (closed && (endpoint && count)) ≡ false
+    → Differs (firstUnlike closed endpoint) ≡ fitOf (provided closed unsetVariable (provided endpoint otherEndpoint (provided count otherCount rest)))
+unfolding provided
+tests-fail true true true rest e = never (sym e)
+tests-fail true true false rest e = refl
+tests-fail true false count rest e = refl
+tests-fail false endpoint count rest e = refl
+
+tests-pass : (closed endpoint count : Bool) (rest : Matching) → (closed && (endpoint && count)) ≡ true
+    → rest ≡ provided closed unsetVariable (provided endpoint otherEndpoint (provided count otherCount rest))
+unfolding provided
+tests-pass true true true rest e = refl
+tests-pass true true false rest e = never e
+tests-pass true false count rest e = never e
+tests-pass false endpoint count rest e = never e
+
 -- The records at places a and b have the endpoints and tuples of q and m.
 module _ (s : List ℕ) (a b : ℕ) (q m : Action) (h : ActionAt s a q) (k : ActionAt s b m) where
-  pub not-closed : closedAt s (16 * b) ≡ false → Differs Unset ≡ fitOf (fit q m)
-  unfolding fit provided
-  not-closed e = rw (sym (closed-ends s b m k) ∙ e)
-
   slots-same : length (q .tuple) ≡ length (m .tuple) → slotsAt s (16 * a) (16 * b) ≡ fitOf (match 0 (q .tuple) (m .tuple))
   unfolding slotsAt
   slots-same e =
       rw (h .slot0, h .slot1, h .slot2, h .slot3, k .slot0, k .slot1, k .slot2, k .slot3)
       (slots-four (λ i. getD (q .tuple) i 0) (λ i. getD (m .tuple) i 0) ∙ sym (match-slots 4 0 (q .tuple) (m .tuple) (h .few) e))
 
-  -- a message that holds no variable: by the endpoints, the counts, and the slots
-  module _ (c : closedAction m ≡ true) where
-    abbrev ends-same : Bool
-    ends-same = eqb (word s (16 * a + 2)) (word s (16 * b + 2)) && eqb (word s (16 * a + 4)) (word s (16 * b + 4))
+  abbrev endsSame : Bool
+  endsSame = eqb (word s (16 * a + 2)) (word s (16 * b + 2)) && eqb (word s (16 * a + 4)) (word s (16 * b + 4))
 
-    fit-tests : fit q m ≡ provided ends-same otherEndpoint (provided (eqb (getD s (16 * a + 1) 0) (getD s (16 * b + 1) 0)) otherCount (match 0 (q .tuple) (m .tuple)))
-    unfolding fit provided byte
-    fit-tests = rw (c, h .partner, h .operation, k .partner, k .operation, h .count, k .count)
+  abbrev countSame : Bool
+  countSame = eqb (getD s (16 * a + 1) 0) (getD s (16 * b + 1) 0)
 
-    pub other-endpoint : ends-same ≡ false → Differs Endpoint ≡ fitOf (fit q m)
-    unfolding provided
-    other-endpoint e = rw (fit-tests, e)
+  fit-tests : fit q m ≡ provided (closedAction m) unsetVariable (provided endsSame otherEndpoint (provided countSame otherCount (match 0 (q .tuple) (m .tuple))))
+  unfolding fit provided byte
+  fit-tests = rw (h .partner, h .operation, k .partner, k .operation, h .count, k .count)
 
-    pub other-count : ends-same ≡ true → getD s (16 * a + 1) 0 ≢ getD s (16 * b + 1) 0 → Differs Count ≡ fitOf (fit q m)
-    unfolding provided
-    other-count e n = rw (fit-tests, e, ne-eqb _ _ n)
+  module _ (closed : Bool) (c : closed ≡ closedAction m) where
+    pub unlike-so : (closed && (endsSame && countSame)) ≡ false → Differs (firstUnlike closed endsSame) ≡ fitOf (fit q m)
+    unlike-so e = rw (fit-tests, ← c) (tests-fail closed endsSame countSame (match 0 (q .tuple) (m .tuple)) e)
 
-    pub slots-so : ends-same ≡ true → getD s (16 * a + 1) 0 ≡ getD s (16 * b + 1) 0 → slotsAt s (16 * a) (16 * b) ≡ fitOf (fit q m)
-    unfolding provided byte
-    slots-so e n = rw (fit-tests, e, eq-eqb _ _ n) (slots-same (sym (h .count) ∙ (n ∙ k .count)))
+    pub slots-so : (closed && (endsSame && countSame)) ≡ true → slotsAt s (16 * a) (16 * b) ≡ fitOf (fit q m)
+    unfolding byte
+    slots-so e =
+        let l = eqb-true _ _ (and-true endsSame countSame (and-true closed _ e .1) .1) in
+        slots-same (sym (h .count) ∙ (l ∙ k .count)) ∙ rw (fit-tests, ← c) (ap fitOf (tests-pass closed endsSame countSame (match 0 (q .tuple) (m .tuple)) e))

@@ -14,12 +14,18 @@ use Rattle.matching.specs.declared.Difference.the-variants.{Unset, Endpo
 use Rattle.matching.specs.declared.Fit.{Fit}
 use Rattle.matching.specs.declared.Fit.the-variants.{Binds, Differs}
 
--- the answer of a matching
+-- the answer of a matching, and what it says
 abbrev pub differenceOf : Mismatch → Difference
 differenceOf unsetVariable = Unset
 differenceOf otherEndpoint = Endpoint
 differenceOf otherCount = Count
 differenceOf (otherValue n) = Slot n
+
+abbrev pub mismatchOf : Difference → Mismatch
+mismatchOf Unset = unsetVariable
+mismatchOf Endpoint = otherEndpoint
+mismatchOf Count = otherCount
+mismatchOf (Slot n) = otherValue n
 
 abbrev pub fitOf : Matching → Fit
 fitOf (binds σ) = Binds (length σ)
@@ -32,6 +38,10 @@ agree w v = variable w || eqb w v
 -- the first of four slots that does not agree, by the first three
 abbrev pub firstApart : Bool → Bool → Bool → ℕ
 firstApart w x y = cond w (cond x (cond y 3 2) 1) 0
+
+-- what differs ahead of the slots, by the tests of the message's variables and of the endpoints
+abbrev pub firstUnlike : Bool → Bool → Difference
+firstUnlike closed endpoint = cond closed (cond endpoint Count Endpoint) Unset
 
 -- the same of the slots of the records at bytes k and m (those that are not used are 0, and agree)
 abbrev pub slotsOf : (w x y z : Bool) (variables : ℕ) → Fit

@@ -1,10 +1,11 @@
-// Matching: whether a receive fits an invoke, by the atoms of their records, and what differs if not. The meeting and the conflict test both ask it.
+// Matching: whether a receive fits an invoke, by the atoms of their records, and what differs if not. The meeting, the conflict test and the list of open moves ask it.
 pub mod taking;
 
 use records::atom_at;
 use records::closed;
 use records::equal;
 use records::is_variable;
+use records::wide8;
 use records::word_at;
 ghost use mathlib.Core.Path.{_≡_};
 ghost use mathlib.Core.Bool.{true};
@@ -13,15 +14,15 @@ ghost use lib.ListN.{length};
 ghost use Rattle.cows.specs.Terms.{Action, variable};
 ghost use Rattle.cows.specs.Basics.{oneIf};
 ghost use Rattle.cows.specs.Format.{word};
-ghost use Rattle.cows.specs.Moves.{closedAction, fit};
-ghost use Rattle.matching.specs.Matching.{fitOf, agree, firstApart, slotsAt, ActionAt};
+ghost use Rattle.cows.specs.Moves.{closedAction, fit, mismatchNumber};
+ghost use Rattle.matching.specs.Matching.{mismatchOf, fitOf, agree, firstApart, firstUnlike, slotsAt, ActionAt};
 
-// What differs, in the order in which it is looked for; a slot of the tuples by its index.
+// What differs, the lowest number first; a slot of the tuples by its index.
 pub enum Difference {
     Unset,
     Endpoint,
     Count,
-    Slot(usize),
+    Slot(u8),
 }
 
 // The tuples match and bind so many variables, or this differs.
@@ -48,7 +49,7 @@ fn variables_at(s: &[u8], k: usize) -> usize
 }
 
 // The index of the first of four slots that does not agree: w, x and y say of the first three whether they do.
-fn first_apart(w: bool, x: bool, y: bool) -> usize
+fn first_apart(w: bool, x: bool, y: bool) -> u8
     ensures { λ r. ⌜ r ≡ firstApart w x y ⌝ }
 {
     if !w {
@@ -79,20 +80,41 @@ fn slots_fit(s: &[u8], k: usize, m: usize) -> Fit
     Fit::Binds(front + variables_at(s, k + 10) + variables_at(s, k + 12))
 }
 
+// What differs ahead of the slots: of no variable, the same endpoint and the same count, the first that is not so.
+fn first_unlike(closed: bool, endpoint: bool) -> Difference
+    ensures { λ r. ⌜ r ≡ firstUnlike closed endpoint ⌝ }
+{
+    if !closed {
+        return Difference::Unset;
+    }
+    if !endpoint {
+        return Difference::Endpoint;
+    }
+    Difference::Count
+}
+
+// Whether the receive at place a fits the invoke at place b; `closed` says whether the invoke holds no variable.
+fn compare(s: &[u8], a: usize, b: usize, closed: bool) -> Fit
+    requires { ⌜ (16 * a + 15 < length (now s)) × (16 * b + 15 < length (now s)) ⌝ }
+    ensures { λ r. ⌜ ((q m : Action) → ActionAt (now (s .entry)) a q → ActionAt (now (s .entry)) b m → closed ≡ closedAction m → r ≡ fitOf (fit q m)) ⌝ }
+{
+    let k = 16 * a;
+    let m = 16 * b;
+    let endpoint = (word_at(s, k + 2) == word_at(s, m + 2))
+        & (word_at(s, k + 4) == word_at(s, m + 4));
+    let count = s[k + 1] == s[m + 1];
+    if !(closed & (endpoint & count)) {
+        return Fit::Differs(first_unlike(closed, endpoint));
+    }
+    slots_fit(s, k, m)
+}
+
 // Whether the receive at place a fits the invoke at place b, which holds no variable.
 pub fn fits_closed(s: &[u8], a: usize, b: usize) -> Fit
     requires { ⌜ (16 * a + 15 < length (now s)) × (16 * b + 15 < length (now s)) ⌝ }
     ensures { λ r. ⌜ ((q m : Action) → ActionAt (now (s .entry)) a q → ActionAt (now (s .entry)) b m → closedAction m ≡ true → r ≡ fitOf (fit q m)) ⌝ }
 {
-    let k = 16 * a;
-    let m = 16 * b;
-    if !((word_at(s, k + 2) == word_at(s, m + 2)) & (word_at(s, k + 4) == word_at(s, m + 4))) {
-        return Fit::Differs(Difference::Endpoint);
-    }
-    if s[k + 1] != s[m + 1] {
-        return Fit::Differs(Difference::Count);
-    }
-    slots_fit(s, k, m)
+    compare(s, a, b, true)
 }
 
 // Whether the receive at place a fits the invoke at place b.
@@ -100,8 +122,17 @@ pub fn fits(s: &[u8], a: usize, b: usize) -> Fit
     requires { ⌜ (16 * a + 15 < length (now s)) × (16 * b + 15 < length (now s)) ⌝ }
     ensures { λ r. ⌜ ((q m : Action) → ActionAt (now (s .entry)) a q → ActionAt (now (s .entry)) b m → r ≡ fitOf (fit q m)) ⌝ }
 {
-    if !closed(s, 16 * b) {
-        return Fit::Differs(Difference::Unset);
+    compare(s, a, b, closed(s, 16 * b))
+}
+
+// The number by which a refusal says what differs.
+pub fn difference_number(difference: Difference) -> usize
+    ensures { λ r. ⌜ r ≡ mismatchNumber (mismatchOf difference) ⌝ }
+{
+    match difference {
+        Difference::Unset => 0,
+        Difference::Endpoint => 1,
+        Difference::Count => 2,
+        Difference::Slot(i) => 3 + wide8(i),
     }
-    fits_closed(s, a, b)
 }

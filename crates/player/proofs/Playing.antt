@@ -10,6 +10,7 @@ use lib.Seq.{sets-eq, getD-take, getD-drop, take-at, drop-at, drop-drop}
 use Rattle.cows.specs.Basics.{Result, refuse, accept}
 use Rattle.cows.specs.Terms.{Term, size}
 use Rattle.cows.specs.Format.{bytes2, byte, word}
+use Rattle.cows.specs.Within.{Within}
 use Rattle.cows.specs.Moves.{Move}
 use Rattle.cows.specs.Step.{Reply, readMove, stepTerm}
 use Rattle.cows.specs.Run.{noTally, RunState, start, run, judgement, turn, kept, replies, replyBytes, reply6}
@@ -69,11 +70,11 @@ module _ (l : List ℕ) (small : (k : ℕ) → getD l k 0 < 256) (i : ℕ) where
   byte-small : (k : ℕ) → k < 6 → getD (bytesAt l i) k 0 < 256
   byte-small k h = rw (getD-take 6 (drop (6 * i) l) k 0 h, getD-drop (6 * i) l k 0) (small (6 * i + k))
 
-  place-small : (q : RunState) → size (q .table) ≤ 2048 → kept q (judgement q (moveAt l i)) .place < 65536
+  place-small : (q : RunState) → Within (q .table) → kept q (judgement q (moveAt l i)) .place < 65536
   unfolding kept judgement word byte
   place-small q h =
       go (stepTerm (q .table) (moveAt l i) 32768)
-      (below-step 65536 (q .table) (omega arith) (omega arith) (moveAt l i) 32768
+      (below-step 65536 (q .table) (h .right) (omega (arith, h .small)) (omega arith) (moveAt l i) 32768
       (read-small 65536 (bytesAt l i) (omega (arith, byte-small 2 (omega arith), byte-small 3 (omega arith))) (omega (arith, byte-small 4 (omega arith), byte-small 5 (omega arith)))))
     where
       go : (x : Result Term) → Below 65536 x → kept q x .place < 65536
@@ -88,7 +89,7 @@ module _ (moves : List ℕ) (i : ℕ) (k : Kept) (x y ends slots : List ℕ) (o 
         let q = o .going .run in
         let h = o .going .keeps in
         let e = g .replies q h in
-        let a : r .reply .place < 65536 = subst (λ v. v < 65536) (sym (ap (λ (v : code.Reply). v .place) e)) (place-small moves small i q (h .table .within .small)) in
+        let a : r .reply .place < 65536 = subst (λ v. v < 65536) (sym (ap (λ (v : code.Reply). v .place) e)) (place-small moves small i q (h .table .within)) in
         let b : r .reply .records ≡ size (turn q (moveAt moves i) .table) = ap (λ (v : code.Reply). v .records) e ∙ kept-records q (moveAt moves i) in
         (a, omega (arith, b, g .keeps q h .table .within .small))
 

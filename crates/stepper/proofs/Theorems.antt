@@ -1,15 +1,17 @@
--- Demand 2 as one theorem about whatever meets the equations of a step (`Stepped`); `step` promises both.
+-- Demand 2 as one theorem about whatever meets the equations of a step (`Stepped`); `step` promises both. And what 12 and its place say (2026-02).
 use mathlib.Core.Path.{_≡_, refl, sym, ap, _∙_}
-use mathlib.Core.Logic.{_≢_}
+use mathlib.Core.Logic.{_≢_, _↔_}
 use mathlib.Core.List.{List}
 use Prim.Native.Nat.{ℕ}
+use native.Mathlib.Omega.{arith}
 use lib.ListN.{length}
 use Rattle.cows.specs.Basics.{Result, refuse, accept}
 use Rattle.cows.specs.Terms.{Term}
 use Rattle.cows.specs.Format.{AreBytes}
 use Rattle.cows.specs.Step.{judgeStep, replyTo, written, stepReply, stepOutput}
 use Rattle.cows.specs.Accepts.{Accepts}
-use Rattle.cows.proofs.Theorems.{step-accepted, answer-zero, one-accepted, accepted-within, refused-untouched}
+use Rattle.cows.specs.Mismatched.{Mismatched}
+use Rattle.cows.proofs.Theorems.{step-accepted, answer-zero, one-accepted, accepted-within, refused-untouched, mismatch-told}
 use Rattle.tables.specs.declared.Reply.{Reply}
 use Rattle.stepper.specs.Replies.{replyOf, Stepped}
 use Rattle.stepper.specs.Demand.{Demand2}
@@ -60,3 +62,15 @@ module _ (table m out after : List ℕ) (r : Reply) (bytes : AreBytes table) (st
   -- both promises of a step
   pub promised : Stepped table m out after r × Demand2 table m out after r
   promised = (stepped, demand-2)
+
+  -- 12 at n is replied exactly where a live receive and a live invoke differ, and n is the lowest number in which they do
+  pub mismatch-replied : (n : ℕ) → (r ≡ record { answer = 12; place = n; records = 0 }) ↔ Mismatched table m n
+  unfolding stepReply replyTo
+  mismatch-replied n = (
+    (λ e. mismatch-told table m (length out) n bytes .0 (go (judgeStep table m (length out)) (sym (stepped .replies) ∙ e))),
+    λ x. stepped .replies ∙ rw (mismatch-told table m (length out) n bytes .1 x),
+  )
+    where
+      go : (x : Result Term) → replyOf (replyTo x) ≡ record { answer = 12; place = n; records = 0 } → x ≡ refuse 12 n
+      go (refuse k p) e = let i : k ≡ 12 = ap (λ (y : Reply). y .answer) e in let j : p ≡ n = ap (λ (y : Reply). y .place) e in rw (i, j)
+      go (accept s) e = absurd (let i : _≡_ {A = ℕ} 0 12 = ap (λ (y : Reply). y .answer) e in omega arith)

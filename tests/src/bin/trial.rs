@@ -48,7 +48,7 @@ fn differential(seed: u64, cases: u64) {
 
 const KINDS: [&str; 6] = ["kill", "communication", "timeout", "time", "unfolding", "extrusion"];
 
-/// The counts of every refusal and of every kind accepted; none may be 0.
+/// The counts of every refusal, of every place of 12 and of every kind accepted; none may be 0.
 fn report(reached: &Reached) {
     println!("  {} steps and {} checks and loads agree in reply, place, records and every byte", reached.steps, reached.checks);
     println!("  {} plays of {} moves agree in reply, tally and every byte of both buffers", reached.plays, reached.played);
@@ -59,6 +59,12 @@ fn report(reached: &Reached) {
         println!("  refusal {answer:2}: {}", reached.answers[answer]);
         if reached.answers[answer] == 0 {
             missing.push(format!("refusal {answer}"));
+        }
+    }
+    for (place, count) in reached.differences.iter().enumerate() {
+        println!("  refusal 12 at {place}: {count}");
+        if *count == 0 {
+            missing.push(format!("refusal 12 at {place}"));
         }
     }
     for (kind, count) in KINDS.iter().zip(reached.accepted) {

@@ -46,7 +46,7 @@ impl<'a, 'b> Around<'a, 'b> {
         let receive = wanted(self.all, a, |h| matches!(h, Head::Receive(_)))?;
         let invoke = wanted(self.all, b, |h| matches!(h, Head::Invoke(_)))?;
         let (pattern, sent) = (ends(receive), ends(invoke));
-        let Some(pairs) = matching(pattern, sent) else { return refuse(12, a) };
+        let pairs = matching(pattern, sent).or_else(|what| refuse(12, if planted(Fault::DiffersAtReceive) { a } else { what }))?;
         if pairs.iter().any(|pair| !in_scope(self.all, receive, invoke, pair, &pairs)) {
             return refuse(13, a);
         }
@@ -89,19 +89,28 @@ fn ends<'a>(p: &Place<'a>) -> &'a Ends {
     }
 }
 
-/// The pairs of a pattern and what is sent: no variable is sent, endpoints and counts are equal, each value of the pattern is the one sent.
-fn matching(pattern: &Ends, sent: &Ends) -> Option<Pairs> {
-    let mut atoms = [sent.partner, sent.operation].into_iter().chain(sent.tuple.iter().copied());
-    if atoms.any(is_variable) && !planted(Fault::VariableSent) {
-        return None;
+/// What the pattern's variables take; or what differs, the lowest that applies: 0 a variable is sent, in the endpoint or the tuple, 1 another endpoint,
+/// 2 another count, 3 to 6 another value in the first slot where the pattern has a value that is not the one sent.
+fn matching(pattern: &Ends, sent: &Ends) -> Result<Pairs, usize> {
+    let other_endpoint = (pattern.partner, pattern.operation) != (sent.partner, sent.operation);
+    let unseen = other_endpoint && planted(Fault::SentVariableUnseen);
+    let tuple: &[Atom] = if unseen { &[] } else { &sent.tuple };
+    let unset = [sent.partner, sent.operation].iter().chain(tuple).any(|a| is_variable(*a)) && !planted(Fault::VariableSent);
+    let mut whole = [(unset, 0), (other_endpoint, 1), (pattern.tuple.len() != sent.tuple.len(), 2)];
+    if planted(Fault::CountBeforeEndpoint) {
+        whole.swap(1, 2);
     }
-    let same_endpoint = (pattern.partner, pattern.operation) == (sent.partner, sent.operation);
-    if !same_endpoint || pattern.tuple.len() != sent.tuple.len() {
-        return None;
+    if let Some((_, number)) = whole.into_iter().find(|(applies, _)| *applies) {
+        return Err(number);
     }
     let slots: Pairs = pattern.tuple.iter().copied().zip(sent.tuple.iter().copied()).collect();
-    let (pairs, values): (Pairs, Pairs) = slots.into_iter().partition(|(w, _)| is_variable(*w));
-    values.iter().all(|(w, v)| w == v).then_some(pairs)
+    let taken = |w: Atom| is_variable(w) && !planted(Fault::PatternVariableDiffers);
+    let mut others = slots.iter().enumerate().filter(|(_, (w, v))| !taken(*w) && w != v);
+    let told = if planted(Fault::LastSlotTold) { others.next_back() } else { others.next() };
+    match told {
+        Some((i, _)) => Err(3 + i),
+        None => Ok(slots.into_iter().filter(|(w, _)| is_variable(*w)).collect()),
+    }
 }
 
 /// 13: the variable's delimitation encloses both parties; that of the value sent, if there is one, encloses the variable's.
@@ -129,7 +138,7 @@ fn holds_back(all: &[Place], p: &Place) -> bool {
 
 /// Whether another receive fits what is sent and has fewer pattern variables.
 fn fewer(other: &Place, receive: &Place, invoke: &Place, ours: &Pairs) -> bool {
-    let Some(theirs) = matching(ends(other), ends(invoke)) else { return false };
+    let Ok(theirs) = matching(ends(other), ends(invoke)) else { return false };
     let open_for = |pairs: &Pairs, at: &Place, p: &Place| {
         let shared = |x: Atom| at.scope(x).is_some_and(|i| p.below(at.way[i].number));
         pairs.iter().filter(|(x, _)| shared(*x)).count()

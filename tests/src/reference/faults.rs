@@ -65,6 +65,11 @@ faults! {
     HaltDropsDelimitation: "halting removes delimitations",
     // communications
     VariableSent: "a variable may be sent",
+    DiffersAtReceive: "12's place is the receive",
+    SentVariableUnseen: "a variable of the tuple is not seen where the endpoint differs",
+    CountBeforeEndpoint: "another count is told before another endpoint",
+    LastSlotTold: "the last slot that differs is told, not the first",
+    PatternVariableDiffers: "a pattern's variable counts as a difference",
     ScopeOfReceive: "a variable's delimitation need not enclose the invoke",
     ValueEscapes: "a delimited value may leave its delimitation",
     EveryValueEncloses: "every value sent must enclose every variable",

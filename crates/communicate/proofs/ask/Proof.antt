@@ -1,9 +1,8 @@
 use borrow.Author.Needs.{needs}
-use borrow.Author.Tests.{not-true, not-false}
-use mathlib.Core.Path.{refl, sym, _∙_}
+use mathlib.Core.Path.{sym, ap, _∙_}
 use native.Mathlib.Omega.{arith}
-use Rattle.records.proofs.Laws.{found-at, found-nothing}
-use Rattle.communicate.proofs.Judged.{ends-b, parties-fit, differ, meets, closed, apart, held, looser, may-meet}
+use Rattle.cows.specs.Basics.{refuse}
+use Rattle.communicate.proofs.Judged.{parties-fit, differ}
 use Rattle.communicate.proofs.ask.Statement.{statement}
 use Rattle.communicate.proofs.ask.Tie as tie
 
@@ -12,38 +11,7 @@ ask-spec =
     tie.close
     (tie.spec
     (λ c κs. let f = c .before .before .before .before .pre in omega (arith, f .0 .whole))
-    (λ c. search needs) (λ c. search needs)
-    (λ c t z h. (12, _, refl, differ z h _ (sym (c .enum-told .given .1) ∙ parties-fit z h (c .before .before .fits2 .ensures))))
-    (λ c κs. let f = c .before .before .before .before .before .before .before .before .pre in (f .1, f .2, omega (arith, f .0 .whole), omega (arith, f .0 .whole)))
-    (λ c t z h.
-    let i = c .before .before .before in
-    let e = sym (i .l .given .1) ∙ parties-fit z h (i .before .before .fits2 .ensures) in
-    (13, _, refl, apart z h e (sym (c .before .all-in-scope .ensures t _ (meets z h e)) ∙ not-true _ (c .if1 .taken))))
-    (λ c κs. let f = c .before .before .before .before .before .before .before .before .before .before .pre in (f .0, f .3, f .4))
-    (λ c. search needs)
-    (λ c t z h.
-    let j = c .before .before .before .before in
-    let i = j .before .before .before in
-    let e = sym (i .l .given .1) ∙ parties-fit z h (i .before .before .fits2 .ensures) in
-    let y = sym (j .before .all-in-scope .ensures t _ (meets z h e)) ∙ not-false _ (j .if1 .left) in
-    (14, _, refl, held z h e y _ (found-at _ _ (sym (c .before .p .given .1) ∙ c .before .before .before .first-held .ensures t z (h .receive .live) (h .invoke .live)))))
-    (λ c. search needs)
-    (λ c κs. let f = c .before .before .before .before .before .before .before .before .before .before .before .before .before .pre in (f .0, f .4))
-    (λ c. search needs)
-    (λ c t z h.
-    let l = c .before .before .before .before in
-    let j = l .before .before .before in
-    let i = j .before .before .before in
-    let e = sym (i .l .given .1) ∙ parties-fit z h (i .before .before .fits2 .ensures) in
-    let y = sym (j .before .all-in-scope .ensures t _ (meets z h e)) ∙ not-false _ (j .if1 .left) in
-    let x = found-nothing _ (sym (l .enum-told2 .given .1) ∙ l .before .before .first-held .ensures t z (h .receive .live) (h .invoke .live)) in
-    (15, _, refl, looser z h e y x _ (found-at _ _ (sym (c .before .p2 .given .1) ∙ c .before .before .before .first-tighter .ensures t _ z (ends-b z h) (closed z h e)))))
-    (λ c. search needs)
-    (λ c t z h.
-    let l = c .before .before .before in
-    let j = l .before .before .before in
-    let i = j .before .before .before in
-    let e = sym (i .l .given .1) ∙ parties-fit z h (i .before .before .fits2 .ensures) in
-    let y = sym (j .before .all-in-scope .ensures t _ (meets z h e)) ∙ not-false _ (j .if1 .left) in
-    let x = found-nothing _ (sym (l .enum-told2 .given .1) ∙ l .before .before .first-held .ensures t z (h .receive .live) (h .invoke .live)) in
-    may-meet z h e y x (found-nothing _ (sym (c .enum-told3 .given .1) ∙ c .before .before .first-tighter .ensures t _ z (ends-b z h) (closed z h e)))))
+    (λ c. search needs) (λ c κs. search needs) (λ c. search needs)
+    (λ c κs. c .before .before .before .before .before .before .before .before .pre)
+    (λ c t z h. (12, _, ap (refuse 12) (c .difference-number .ensures), differ z h _ (sym (c .before .before .d .given .1) ∙ parties-fit z h (c .before .before .before .before .fits2 .ensures))))
+    (λ c t z h. c .ask-matched .ensures t z h (λ q m i j. sym (c .before .before .l .given .1) ∙ c .before .before .before .before .fits2 .ensures q m i j)))
