@@ -5,9 +5,9 @@
  * 4 unfolding at a, 5 extrusion at a. Bytes may be anything and lengths too: every call is answered. Buffers that are
  * read are never changed. A buffer that is written overlaps no other. No pointer is NULL, not even that of a buffer of length 0.
  *
- * A reply is one number: see the three functions below. Answer 0 is accepted: place 0, and the number of records.
- * Any other answer is a refusal, with 0 records and untouched buffers. The lowest number that applies is given,
- * then the lowest place. Places count records from 0, but those of 12 and 22.
+ * A reply is one number: see the three functions at the end. Answer 0 is accepted: place 0, and the number of records.
+ * Any other answer is a refusal, with 0 records and untouched buffers. The lowest number that applies is given
+ * (for a script 30 to 32 come before 20 and 21), then the lowest place. Places count records from 0, but those of 12 and 22.
  *
  *   the table's author
  *    1  no bytes, over 32,768, or not a multiple of 16                                  place 0
@@ -37,11 +37,22 @@
  *   the proposer of a list of moves
  *   19  over 10,000 moves: over 60,000 bytes                                            place 0
  *   the lender of the output
- *   20  the successor has over 2,048 records or a depth over 256                        place 0
- *   21  a step's output is shorter than the successor; a play's is shorter than
+ *   20  the successor, or the table of a script, has over 2,048 records or a depth
+ *       over 256                                                                        place 0
+ *   21  a step's or a script's output is shorter than that; a play's is shorter than
  *       32,768 bytes, or its replies than 6 bytes for each move                         place 0
  *   the lender of the list of open moves
  *   22  the list is shorter than 6 bytes for each of them                               their number
+ *   the author of an Orc script
+ *   30  no bytes, over 512 records, or not a multiple of 8; or a result endpoint that
+ *       is no pair of values                                                            place 0
+ *       or a record with an unknown kind, byte 1 or an unused field not zero, or an
+ *       atom of the wrong set                                                           the record
+ *   31  the expression ends before the records do                                       the first one over
+ *       or the records end first                                                        their number
+ *       or a depth over 64, where that comes first                                      the first such record
+ *   32  a variable used outside its scope, or bound a second time                       that record
+ *   then 20 and 21, of the script's table
  */
 #ifndef WIGANDOY_H
 #define WIGANDOY_H
@@ -62,6 +73,11 @@ enum {
     WIGANDOY_KILL_MOVE, WIGANDOY_COMMUNICATE, WIGANDOY_TIMEOUT, WIGANDOY_ELAPSE, WIGANDOY_UNFOLD, WIGANDOY_EXTRUDE
 };
 
+/* The kinds of an Orc script's records. */
+enum {
+    WIGANDOY_ORC_NOTHING, WIGANDOY_ORC_CALL, WIGANDOY_ORC_SEQUENCE, WIGANDOY_ORC_PARALLEL, WIGANDOY_ORC_WHERE
+};
+
 /* The answers, as numbered above. */
 enum {
     WIGANDOY_ACCEPTED = 0,
@@ -69,7 +85,8 @@ enum {
     WIGANDOY_NO_GUARD = 5, WIGANDOY_OUT_OF_SCOPE = 6, WIGANDOY_CLASH = 7,
     WIGANDOY_NO_MOVE = 10, WIGANDOY_ABSENT = 11, WIGANDOY_DIFFERS = 12, WIGANDOY_APART = 13, WIGANDOY_HELD_BACK = 14,
     WIGANDOY_LOOSER = 15, WIGANDOY_UNRIPE = 16, WIGANDOY_TOO_EARLY = 17, WIGANDOY_STUCK = 18, WIGANDOY_LIST_TOO_LONG = 19,
-    WIGANDOY_TOO_LARGE = 20, WIGANDOY_NO_ROOM = 21, WIGANDOY_LIST_TOO_SHORT = 22
+    WIGANDOY_TOO_LARGE = 20, WIGANDOY_NO_ROOM = 21, WIGANDOY_LIST_TOO_SHORT = 22,
+    WIGANDOY_BAD_SCRIPT = 30, WIGANDOY_BAD_NESTING = 31, WIGANDOY_BAD_BINDING = 32
 };
 
 /* The places of 12: what differs. In slot i of the tuple, from 0, it is WIGANDOY_OTHER_VALUE + i. */
@@ -87,6 +104,7 @@ enum {
 #define WIGANDOY_STACK_STEP 262144
 #define WIGANDOY_STACK_PLAY 327680
 #define WIGANDOY_STACK_OPEN 196608
+#define WIGANDOY_STACK_ORC 65536
 
 /* Whether bytes are a well-formed table: refusals 1 to 7, or 0 and its records. */
 uint64_t wigandoy_check(const uint8_t *table, size_t bytes);
@@ -112,6 +130,17 @@ uint64_t wigandoy_play(const uint8_t *table, size_t bytes, const uint8_t *moves,
  * number of moves in place of the records (it may pass 65,535, and is 0 where nothing can happen), with the moves, six bytes
  * each, from the list's start; the bytes behind them stay as they were. */
 uint64_t wigandoy_open(const uint8_t *table, size_t bytes, uint8_t *list, size_t room);
+
+/* An Orc script into a table, by the clauses of COWS's encoding of Orc (the expressions, not the sites that they call). A script
+ * is 1 to 512 records of 8 bytes in prefix order: kind, a zero byte, and 16 bits each, little-endian, for an atom, a partner and
+ * an operation; the fields that a kind does not use are zero. Nothing; a site call, of the atom as its parameter, at the site's
+ * partner and operation; a sequence f >x> g, f | g, and g where x :in f (g comes first), of two parts, the atom being x. x is in
+ * scope in the right part of its sequence and in the left part of its where. partner and operation are the endpoint that the
+ * results are sent to: a site call becomes the message of its parameter and of the endpoint that its result goes to. Each new
+ * atom is the smallest of its set that is not in the script, not in that endpoint and not taken before, in the order of the
+ * table's records. Refusals 30, 31, 32, 20 and 21; or 0 and the table's records, which the output then begins with; the bytes
+ * behind them stay as they were. The table is well formed. */
+uint64_t wigandoy_orc(const uint8_t *script, size_t bytes, uint16_t partner, uint16_t operation, uint8_t *out, size_t room);
 
 /* The parts of a reply. */
 static inline unsigned wigandoy_answer(uint64_t reply) { return (unsigned)(reply & 0xff); }

@@ -1,6 +1,6 @@
-/* How much stack the functions of the library take: each is called on a stack of its own that was painted before, on tables that take the longest ways
- * (depth 256, 2,048 records, atoms far apart, every move), and the painted bytes that are left are counted. A function that takes more than the header
- * says is a failure. */
+/* How much stack the functions of the library take: each is called on a stack of its own that was painted before, on tables and scripts that take the
+ * longest ways (depth 256, 2,048 records, atoms far apart, every move; scripts 64 deep, of 511 records), and the painted bytes that are left are counted.
+ * A function that takes more than the header says is a failure. */
 #include <stdio.h>
 #include <stdlib.h>
 #include <string.h>
@@ -91,6 +91,31 @@ static void wide_night(void) {
     propose(WIGANDOY_UNFOLD, replication, 0);
 }
 
+/* Orc scripts: operators nested to the left, to the right or balanced, over calls of sites far apart. */
+enum { CALL = 1, SEQUENCE, BOTH, WHERE };
+enum { LEFT, RIGHT, BALANCED };
+
+static uint8_t script[4096];
+static size_t length;
+
+static void put_script(int kind, unsigned atom, unsigned site) {
+    uint8_t r[] = {(uint8_t)kind, 0, (uint8_t)atom, (uint8_t)(atom >> 8), (uint8_t)site, (uint8_t)(site >> 8), (uint8_t)site, (uint8_t)(site >> 8)};
+    memcpy(script + length, r, 8);
+    length += 8;
+}
+
+static void nest_script(int kind, int operators, int shape) {
+    unsigned number = (unsigned)length / 8;
+    if (operators == 0) {
+        put_script(CALL, 40, 40 + 60 * number);
+        return;
+    }
+    int left = shape == LEFT ? operators - 1 : shape == RIGHT ? 0 : (operators - 1) / 2;
+    put_script(kind, kind == BOTH ? 0 : 32768 + 31 * number, 0);
+    nest_script(kind, left, shape);
+    nest_script(kind, operators - 1 - left, shape);
+}
+
 static uint64_t reply;
 static uint8_t *move_at;
 static size_t room;
@@ -100,6 +125,7 @@ static ucontext_t back, there;
 static void call_check(void) { reply = wigandoy_check(table, bytes); }
 static void call_load(void) { reply = wigandoy_load(table, bytes); }
 static void call_open(void) { reply = wigandoy_open(table, bytes, opened, room); }
+static void call_orc(void) { reply = wigandoy_orc(script, length, 3, 4, out, sizeof out); }
 static void call_step(void) { reply = wigandoy_step(table, bytes, move_at, 6, out, sizeof out); }
 static void call_play(void) { reply = wigandoy_play(table, bytes, moves, list, out, sizeof out, replies, sizeof replies, tally); }
 
@@ -125,7 +151,7 @@ static void clash(void) {
     table[16 * above + 3] = 0;
 }
 
-static size_t check, load, step, play, open;
+static size_t check, load, step, play, open, orc;
 
 /* Every function on a table and its list, open with room and without; whether check, open and each step have the answer. */
 static int measured(unsigned answer) {
@@ -145,6 +171,24 @@ static int measured(unsigned answer) {
     return right;
 }
 
+/* The translation of a script of one operator; whether it has the answer. */
+static int translated(int kind, int operators, int shape, unsigned answer) {
+    length = 0;
+    nest_script(kind, operators, shape);
+    orc = most(orc, taken(call_orc));
+    return wigandoy_answer(reply) == answer;
+}
+
+/* The same script once more, with a variable in its last call that nothing binds, and without that call; whether both are refused. */
+static int refused(void) {
+    script[length - 5] = 0xbf;
+    orc = most(orc, taken(call_orc));
+    int right = wigandoy_answer(reply) != WIGANDOY_ACCEPTED;
+    length -= 8;
+    orc = most(orc, taken(call_orc));
+    return right & (wigandoy_answer(reply) != WIGANDOY_ACCEPTED);
+}
+
 int main(void) {
     stack = malloc(STACK);
     if (stack == NULL) return 1;
@@ -154,11 +198,16 @@ int main(void) {
     right &= measured(WIGANDOY_ACCEPTED);
     clash();
     right &= measured(WIGANDOY_CLASH);
+    right &= translated(WHERE, 63, LEFT, WIGANDOY_ACCEPTED) & translated(SEQUENCE, 63, LEFT, WIGANDOY_ACCEPTED) & refused();
+    right &= translated(WHERE, 42, RIGHT, WIGANDOY_ACCEPTED) & translated(WHERE, 63, RIGHT, WIGANDOY_TOO_LARGE);
+    right &= translated(SEQUENCE, 42, RIGHT, WIGANDOY_ACCEPTED) & translated(SEQUENCE, 63, RIGHT, WIGANDOY_TOO_LARGE);
+    right &= translated(BOTH, 63, LEFT, WIGANDOY_ACCEPTED) & translated(BOTH, 255, BALANCED, WIGANDOY_ACCEPTED) & refused();
+    right &= translated(WHERE, 255, BALANCED, WIGANDOY_TOO_LARGE) & translated(WHERE, 227, BALANCED, WIGANDOY_ACCEPTED) & refused();
     if (!right) {
-        printf("stack: a table or a move has another answer than this program is made for\n");
+        printf("stack: a table, a script or a move has another answer than this program is made for\n");
         return 1;
     }
-    printf("stack: check %zu, load %zu, open %zu, step %zu, play %zu bytes\n", check, load, open, step, play);
+    printf("stack: check %zu, load %zu, open %zu, step %zu, play %zu, orc %zu bytes\n", check, load, open, step, play, orc);
     return check > WIGANDOY_STACK_CHECK || load > WIGANDOY_STACK_CHECK || open > WIGANDOY_STACK_OPEN || step > WIGANDOY_STACK_STEP ||
-           play > WIGANDOY_STACK_PLAY;
+           play > WIGANDOY_STACK_PLAY || orc > WIGANDOY_STACK_ORC;
 }

@@ -4,6 +4,7 @@ use crate::library;
 use crate::lists::Listed;
 use crate::reference;
 use crate::reply::Reply;
+use crate::translations::Translations;
 
 /// A table, a move and the bytes of room in the output.
 #[derive(Clone, Debug)]
@@ -117,6 +118,7 @@ pub struct Reached {
     pub plays: u64,
     pub played: u64,
     pub listed: Listed,
+    pub translations: Translations,
 }
 
 impl Reached {

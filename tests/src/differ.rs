@@ -6,6 +6,7 @@ use crate::nights::{self, Fault};
 use crate::papers::{self, Paper};
 use crate::plays;
 use crate::random::Random;
+use crate::scripts;
 use crate::shrink;
 
 /// A disagreement, its case made as small as possible.
@@ -168,6 +169,10 @@ pub fn found(case: u64, fault: Fault) -> Found {
         Fault::Open(table) => {
             let small = shrink::shrink(Case { table, m: vec![], room: 0 }, |case| lists::differ(&case.table));
             Found { case, records: small.table.len() / 16, words: lists::describe(&small.table) }
+        }
+        Fault::Script(first) => {
+            let small = scripts::smallest(first);
+            Found { case, records: small.bytes.len() / 8, words: scripts::describe(&small) }
         }
         Fault::List { table, moves, what } => {
             let (table, moves) = shorter(table, moves);

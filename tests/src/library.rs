@@ -7,6 +7,7 @@ mod raw {
         pub fn wigandoy_step(table: *const u8, bytes: usize, m: *const u8, length: usize, out: *mut u8, room: usize) -> u64;
         pub fn wigandoy_load(table: *const u8, bytes: usize) -> u64;
         pub fn wigandoy_open(table: *const u8, bytes: usize, list: *mut u8, room: usize) -> u64;
+        pub fn wigandoy_orc(script: *const u8, bytes: usize, partner: u16, operation: u16, out: *mut u8, room: usize) -> u64;
         pub fn wigandoy_play(
             table: *const u8,
             bytes: usize,
@@ -48,6 +49,13 @@ pub fn load(table: &[u8]) -> Reply {
 pub fn open(table: &[u8], list: &mut [u8]) -> Reply {
     // SAFETY: pointers and lengths are those of two slices; the one that is written is borrowed mutably and does not overlap the other.
     unpack(unsafe { raw::wigandoy_open(table.as_ptr(), table.len(), list.as_mut_ptr(), list.len()) })
+}
+
+/// The table of an Orc script whose results are sent to an endpoint, in the output, and its records; or the refusal of 20, 21 or 30 to 32 and an untouched
+/// output.
+pub fn orc(script: &[u8], partner: u16, operation: u16, out: &mut [u8]) -> Reply {
+    // SAFETY: pointers and lengths are those of two slices; the one that is written is borrowed mutably and does not overlap the other.
+    unpack(unsafe { raw::wigandoy_orc(script.as_ptr(), script.len(), partner, operation, out.as_mut_ptr(), out.len()) })
 }
 
 /// A list of moves on a table: play's own reply, the last table in the output, six bytes for each move in the replies, and the tally.

@@ -3,6 +3,7 @@ use crate::bytes;
 use crate::compare::{self, Case, Reached};
 use crate::generate;
 use crate::library;
+use crate::orc::Script;
 use crate::plays;
 use crate::random::Random;
 use crate::reference;
@@ -59,10 +60,11 @@ pub fn by_reference(table: &[u8], moves: &[u8]) -> Night {
     Night { replies, table: out, tally }
 }
 
-/// What went wrong: a single move, a night's list as a whole, or the list of open moves of a table.
+/// What went wrong: a single move, a night's list as a whole, the list of open moves of a table, or an Orc script.
 pub enum Fault {
     Step(Case),
     Open(Vec<u8>),
+    Script(Script),
     List { table: Vec<u8>, moves: Vec<u8>, what: &'static str },
 }
 

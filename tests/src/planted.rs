@@ -1,16 +1,21 @@
 // That the trial can fail: each planted fault of the independent implementation is found by generated cases alone.
 use crate::compare::Reached;
 use crate::differ::{self, Lists};
-use crate::reference::faults::{of_list, plant, FAULTS};
+use crate::reference::faults::{of, plant, Of, FAULTS};
+use crate::scripts;
 
 /// Plants each fault in turn, and says at which case it was found, and shows that case if asked; the number of those that were not found. The lists of
-/// open moves are compared for their own faults only, so that check, step and play have to show theirs.
+/// open moves and Orc scripts are compared for their own faults only, so that check, step and play have to show theirs.
 pub fn run(seed: u64, cases: u64, show: bool) -> usize {
     let mut missed = 0;
     for (fault, words) in FAULTS {
         plant(Some(*fault));
-        let lists = if of_list(*fault) { Lists::Compared } else { Lists::LeftOut };
-        let result = differ::generated(seed, cases, lists, &mut Reached::new());
+        let reached = &mut Reached::new();
+        let result = match of(*fault) {
+            Of::Moves => differ::generated(seed, cases, Lists::LeftOut, reached),
+            Of::List => differ::generated(seed, cases, Lists::Compared, reached),
+            Of::Scripts => scripts::generated(seed, cases, reached),
+        };
         plant(None);
         match result {
             Err(found) => {

@@ -1,5 +1,5 @@
 // The library's play beside the independent implementation's: reply, both buffers and the bytes around them, tally; refusals 19 and 21.
-use crate::bytes;
+use crate::bytes::{self, changed};
 use crate::compare::{Lent, Reached};
 use crate::generate;
 use crate::library;
@@ -130,11 +130,4 @@ pub fn damaged(random: &mut Random, stride: usize, reached: &mut Reached) -> Res
         compare(&Play { table: table.clone(), moves: random.bytes(length), room: 32_768, space: 600 }, reached)?;
     }
     Ok(())
-}
-
-/// Bytes with one of them changed: every byte in every way, by number.
-fn changed(bytes: &[u8], change: usize) -> Vec<u8> {
-    let mut bytes = bytes.to_vec();
-    bytes[change / 255] ^= (change % 255 + 1) as u8;
-    bytes
 }

@@ -8,7 +8,7 @@ pub fn differ(case: &Case) -> bool {
 }
 
 /// So many smaller cases are tried before a case is taken for the smallest; only a table at the limits has more.
-const TRIES: usize = 600;
+pub const TRIES: usize = 600;
 
 /// Smaller cases are tried until none differs any more.
 pub fn shrink(mut case: Case, differ: impl Fn(&Case) -> bool) -> Case {

@@ -6,6 +6,8 @@
 // Its line has the reply, the tally, and then of the output and of the reply buffer what a step's line has of its output.
 // A case of load goes on with the word >#. Its line has the reply, with the load in place of the records.
 // A case of the open moves goes on with the word >? and the list buffer's length. Its line has the reply, and of the buffer what a step's line has of its output.
+// A case of a translation goes on with the word >!, the result endpoint's partner and operation and the output's length, all in decimal; a partner or operation over
+// 65,535 is taken for 0. The bytes before the word are the script's, with xN for N more of the last 8. Its line has the reply, and of the output what a step's line has.
 use libc::STDIN_FILENO;
 use libc::STDOUT_FILENO;
 ghost use mathlib.Core.Path.{_≡_};
@@ -273,6 +275,53 @@ fn run_open(text: &[u8], from: usize, to: usize, table: &[u8], out: &mut [u8])
     }
 }
 
+// A partner or operation in decimal digits, 0 for what is over 65,535.
+fn atom(text: &[u8], from: usize, to: usize) -> u16
+    requires { ⌜ to ≤ length (now text) ⌝ }
+{
+    let n = number(text, from, to);
+    if 65535 < n {
+        return 0;
+    }
+    n as u16
+}
+
+// A translation with all of the output: its reply, and what it left there.
+fn print_translation(script: &[u8], partner: u16, operation: u16, out: &mut [u8]) {
+    fill(out);
+    let r = translator::translate(script, partner, operation, out);
+    print_reply(r);
+    print_left(out);
+}
+
+// A translation: the result endpoint, and the output's length.
+fn run_translation(text: &[u8], from: usize, to: usize, script: &[u8], out: &mut [u8])
+    requires { ⌜ (from ≤ to) × (to ≤ length (now text)) ⌝ }
+{
+    let e = bytes::scan::find(text, from, to, b' ');
+    if e == to {
+        return;
+    }
+    let f = bytes::scan::find(text, e + 1, to, b' ');
+    let partner = atom(text, from, e);
+    let operation = atom(text, e + 1, f);
+    let room = number(text, f, to);
+    if room <= out.len() {
+        print_translation(script, partner, operation, &mut out[..room]);
+    }
+}
+
+// A translation or play: there is more behind the word.
+fn run_long(text: &[u8], mark: usize, to: usize, table: &[u8], out: &mut [u8])
+    requires { ⌜ (mark + 3 ≤ to) × (to ≤ length (now text)) ⌝ }
+{
+    if text[mark + 1] == b'!' {
+        run_translation(text, mark + 3, to, table, out);
+    } else {
+        run_play(text, mark + 3, to, table, out);
+    }
+}
+
 // What a line asks of its table: the word at a place before the line's end says it, and no word asks for a check.
 fn run_table(text: &[u8], mark: usize, to: usize, table: &[u8], out: &mut [u8])
     requires { ⌜ (mark ≤ to) × (to ≤ length (now text)) ⌝ }
@@ -286,8 +335,22 @@ fn run_table(text: &[u8], mark: usize, to: usize, table: &[u8], out: &mut [u8])
     } else if text[mark + 1] == b'?' {
         run_open(text, mark + 2, to, table, out);
     } else if 3 <= to - mark {
-        run_play(text, mark + 3, to, table, out);
+        run_long(text, mark, to, table, out);
     }
+}
+
+// How many bytes xN repeats before the word at a place: a script's record has 8, a table's 16.
+fn unit_before(text: &[u8], mark: usize, to: usize) -> usize
+    requires { ⌜ (mark ≤ to) × (to ≤ length (now text)) ⌝ }
+    ensures { λ r. ⌜ r ≤ 16 ⌝ }
+{
+    if to - mark < 2 {
+        return 16;
+    }
+    if text[mark + 1] == b'!' {
+        return 8;
+    }
+    16
 }
 
 // One case: the line from a place to its end.
@@ -296,7 +359,8 @@ fn run(text: &[u8], from: usize, to: usize, table: &mut [u8], out: &mut [u8])
 {
     let name = bytes::scan::find(text, from, to, b' ');
     let mark = bytes::scan::find(text, name, to, b'>');
-    let len = spell(text, name, mark, table, 16);
+    let unit = unit_before(text, mark, to);
+    let len = spell(text, name, mark, table, unit);
     io::write_all(STDOUT_FILENO, &text[from..name]);
     run_table(text, mark, to, &table[..len], out);
     io::write_all(STDOUT_FILENO, b"\n");

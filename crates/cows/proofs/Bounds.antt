@@ -45,12 +45,12 @@ abbrev pub Below : {A : Type 0} → ℕ → Result A → Type 0
 Below b r = OfRefusal (λ n p. (1 ≤ n) × (p < b)) r
 
 -- the places of the tests
-place-below : (c : Bool) (a b : ℕ) → a < b → (p : ℕ) → placeIf c a ≡ some p → p < b
+pub place-below : (c : Bool) (a b : ℕ) → a < b → (p : ℕ) → placeIf c a ≡ some p → p < b
 unfolding placeIf
 place-below true a b h p e = omega (arith, same-some e)
 place-below false a b h p e = absurd (let z : _≡_ {A = ℕ} 0 1 = cc in omega arith)
 
-shape-below : (n : ℕ) (o : Option ℕ) → ((e : ℕ) → o ≡ some e → e ≤ n) → (p : ℕ) → wrongEnd n o ≡ some p → p ≤ n
+pub shape-below : (n : ℕ) (o : Option ℕ) → ((e : ℕ) → o ≡ some e → e ≤ n) → (p : ℕ) → wrongEnd n o ≡ some p → p ≤ n
 unfolding wrongEnd
 shape-below n none l p h = omega (arith, same-some h)
 shape-below n (some e) l p h = omega (arith, place-below (ltb e n) e (suc n) (omega (arith, l e refl)) p h)
@@ -92,16 +92,20 @@ OfMismatch P t v =
     (a c : ℕ) (r m : Action) (d : Mismatch) → v ≡ Communicate a c → wanted (prefixed receives) t a ≡ accept r → wanted invokes t c ≡ accept m
     → fit r m ≡ differs d → P (mismatchNumber d)
 
-module _ (b : ℕ) (P : ℕ → ℕ → Type 0) (others : (n p : ℕ) → beside12 n ≡ true → p < b → P n p) where
-  refusal-bind : {A B : Type 0} (m : Result A) (k : A → Result B) → OfRefusal P m → ((a : A) → m ≡ accept a → OfRefusal P (k a)) → OfRefusal P (m >>= k)
-  unfolding _>>=_
-  refusal-bind (refuse n p) k h f = h
-  refusal-bind (accept a) k h f = f a refl
+-- what holds of the refusals of one judgement and of those behind it holds of both
+pub of-bind : (P : ℕ → ℕ → Type 0) {A B : Type 0} (m : Result A) (k : A → Result B) → OfRefusal P m → ((a : A) → m ≡ accept a → OfRefusal P (k a)) → OfRefusal P (m >>= k)
+unfolding _>>=_
+of-bind P (refuse n p) k h f = h
+of-bind P (accept a) k h f = f a refl
 
+pub of-forbid : (P : ℕ → ℕ → Type 0) {B : Type 0} (n : ℕ) (o : Option ℕ) (k : Result B) → ((p : ℕ) → o ≡ some p → P n p) → (o ≡ none → OfRefusal P k) → OfRefusal P (forbid n o >> k)
+unfolding forbid _>>_
+of-forbid P n none k h f = f refl
+of-forbid P n (some p) k h f = h p refl
+
+module _ (b : ℕ) (P : ℕ → ℕ → Type 0) (others : (n p : ℕ) → beside12 n ≡ true → p < b → P n p) where
   refusal-forbid : {B : Type 0} (n : ℕ) (o : Option ℕ) (k : Result B) → beside12 n ≡ true → ((p : ℕ) → o ≡ some p → p < b) → (o ≡ none → OfRefusal P k) → OfRefusal P (forbid n o >> k)
-  unfolding forbid _>>_
-  refusal-forbid n none k l h f = f refl
-  refusal-forbid n (some p) k l h f = others n p l (h p refl)
+  refusal-forbid n o k l h = of-forbid P n o k (λ p e. others n p l (h p e))
 
   refusal-need : {A : Type 0} (n p : ℕ) (o : Option A) → beside12 n ≡ true → p < b → OfRefusal P (need n p o)
   unfolding need
@@ -131,23 +135,23 @@ module _ (b : ℕ) (P : ℕ → ℕ → Type 0) (others : (n p : ℕ) → beside
 
     refusal-successor : (v : Move) → NumbersBelow b v → OfMismatch (P 12) t v → OfRefusal P (successor t v)
     unfolding successor killAt communicateAt timeoutAt elapseBy unfoldAt extrudeAt
-    refusal-successor (Kill a) l h = refusal-bind (wanted _ t a) _ (refusal-wanted _ a l) (λ k _. tt)
+    refusal-successor (Kill a) l h = of-bind P (wanted _ t a) _ (refusal-wanted _ a l) (λ k _. tt)
     refusal-successor (Communicate a c) l h =
-        refusal-bind (wanted _ t a) _ (refusal-wanted _ a (l .0))
-        (λ r er. refusal-bind (wanted _ t c) _ (refusal-wanted _ c (l .1))
-        (λ m em. refusal-bind (matched (fit r m)) _ (refusal-matched (fit r m) (λ d e. h a c r m d refl er em e))
+        of-bind P (wanted _ t a) _ (refusal-wanted _ a (l .0))
+        (λ r er. of-bind P (wanted _ t c) _ (refusal-wanted _ c (l .1))
+        (λ m em. of-bind P (matched (fit r m)) _ (refusal-matched (fit r m) (λ d e. h a c r m d refl er em e))
         (λ σ _. refusal-forbid 13 _ _ refl (place-below _ a b (l .0))
         (λ _. refusal-forbid 14 _ _ refl (first-below _) (λ _. refusal-forbid 15 _ _ refl (first-below _) (λ _. tt))))))
-    refusal-successor (Timeout a) l h = refusal-bind (wanted _ t a) _ (refusal-wanted _ a l) (λ i _. refusal-forbid 16 _ _ refl (place-below _ a b l) (λ _. tt))
+    refusal-successor (Timeout a) l h = of-bind P (wanted _ t a) _ (refusal-wanted _ a l) (λ i _. refusal-forbid 16 _ _ refl (place-below _ a b l) (λ _. tt))
     refusal-successor (Elapse d) l h = refusal-forbid 17 _ _ refl (place-below _ 0 b (omega (arith, l))) (λ _. refusal-forbid 17 _ _ refl (first-below _) (λ _. tt))
-    refusal-successor (Unfold a) l h = refusal-bind (wanted _ t a) _ (refusal-wanted _ a l) (λ r _. tt)
-    refusal-successor (Extrude a) l h = refusal-bind (wanted _ t a) _ (refusal-wanted _ a l) (λ d _. refusal-forbid 18 _ _ refl (place-below _ a b l) (λ _. tt))
+    refusal-successor (Unfold a) l h = of-bind P (wanted _ t a) _ (refusal-wanted _ a l) (λ r _. tt)
+    refusal-successor (Extrude a) l h = of-bind P (wanted _ t a) _ (refusal-wanted _ a l) (λ d _. refusal-forbid 18 _ _ refl (place-below _ a b l) (λ _. tt))
 
     refusal-step : 0 < b → (m : Option Move) (out : ℕ) → ((v : Move) → m ≡ some v → NumbersBelow b v × OfMismatch (P 12) t v) → OfRefusal P (stepTerm t m out)
     unfolding stepTerm proposed fitted
     refusal-step z m out h =
-        refusal-bind (proposed m t) _
-        (refusal-bind (need 10 0 m) _ (refusal-need 10 0 m refl z) (λ v e. let (l, u) = h v (need-accept 10 0 m v e) in refusal-successor v l u))
+        of-bind P (proposed m t) _
+        (of-bind P (need 10 0 m) _ (refusal-need 10 0 m refl z) (λ v e. let (l, u) = h v (need-accept 10 0 m v e) in refusal-successor v l u))
         (λ s _. refusal-forbid 20 _ _ refl (place-below _ 0 b z) (λ _. refusal-forbid 21 _ _ refl (place-below _ 0 b z) (λ _. tt)))
 
   -- on bytes
@@ -166,7 +170,7 @@ module _ (b : ℕ) (P : ℕ → ℕ → Type 0) (others : (n p : ℕ) → beside
     refusal-judgePlay : (table moves : List ℕ) (room slots : ℕ) → OfRefusal P (judgePlay table moves room slots)
     unfolding judgePlay
     refusal-judgePlay table moves room slots =
-        refusal-bind (judge table) _ (refusal-judge table)
+        of-bind P (judge table) _ (refusal-judge table)
         (λ t _. refusal-forbid 19 _ _ refl (place-below _ 0 b (omega arith)) (λ _. refusal-forbid 21 _ _ refl (place-below _ 0 b (omega arith)) (λ _. tt)))
 
 -- Places below b. Those of 12 are 0 to 6.
@@ -188,7 +192,7 @@ module _ (b : ℕ) where
     pub below-judgeStep : (table m : List ℕ) (room : ℕ) → word m 2 < b → word m 4 < b → ((t : Term) → judge table ≡ accept t → Within t) → Below b (judgeStep table m room)
     unfolding judgeStep
     below-judgeStep table m room h k within =
-        refusal-bind b _ beside-below (judge table) _ (below-judge table)
+        of-bind _ (judge table) _ (below-judge table)
         (λ t e. below-step t (within t e .right) (omega (arith, within t e .small)) (omega arith) (readMove m) room (read-small b m h k))
 
     pub below-judgePlay : (table moves : List ℕ) (room slots : ℕ) → Below b (judgePlay table moves room slots)
@@ -205,7 +209,7 @@ module _ (P : ℕ → ℕ → Type 0) (others : (n p : ℕ) → beside12 n ≡ t
   pub judgeStep-refusal : (table m : List ℕ) (room : ℕ) → ((t : Term) → judge table ≡ accept t → (v : Move) → readMove m ≡ some v → OfMismatch (P 12) t v) → OfRefusal P (judgeStep table m room)
   unfolding judgeStep
   judgeStep-refusal table m room h =
-      refusal-bind 2049 P (λ n p e _. others n p e) (judge table) _ (refusal-judge 2049 P (λ n p e _. others n p e) (omega arith) table) (λ t e. step-refusal t (readMove m) room (h t e))
+      of-bind P (judge table) _ (refusal-judge 2049 P (λ n p e _. others n p e) (omega arith) table) (λ t e. step-refusal t (readMove m) room (h t e))
 
 -- The number alone: of a step on a term, and on bytes.
 pub step-from-one : (t : Term) (m : Option Move) (room n p : ℕ) → stepTerm t m room ≡ refuse n p → 1 ≤ n

@@ -141,9 +141,13 @@ module _ {A : Type 0} (w : ℕ) (write : A → List ℕ) (wide : (x : A) → len
 
 -- Records that are right: read back, they pass the test and are made of bytes.
 module _ {A : Type 0} (write : A → List ℕ) (Right : A → Type 0) where
-  pub map-read : (read : List ℕ → A) → ((x : A) → Right x → read (write x) ≡ x) → (xs : List A) → All Right xs → map read (map write xs) ≡ xs
+  map-read : (read : List ℕ → A) → ((x : A) → Right x → read (write x) ≡ x) → (xs : List A) → All Right xs → map read (map write xs) ≡ xs
   map-read read f [] h = refl
   map-read read f (x ∷ xs) h = rw (f x (h .0), map-read read f xs (h .1))
+
+  pub read-written : (w : ℕ) → ((x : A) → length (write x) ≡ w) → 0 < w → (read : List ℕ → A) → ((x : A) → Right x → read (write x) ≡ x)
+      → (xs : List A) → All Right xs → map read (cut w (flatMap write xs)) ≡ xs
+  read-written w wide h read f xs k = ap (map read) (cut-write w write wide h xs) ∙ map-read read f xs k
 
   pub write-passes : (test : List ℕ → Bool) → ((x : A) → Right x → test (write x) ≡ true) → (xs : List A) → All Right xs → All (λ b. test b ≡ true) (map write xs)
   write-passes test f [] h = tt

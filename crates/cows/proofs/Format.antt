@@ -2,22 +2,21 @@
 -- of a right term is made of bytes, and no other right term has it.
 use mathlib.Core.Path.{_≡_, refl, sym, ap, _∙_}
 use mathlib.Core.Option.{none, some}
-use mathlib.Core.List.{List, [], _∷_, _++_, map, append-assoc, append-nil, flatMap}
-use Prim.Native.Nat.{ℕ, zero, suc, _+_, _*_}
+use mathlib.Core.List.{List, [], _∷_, _++_, map, append-assoc, flatMap}
+use Prim.Native.Nat.{ℕ, suc, _+_, _*_}
 use native.Mathlib.Omega.{arith}
-use lib.ListN.{length, getD, length-append}
+use lib.ListN.{length, length-append}
 use Rattle.cows.specs.Terms.{nil, Term, leaf, under, both, size}
 use Rattle.cows.specs.Kinds.{Node, basic, prefix, join}
 use Rattle.cows.specs.Format.{AreBytes, nodes, record16, bytes, encode, readNode, records, push, build, decode}
-use Rattle.cows.specs.Tables.{endOf, children, wrongEnd, misshapen}
+use Rattle.cows.specs.Tables.{endOf, children, misshapen}
 use Rattle.cows.specs.Within.{Right}
-use Rattle.cows.specs.Basics.{All, placeIf}
+use Rattle.cows.specs.Basics.{All}
 use Rattle.cows.proofs.Rows.{children-leaf, children-under, children-both, length-record16}
 use Rattle.cows.proofs.Records.{RightNode, node-record16, record-bytes}
-use Rattle.cows.proofs.Cut.{all-append, append-all, length-write, cut-write, map-read, write-bytes}
-use Rattle.cows.proofs.Basics.{same-some}
-use Rattle.cows.proofs.Ends.{none-some, end-bounds, end-right, end-append, end-none, end-one}
-use borrow.Author.Tests.{le-ltb}
+use Rattle.cows.proofs.Cut.{all-append, append-all, length-write, cut-write, read-written, write-bytes}
+use Rattle.cows.proofs.Built.{nodes-ended, nodes-built, built-nodes}
+use Rattle.cows.proofs.Ends.{end-append, end-none, end-one}
 
 -- Terms and their records: read back, whatever follows.
 pub length-nodes : (t : Term) → length (nodes t) ≡ size t
@@ -26,15 +25,15 @@ length-nodes (leaf x) = refl
 length-nodes (under u t) = ap suc (length-nodes t)
 length-nodes (both j s t) = ap suc (length-append (nodes s) (nodes t) ∙ omega (arith, length-nodes s, length-nodes t))
 
-pub build-nodes : (t : Term) (ns : List Node) → build (nodes t ++ ns) ≡ t ∷ build ns
+pub build-nodes : (t : Term) (ns : List Node) → build push (nodes t ++ ns) ≡ t ∷ build push ns
 unfolding build push nodes
 build-nodes (leaf x) ns = refl
 build-nodes (under u t) ns = ap (push (prefix u)) (build-nodes t ns)
 build-nodes (both j s t) ns = rw (append-assoc (nodes s) (nodes t) ns, build-nodes s (nodes t ++ ns), build-nodes t ns) refl
 
 pub decode-nodes : (t : Term) → decode (nodes t) ≡ t
-unfolding decode build
-decode-nodes t = rw (← append-nil (nodes t), build-nodes t []) refl
+unfolding decode
+decode-nodes = built-nodes nodes push build-nodes (leaf nil)
 
 -- a term ends behind its records
 end-nodes : (t : Term) (n : ℕ) → endOf children 1 n (nodes t) ≡ some (n + length (nodes t))
@@ -47,8 +46,8 @@ end-nodes (both j s t) n =
     ∙ (end-nodes t (suc n + length (nodes s)) ∙ ap some (omega (arith, length-append (nodes s) (nodes t)))))
 
 pub nodes-shaped : (t : Term) → misshapen (nodes t) ≡ none
-unfolding misshapen wrongEnd placeIf
-nodes-shaped t = rw (end-nodes t 0, le-ltb (0 + length (nodes t)) (length (nodes t)) (omega arith))
+unfolding misshapen
+nodes-shaped = nodes-ended children nodes end-nodes
 
 -- records of the right shape are the records of the term read off them
 push-flat : (r : Node) (ts : List Term) (w : ℕ) → length ts ≡ children r + w → (length (push r ts) ≡ suc w) × (flatMap nodes (push r ts) ≡ r ∷ flatMap nodes ts)
@@ -60,28 +59,9 @@ push-flat (join j) [] w h = absurd (omega (arith, children-both j))
 push-flat (join j) (s ∷ []) w h = absurd (omega (arith, children-both j))
 push-flat (join j) (s ∷ t ∷ ts) w h = (omega (arith, children-both j), ap (λ l. join j ∷ l) (append-assoc (nodes s) (nodes t) (flatMap nodes ts)))
 
-build-flat : (ns : List Node) (w n : ℕ) → endOf children w n ns ≡ some (n + length ns) → (length (build ns) ≡ w) × (flatMap nodes (build ns) ≡ ns)
-unfolding endOf build flatMap
-build-flat [] zero n e = (refl, refl)
-build-flat [] (suc w) n e = none-some e
-build-flat (r ∷ rs) zero n e = absurd (omega (arith, same-some e))
-build-flat (r ∷ rs) (suc w) n e =
-    let (l, f) = build-flat rs (children r + w) (suc n) (e ∙ ap some (omega arith)) in
-    let (l′, f′) = push-flat r (build rs) w l in
-    (l′, f′ ∙ ap (λ q. r ∷ q) f)
-
-one-flat : (ts : List Term) → length ts ≡ 1 → nodes (getD ts 0 (leaf nil)) ≡ flatMap nodes ts
-unfolding flatMap
-one-flat [] h = absurd (omega arith)
-one-flat (t ∷ []) h = sym (append-nil (nodes t))
-one-flat (t ∷ s ∷ ts) h = absurd (omega arith)
-
 pub nodes-decode : (ns : List Node) → misshapen ns ≡ none → nodes (decode ns) ≡ ns
 unfolding decode misshapen
-nodes-decode ns e =
-    let r = end-right (length ns) (endOf children 1 0 ns) (λ k q. omega (arith, end-bounds children 1 0 ns k q)) e in
-    let (l, f) = build-flat ns 1 0 (r ∙ ap some (omega arith)) in
-    one-flat (build ns) l ∙ f
+nodes-decode = nodes-built children nodes push push-flat (leaf nil)
 
 -- the records of a term are right exactly if the term is
 abbrev pub RightNodes : List Node → Type 0
@@ -113,7 +93,7 @@ length-encode t = length-bytes (nodes t) ∙ ap (λ m. 16 * m) (length-nodes t)
 -- the records of a right term, read off its bytes
 pub nodes-encode : (t : Term) → Right t → map readNode (records (encode t)) ≡ nodes t
 unfolding encode
-nodes-encode t h = ap (map readNode) (records-bytes (nodes t)) ∙ map-read record16 RightNode readNode node-record16 (nodes t) (right-nodes t h)
+nodes-encode t h = read-written record16 RightNode 16 length-record16 (omega arith) readNode node-record16 (nodes t) (right-nodes t h)
 
 pub decode-encode : (t : Term) → Right t → decode (map readNode (records (encode t))) ≡ t
 decode-encode t h = ap decode (nodes-encode t h) ∙ decode-nodes t

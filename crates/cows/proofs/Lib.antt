@@ -1,6 +1,7 @@
 pub mod Basics
 pub mod Cut
 pub mod Ends
+pub mod Built
 pub mod Rows
 pub mod Places
 pub mod Sets

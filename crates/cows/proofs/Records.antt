@@ -89,7 +89,7 @@ byte-small [] i h = omega arith
 byte-small (x ∷ b) zero h = h .0
 byte-small (x ∷ b) (suc i) h = byte-small b i (h .1)
 
-word-bytes2 : (n : ℕ) → n % 256 + 256 * (n / 256) ≡ n
+pub word-bytes2 : (n : ℕ) → n % 256 + 256 * (n / 256) ≡ n
 word-bytes2 n = omega arith
 
 bytes2-word : (x y : ℕ) → x < 256 → bytes2 (x + 256 * y) ≡ x ∷ y ∷ []
@@ -103,15 +103,15 @@ bytes2-word x y h = cc (low, high)
     high = omega arith
 
 -- two bytes of b, and n 16-bit numbers, from byte i on
-drop-two : (b : List ℕ) (i : ℕ) → suc i < length b → byte b i ∷ byte b (suc i) ∷ drop (suc (suc i)) b ≡ drop i b
+pub drop-two : (b : List ℕ) (i : ℕ) → suc i < length b → byte b i ∷ byte b (suc i) ∷ drop (suc (suc i)) b ≡ drop i b
 unfolding byte
 drop-two b i h = cc (drop-cons b i 0 (omega arith), drop-cons b (suc i) 0 h)
 
-words : ℕ → ℕ → List ℕ → List ℕ
+unfoldable pub words : ℕ → ℕ → List ℕ → List ℕ
 words zero i b = []
 words (suc n) i b = bytes2 (word b i) ++ words n (suc (suc i)) b
 
-words-drop : (n i : ℕ) (b : List ℕ) → length b ≡ 2 * n + i → AreBytes b → words n i b ≡ drop i b
+pub words-drop : (n i : ℕ) (b : List ℕ) → length b ≡ 2 * n + i → AreBytes b → words n i b ≡ drop i b
 unfolding words word
 words-drop zero i b h k = sym (drop-of-length-le b {i = i} (omega arith))
 words-drop (suc n) i b h k =
@@ -142,7 +142,7 @@ fits r b h =
     let (h₅, h₆) = and-true (r .first (word b 2)) _ h₂ in
     (h₅, h₆, h₃, h₄)
 
-unused-zero : (n : ℕ) → unused n ≡ true → 0 ≡ n
+pub unused-zero : (n : ℕ) → unused n ≡ true → 0 ≡ n
 unfolding unused
 unused-zero n h = sym (eqb-true n 0 h)
 
@@ -223,7 +223,7 @@ node-record16 (join parallel) h = refl
 pub small-atom : (a : ℕ) → atom a ≡ true → a < 65536
 small-atom a h = set-case (a < 65536) a h (λ e. omega (arith, value-range a e)) (λ e. omega (arith, variable-range a e)) (λ e. omega (arith, label-range a e))
 
-small-datum : (a : ℕ) → datum a ≡ true → a < 65536
+pub small-datum : (a : ℕ) → datum a ≡ true → a < 65536
 unfolding atom
 small-datum a h = small-atom a (or-left (datum a) (label a) h)
 

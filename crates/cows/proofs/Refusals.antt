@@ -91,7 +91,7 @@ every-guarded w o (both parallel s t) h =
     (h .0, (tt, l .1, r .1))
 
 -- 6, and 7's uses: every use that must be enclosed is.
-bound-any : (K E : ℕ → Bool) (l : List ℕ) → Bound K E l → any (λ a. K a && not (E a)) l ≡ false
+pub bound-any : (K E : ℕ → Bool) (l : List ℕ) → Bound K E l → any (λ a. K a && not (E a)) l ≡ false
 unfolding any
 bound-any K E [] h = refl
 bound-any K E (a ∷ l) h = rw (go (K a) (E a) (h .0), bound-any K E l (h .1))
@@ -101,7 +101,7 @@ bound-any K E (a ∷ l) h = rw (go (K a) (E a) (h .0), bound-any K E l (h .1))
     go true false f = sym (f refl)
     go false q f = refl
 
-any-bound : (K E : ℕ → Bool) (l : List ℕ) → any (λ a. K a && not (E a)) l ≡ false → Bound K E l
+pub any-bound : (K E : ℕ → Bool) (l : List ℕ) → any (λ a. K a && not (E a)) l ≡ false → Bound K E l
 unfolding any
 any-bound K E [] h = tt
 any-bound K E (a ∷ l) h = let (p, q) = or-false (K a && not (E a)) _ h in ((λ e. not-false (E a) (ap (λ c. c && not (E a)) (sym e) ∙ p)), any-bound K E l q)

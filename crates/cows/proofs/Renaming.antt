@@ -1,7 +1,7 @@
 -- The atoms chosen for a copy (specs/Moves, fresh and renaming): not taken, of the same set, the smallest such, and different from each other.
 use mathlib.Core.Path.{_≡_, refl, sym, ap, subst, _∙_}
 use mathlib.Core.Bool.{Bool, true, false, cond, _||_}
-use mathlib.Core.List.{List, [], _∷_}
+use mathlib.Core.List.{List, [], _∷_, _++_}
 use Prim.Native.Nat.{ℕ, zero, suc, _+_, _≤_, _<_}
 use native.Mathlib.Omega.{arith}
 use lib.Dec.{eqb}
@@ -13,6 +13,15 @@ use Rattle.cows.specs.Moves.{Substitution, image, firstFree, least, fres
 use Rattle.cows.specs.Allows.{SameSet, Smallest, Renames, finished, renames}
 use Rattle.cows.proofs.Basics.{never, cond-case, lt-case, and-true, or-false, or-right, or-second, eqb-swap}
 use Rattle.cows.proofs.Sets.{in-values, in-variables, in-labels, alike-sets, value-range, variable-range, label-range, set-case}
+
+-- how often an atom is in a list
+abbrev pub times : ℕ → List ℕ → ℕ
+times a [] = 0
+times a (d ∷ ds) = oneIf (eqb a d) + times a ds
+
+pub times-append : (a : ℕ) (xs ys : List ℕ) → times a (xs ++ ys) ≡ times a xs + times a ys
+times-append a [] ys = omega arith
+times-append a (x ∷ xs) ys = omega (arith, times-append a xs ys)
 
 -- how many of n, n + 1, .. (k of them) are taken
 hits : ℕ → ℕ → List ℕ → ℕ

@@ -93,7 +93,12 @@ readNode b =
 abbrev pub records : List ℕ → List (List ℕ)
 records b = cut 16 b
 
--- Reading from the last record back: each record takes its children off the front of the terms read so far.
+-- Reading from the last record back, records of any kind: each is pushed on the things read so far.
+unfoldable pub build : {A B : Type 0} → (A → List B → List B) → List A → List B
+build push [] = []
+build push (n ∷ ns) = push n (build push ns)
+
+-- A record of a term takes its children off the front.
 unfoldable pub push : Node → List Term → List Term
 push (basic x) ts = leaf x ∷ ts
 push (prefix u) [] = []
@@ -102,12 +107,8 @@ push (join j) [] = []
 push (join j) (s ∷ []) = []
 push (join j) (s ∷ t ∷ ts) = both j s t ∷ ts
 
-unfoldable pub build : List Node → List Term
-build [] = []
-build (n ∷ ns) = push n (build ns)
-
 unfoldable pub decode : List Node → Term
-decode ns = getD (build ns) 0 (leaf nil)
+decode ns = getD (build push ns) 0 (leaf nil)
 
 -- (for computed checks) to unfold this is to unfold every definition of this file
 unfoldable pub open-format : Unit {0}

@@ -19,6 +19,9 @@ use Rattle.cows.proofs.Preserving.{step-within}
 use Rattle.cows.proofs.Theorems.{tables-within}
 use Rattle.opening.specs.Opening.{openMoves, judgeOpen, openReply}
 use Rattle.opening.proofs.Theorems.{open-number, open-refused, open-listed, open-too-short}
+use Rattle.orc.specs.Translation.{judgeOrc, orcReply}
+use Rattle.orc.proofs.Bounds.{below-orc}
+use Rattle.orc.proofs.Theorems.{accepted-output}
 use Rattle.tables.specs.declared.Reply.{Reply}
 use Rattle.tables.specs.Verdict.{refusal, checkReply}
 use Rattle.stepper.specs.Replies.{replyOf}
@@ -80,3 +83,9 @@ open-fits table room k = go (judge table) refl
         lt-case _ room (6 * length (openMoves t))
         (λ l. shown (refuse 22 (length (openMoves t))) (open-too-short table room t e l) (record { place = omega arith; records = omega arith }))
         (λ l. shown (accept (openMoves t)) (open-listed table room t e l) (record { place = omega arith; records = omega arith }))
+
+pub orc-fits : (script : List ℕ) (p o : ℕ) (out : List ℕ) → AreBytes script → Fits (replyOf (orcReply script p o out))
+unfolding orcReply replyTo
+orc-fits script p o out k =
+    fits (λ x. replyOf (replyTo x)) size (λ n q. refl) (λ t. refl) (judgeOrc script p o (length out)) (below-orc 65536 (omega arith) script p o (length out))
+    (λ t e. accepted-output script p o (length out) t k e .2 .small)

@@ -6,6 +6,7 @@ use lib.ListN.{length}
 use Rattle.cows.specs.Step.{stepReply, stepOutput}
 use Rattle.cows.specs.Run.{play, playedReply, playedTally, playedOutput, playedReplies}
 use Rattle.opening.specs.Opening.{judgeOpen, openReply, openBuffer}
+use Rattle.orc.specs.Translation.{orcReply, orcOutput}
 use Rattle.tables.specs.declared.Reply.{Reply}
 use Rattle.stepper.specs.Replies.{replyOf}
 use Rattle.tally.specs.declared.Tally.{Tally}
@@ -40,3 +41,8 @@ pub record PlayedWith (table moves out after slots after′ tally : List ℕ) (r
 pub record OpenPacked (table list after : List ℕ) (r : ℕ) : Type 0 where
   pub replies : r ≡ packed (replyOf (openReply (judgeOpen table (length list))))
   pub output : after ≡ openBuffer (judgeOpen table (length list)) list
+
+-- What the translation of any script gives, its reply packed.
+pub record OrcPacked (script : List ℕ) (p o : ℕ) (out after : List ℕ) (r : ℕ) : Type 0 where
+  pub replies : r ≡ packed (replyOf (orcReply script p o out))
+  pub output : after ≡ orcOutput script p o out

@@ -5,7 +5,7 @@ ghost use mathlib.Core.Path.{_≡_};
 ghost use Rattle.cows.specs.Tables.{judge};
 ghost use Rattle.tables.specs.Verdict.{checkReply};
 ghost use Rattle.player.specs.Loads.{loadReply};
-ghost use Rattle.export.specs.Packing.{Fits, packed, StepPacked, PlayedWith, OpenPacked};
+ghost use Rattle.export.specs.Packing.{Fits, packed, StepPacked, PlayedWith, OpenPacked, OrcPacked};
 
 // A reply in 64 bits: the answer in the lowest 8, the place in the 24 above them, the records in the highest 32.
 fn pack(r: Reply) -> u64
@@ -70,4 +70,12 @@ pub extern "C" fn wigandoy_open(table: &[u8], list: &mut [u8]) -> u64
     ensures { λ r. ⌜ OpenPacked (now (table .entry)) (now (list .entry)) (now (list .exit)) r ⌝ }
 {
     pack(lister::open(table, list))
+}
+
+// An Orc script into a table: `translator::translate`, packed.
+#[no_mangle]
+pub extern "C" fn wigandoy_orc(script: &[u8], partner: u16, operation: u16, out: &mut [u8]) -> u64
+    ensures { λ r. ⌜ OrcPacked (now (script .entry)) partner operation (now (out .entry)) (now (out .exit)) r ⌝ }
+{
+    pack(translator::translate(script, partner, operation, out))
 }

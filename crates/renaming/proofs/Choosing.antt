@@ -18,7 +18,7 @@ use Rattle.cows.specs.Moves.{image, fresh, renaming}
 use Rattle.cows.proofs.Basics.{never, bool-case, cond-case, and-true, or-left, or-right}
 use Rattle.cows.proofs.Scopes.{member-counts}
 use Rattle.cows.proofs.Atoms.{In, in-refl, counts-atoms, few-binders, binders-right}
-use Rattle.cows.proofs.Renaming.{image-other}
+use Rattle.cows.proofs.Renaming.{image-other, times, times-append}
 use Rattle.cows.proofs.Fields.{layout-first}
 use Rattle.cows.proofs.Cut.{flatMap-append}
 use Rattle.cows.proofs.Records.{small-atom}
@@ -29,15 +29,7 @@ use Rattle.renaming.proofs.Across.{across-next, across-end, across-term
 use Rattle.renaming.proofs.Occurring.{after-store, not-zero}
 use Rattle.renaming.proofs.Fresh.{new-small, new-apart, taking-store}
 
--- how often an atom is in a list; a term's delimitations
-abbrev pub times : ℕ → List ℕ → ℕ
-times a [] = 0
-times a (d ∷ ds) = oneIf (eqb a d) + times a ds
-
-times-append : (a : ℕ) (xs ys : List ℕ) → times a (xs ++ ys) ≡ times a xs + times a ys
-times-append a [] ys = omega arith
-times-append a (x ∷ xs) ys = omega (arith, times-append a xs ys)
-
+-- how often a list has an atom that is in it; a term's delimitations
 times-member : (a : ℕ) (ds : List ℕ) → member a ds ≡ true → 1 ≤ times a ds
 unfolding member any
 times-member a [] m = never m

@@ -78,7 +78,7 @@ unfolding fitted _>>=_ _>>_ forbid placeIf
 fits-fitted m room f = rw (f .accepted, f .small, le-ltb room (16 * size (f .successor)) (f .fits))
 
 -- a successor written where there is room for it
-put-encode : (out : List ℕ) (s : Term) → 16 * size s ≤ length out → put out 0 (encode s) ≡ encode s ++ drop (16 * size s) out
+pub put-encode : (out : List ℕ) (s : Term) → 16 * size s ≤ length out → put out 0 (encode s) ≡ encode s ++ drop (16 * size s) out
 unfolding put
 put-encode out s h =
     let e = length-encode s in

@@ -1,12 +1,13 @@
 // The benchmark: `bench write DIR` writes the workloads, `bench time [FILE..]` times the library, the independent implementation and a copy of
 // the table on them, all in one run, and prints ratios; a FILE holds the figures of another program on the same folders; then the list of open moves beside
-// check. `bench lists` times the lists alone, `bench repeat NAME` runs one workload for a second, for a profiler.
+// check, and the translation of Orc scripts beside the check of their tables. `bench lists` and `bench scripts` time these alone, `bench repeat NAME` runs
+// one workload for a second, for a profiler.
 use std::collections::HashMap;
 use std::fs;
 use std::hint::black_box;
 use std::path::Path;
 use std::time::Instant;
-use trial::workloads::{self, Workload, SIZES};
+use trial::workloads::{self, Workload, RESULT, SCRIPTS, SIZES};
 use trial::{library, reference};
 
 fn main() {
@@ -15,11 +16,13 @@ fn main() {
         ["write", folder] => write(Path::new(folder)),
         ["repeat", name] => repeat(name),
         ["lists"] => time_lists(),
+        ["scripts"] => time_scripts(),
         ["time", ref files @ ..] => {
             time(&others(files));
             time_lists();
+            time_scripts();
         }
-        _ => println!("usage: bench write DIR | bench time [FILE..] | bench lists | bench repeat NAME"),
+        _ => println!("usage: bench write DIR | bench time [FILE..] | bench lists | bench scripts | bench repeat NAME"),
     }
 }
 
@@ -59,6 +62,7 @@ fn by_library(w: &Workload, out: &mut [u8], replies: &mut [u8]) {
         "check" => _ = black_box(library::check(black_box(&w.table))),
         "play" => _ = black_box(library::play(black_box(&w.table), &w.moves, out, replies)),
         "open" => _ = black_box(library::open(black_box(&w.table), out)),
+        "orc" => _ = black_box(library::orc(black_box(&w.table), RESULT.0, RESULT.1, out)),
         _ => _ = black_box(library::step(black_box(&w.table), &w.moves[..6], out)),
     }
 }
@@ -71,13 +75,14 @@ fn by_reference(w: &Workload, out: &mut [u8], replies: &mut [u8]) {
     match w.operation {
         "check" => _ = black_box(reference::check(black_box(&w.table))),
         "play" => _ = black_box(reference::play(black_box(&w.table), &w.moves[..6 * FEW], out, replies)),
+        "orc" => _ = black_box(reference::orc(black_box(&w.table), RESULT.0, RESULT.1, out)),
         _ => _ = black_box(reference::step(black_box(&w.table), &w.moves[..6], out)),
     }
 }
 
 /// The library on one workload, again and again for a second.
 fn repeat(name: &str) {
-    let mut all = all().into_iter().chain(workloads::listed());
+    let mut all = all().into_iter().chain(workloads::listed()).chain(workloads::scripts());
     let w = all.find(|w| w.name == name).expect("the name of a workload");
     let (mut out, mut replies) = (vec![0; if w.operation == "open" { LIST } else { 32_768 }], vec![0; 60_000]);
     let start = Instant::now();
@@ -207,4 +212,43 @@ fn time_lists() {
         let (ratio, tight) = (open / check, exact / check);
         println!("| {} | {} | {moves} | {check:.0} | {open:.0} | {ratio:.2} | {each} | {tight:.2} |", w.name, w.table.len() / 16);
     }
+}
+
+/// What a translation costs beside a check of the table that it gives, in nanoseconds, by the library; and by the independent implementation.
+struct ScriptCost {
+    records: usize,
+    check: f64,
+    orc: f64,
+    independent: f64,
+}
+
+fn script_cost(w: &Workload) -> ScriptCost {
+    let (mut out, mut table) = (vec![0; 32_768], vec![0; 32_768]);
+    let reply = library::orc(&w.table, RESULT.0, RESULT.1, &mut table);
+    assert_eq!(reply.answer, w.answer, "{}", w.name);
+    table.truncate(16 * reply.records);
+    let check = median(|| _ = black_box(library::check(black_box(&table))));
+    let orc = median(|| by_library(w, &mut out, &mut []));
+    let independent = median(|| by_reference(w, &mut out, &mut []));
+    ScriptCost { records: reply.records, check, orc, independent }
+}
+
+/// Three passes over the scripts, of which the least counts.
+fn time_scripts() {
+    let works = workloads::scripts();
+    let passes: Vec<Vec<ScriptCost>> = (0..3).map(|_| works.iter().map(script_cost).collect()).collect();
+    println!("\n| script | records | records of the table | check ns | orc ns | orc / check | ns a record of both | independent / library |");
+    println!("|---|---|---|---|---|---|---|---|");
+    let mut sized = vec![];
+    for (i, w) in works.iter().enumerate() {
+        let least = |of: fn(&ScriptCost) -> f64| passes.iter().map(|pass| of(&pass[i])).fold(f64::INFINITY, f64::min);
+        let (check, orc, independent) = (least(|c| c.check), least(|c| c.orc), least(|c| c.independent));
+        let (records, written) = (w.table.len() / 8, passes[0][i].records);
+        let (ratio, each, times) = (orc / check, orc / (records + written) as f64, independent / orc);
+        println!("| {} | {records} | {written} | {check:.0} | {orc:.0} | {ratio:.2} | {each:.1} | {times:.0} |", w.name);
+        sized.push((records as f64, orc));
+    }
+    let [small, middle, large] = [0, 2, 4].map(|i| SCRIPTS[i]);
+    println!("\n| operation | exponent from {small} to {large} records | from {middle} to {large} |\n|---|---|---|");
+    println!("| orc | {:.2} | {:.2} |", exponent(&sized[..SCRIPTS.len()]), exponent(&sized[2..SCRIPTS.len()]));
 }

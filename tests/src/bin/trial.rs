@@ -1,11 +1,12 @@
 // The trial: `trial [SEED [CASES]]` runs all of it; `trial sample` a part of the damage, for a memory checker; `trial show` the planted faults, each
-// with the smallest case that shows it; `trial small` every table of a record more.
+// with the smallest case that shows it; `trial small` every table and script of a record more.
 use std::process::exit;
 use std::time::Instant;
 use trial::compare::Reached;
 use trial::damage::{self, Extent};
 use trial::lists::Listed;
-use trial::{differ, laws, planted, small};
+use trial::translations::Translations;
+use trial::{differ, laws, planted, scripts, small};
 
 const CASES: u64 = 100_000;
 
@@ -24,6 +25,7 @@ fn main() {
     let (seed, cases) = (number(0, 1), number(1, CASES));
     let start = Instant::now();
     differential(seed, cases);
+    translated(seed, cases);
     every_small(SMALL);
     damaged(seed);
     lawful(seed);
@@ -73,30 +75,45 @@ fn report(reached: &Reached) {
             missing.push(format!("accepted {kind}"));
         }
     }
-    for (words, count) in reached.listed.counts() {
-        println!("  {words}: {count}");
-        if count == 0 {
-            missing.push(words);
-        }
-    }
+    missing.extend(uncounted(reached.listed.counts()));
+    all_reached(missing);
+}
+
+/// Prints counts; those that are 0.
+fn uncounted(counts: Vec<(String, u64)>) -> Vec<String> {
+    counts.iter().for_each(|(words, count)| println!("  {words}: {count}"));
+    counts.into_iter().filter(|(_, count)| *count == 0).map(|(words, _)| words).collect()
+}
+
+fn all_reached(missing: Vec<String>) {
     if !missing.is_empty() {
         println!("NOT REACHED: {}", missing.join(", "));
         exit(1);
     }
 }
 
-/// How many records the tables of the small scope have at most.
+fn translated(seed: u64, cases: u64) {
+    println!("Orc scripts: {cases} generated ones, seed {seed}");
+    let mut reached = Reached::new();
+    if let Err(found) = scripts::generated(seed, cases, &mut reached) {
+        stop(found);
+    }
+    println!("  {} translations agree in reply, place, records and every byte; each accepted table passes check", reached.translations.calls);
+    all_reached(uncounted(reached.translations.counts()));
+}
+
+/// How many records the tables and scripts of the small scope have at most.
 const SMALL: usize = 5;
 
 fn every_small(most: usize) {
     let mut reached = Reached::new();
-    if let Err(fault) = small::run(most, &mut reached) {
+    if let Err(fault) = small::run(most, &mut reached).and_then(|()| scripts::small(most, &mut reached)) {
         stop(differ::found(0, fault));
     }
     let accepted: u64 = reached.accepted.iter().sum();
     println!(
-        "small scope: all {} tables of up to {most} records over a few atoms, {} moves on them, {accepted} accepted, {} lists: agree",
-        reached.checks, reached.steps, reached.listed.lists
+        "small scope: all {} tables of up to {most} records over a few atoms, {} moves on them, {accepted} accepted, {} lists, and {} translations of all scripts of up to {most} records: agree",
+        reached.checks, reached.steps, reached.listed.lists, reached.translations.calls
     );
 }
 
@@ -105,8 +122,10 @@ fn damaged(seed: u64) {
     if let Err(fault) = damage::run(seed, Extent::All, &mut reached) {
         stop(differ::found(0, fault));
     }
-    let Reached { steps, checks, plays, played, listed: Listed { lists, .. }, .. } = reached;
-    println!("damage: {steps} steps, {checks} checks and loads, {lists} lists and {plays} plays of {played} moves on damaged bytes and at every length agree");
+    let Reached { steps, checks, plays, played, listed: Listed { lists, .. }, translations: Translations { calls, .. }, .. } = reached;
+    println!(
+        "damage: {steps} steps, {checks} checks and loads, {lists} lists, {calls} translations and {plays} plays of {played} moves on damaged bytes and at every length agree"
+    );
 }
 
 fn sample() {
@@ -114,8 +133,8 @@ fn sample() {
     if let Err(fault) = damage::run(1, Extent::Sample, &mut reached) {
         stop(differ::found(0, fault));
     }
-    let Reached { steps, checks, plays, listed: Listed { lists, .. }, .. } = reached;
-    println!("sample: {steps} steps, {checks} checks, {lists} lists and {plays} plays on damaged bytes agree");
+    let Reached { steps, checks, plays, listed: Listed { lists, .. }, translations: Translations { calls, .. }, .. } = reached;
+    println!("sample: {steps} steps, {checks} checks, {lists} lists, {calls} translations and {plays} plays on damaged bytes agree");
 }
 
 fn lawful(seed: u64) {

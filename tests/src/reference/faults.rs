@@ -1,4 +1,5 @@
-// Planted faults: wrong readings of document 01 that can be switched on in the independent implementation, to see that the trial finds them.
+// Planted faults: wrong readings of document 01 and of later requests that can be switched on in the independent implementation, to see that the trial
+// finds them.
 use std::sync::atomic::{AtomicUsize, Ordering};
 
 static PLANTED: AtomicUsize = AtomicUsize::new(usize::MAX);
@@ -13,9 +14,20 @@ pub fn plant(fault: Option<Fault>) {
     PLANTED.store(fault.map_or(usize::MAX, |f| f as usize), Ordering::Relaxed);
 }
 
-/// Whether a fault is one of the list of open moves alone; those stand last.
-pub fn of_list(fault: Fault) -> bool {
-    fault as usize >= Fault::LastFloatingLeftOut as usize
+/// What a fault is of; those of tables, moves and nights stand first, then those of the list of open moves, then those of Orc scripts.
+#[derive(Clone, Copy, PartialEq, Eq, Debug)]
+pub enum Of {
+    Moves,
+    List,
+    Scripts,
+}
+
+pub fn of(fault: Fault) -> Of {
+    match fault as usize {
+        n if n >= Fault::LongScript as usize => Of::Scripts,
+        n if n >= Fault::LastFloatingLeftOut as usize => Of::List,
+        _ => Of::Moves,
+    }
 }
 
 macro_rules! faults {
@@ -124,4 +136,33 @@ faults! {
     PlaceOfTheRest: "22's place is the number of moves that do not fit",
     RoomForMoreThanList: "the list's buffer must be a byte longer",
     ByteBehindList: "the byte behind the list is cleared",
+    // Orc scripts
+    LongScript: "a script of 513 records is read",
+    RecordBeforeResult: "30 of a malformed record before that of the result endpoint",
+    ResultToVariable: "the operation of the result endpoint may be a variable",
+    LabelAsParameter: "a parameter may be a label",
+    ShapeBeforeDepth: "31 of the shape before that of the depth",
+    Depth65: "a script may be 65 deep",
+    VariablesBeforeShape: "32 before 31",
+    SequenceBindsLeft: "a sequence binds its variable in its left part",
+    WhereBindsRight: "a where binds its variable in its right part",
+    AgainInsideOnly: "a variable is bound a second time only where the first reaches",
+    UnboundBeforeAgain: "32 of an unbound variable before that of one bound again",
+    ParametersNotTaken: "a fresh atom may be a parameter",
+    SitesNotTaken: "a fresh atom may be of a site's endpoint",
+    ResultNotTaken: "a fresh atom may be of the result endpoint",
+    OperationBeforePartner: "a fresh operation is taken before its partner",
+    LabelBeforeLeft: "the label of a where is taken before the atoms of its left part",
+    BoundRenamed: "bound variables are renamed",
+    ResultBeforeParameter: "a call sends the result endpoint before the parameter",
+    ResultsKept: "the right part of a sequence sends its results to the left part's endpoint",
+    NotReplicated: "the receive of a sequence is not replicated",
+    KillLeftOut: "the receive of a where kills nothing",
+    LabelAroundBoth: "the label of a where is delimited around both parts",
+    VariableOutermost: "the variable of a where is delimited outside its endpoint",
+    LongTranslation: "a translation may have over 2,048 records",
+    DeepTranslation: "a translation may be deeper than 256",
+    RoomBeforeTooLarge: "21 of a translation before 20",
+    ByteBehindTranslation: "the byte behind a translation is cleared",
+    RefusedScriptWrites: "a refused script writes a byte",
 }

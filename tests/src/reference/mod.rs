@@ -1,12 +1,14 @@
-// The independent implementation: check, step, play and load as document 01 says, and open as request 2026-01 does, on a plain tree.
-// It is written from the paper's text and shares no code with crates/. Nothing here is meant to be fast.
+// The independent implementation: check, step, play and load as document 01 says, open as request 2026-01 does, and orc as 2026-03, on a plain tree.
+// It is written from the papers' text and shares no code with crates/. Nothing here is meant to be fast.
 mod communicate;
 pub mod faults;
 pub mod format;
 mod moves;
 mod night;
 mod open;
+mod orc;
 mod places;
+mod scripts;
 mod tables;
 pub mod terms;
 
@@ -14,6 +16,7 @@ pub use crate::reply::Reply;
 pub use moves::Move;
 pub use night::{check, load, play, step};
 pub use open::{open, open_moves, put_list, Found};
+pub use orc::{orc, put_translation, translate};
 
 /// A refusal: its number and its place.
 #[derive(Clone, Copy, PartialEq, Eq, Debug)]

@@ -1,0 +1,6 @@
+pub mod Marking
+pub mod Scopes
+pub mod Acts
+pub mod Parts
+pub mod Binding
+pub mod Whole

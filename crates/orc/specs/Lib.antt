@@ -1,0 +1,5 @@
+pub mod Expressions
+pub mod Scripts
+pub mod Translation
+pub mod Clauses
+pub mod Samples

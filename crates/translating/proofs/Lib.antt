@@ -1,0 +1,4 @@
+pub mod Supply
+pub mod Steps
+pub mod Asks
+pub mod Gives
