@@ -1,9 +1,10 @@
 /* Wigandoy: the stepper for COWS tables, as a static library (`rt staticlib export` writes target/staticlib/libexport.a).
  *
  * A table is 1 to 2,048 records of 16 bytes in prefix order; a move is 6 bytes (kind, 0, a, b; a and b 16 bits,
- * little-endian): 0 kill at a, 1 communication of receive a and invoke b, 2 timeout at a, 3 time passes by a,
- * 4 unfolding at a, 5 extrusion at a. Bytes may be anything and lengths too: every call is answered. Buffers that are
- * read are never changed. A buffer that is written overlaps no other. No pointer is NULL, not even that of a buffer of length 0.
+ * little-endian): 0 kill at a, 1 communication of receive a and invoke b, 2 timeout at a, 3 time passes by a (each live
+ * wait falls by a, and to 0 where it holds less), 4 unfolding at a, 5 extrusion at a. Bytes may be anything and lengths too:
+ * every call is answered. Buffers that are read are never changed. A buffer that is written overlaps no other. No pointer is
+ * NULL, not even that of a buffer of length 0.
  *
  * A reply is one number: see the three functions at the end. Answer 0 is accepted: place 0, and the number of records.
  * Any other answer is a refusal, with 0 records and untouched buffers. The lowest number that applies is given
@@ -32,7 +33,6 @@
  *   15  a ready receive that fits binds fewer variables                                 the first
  *   16  the wait's interval is not 0                                                    a
  *   17  a time of 0                                                                     place 0
- *       or above a live wait                                                            the first
  *   18  a label, or no fitting parent, or the root                                      a
  *   the proposer of a list of moves
  *   19  over 10,000 moves: over 60,000 bytes                                            place 0
@@ -84,7 +84,7 @@ enum {
     WIGANDOY_BAD_LENGTH = 1, WIGANDOY_BAD_RECORD = 2, WIGANDOY_BAD_SHAPE = 3, WIGANDOY_TOO_DEEP = 4,
     WIGANDOY_NO_GUARD = 5, WIGANDOY_OUT_OF_SCOPE = 6, WIGANDOY_CLASH = 7,
     WIGANDOY_NO_MOVE = 10, WIGANDOY_ABSENT = 11, WIGANDOY_DIFFERS = 12, WIGANDOY_APART = 13, WIGANDOY_HELD_BACK = 14,
-    WIGANDOY_LOOSER = 15, WIGANDOY_UNRIPE = 16, WIGANDOY_TOO_EARLY = 17, WIGANDOY_STUCK = 18, WIGANDOY_LIST_TOO_LONG = 19,
+    WIGANDOY_LOOSER = 15, WIGANDOY_UNRIPE = 16, WIGANDOY_NO_TIME = 17, WIGANDOY_STUCK = 18, WIGANDOY_LIST_TOO_LONG = 19,
     WIGANDOY_TOO_LARGE = 20, WIGANDOY_NO_ROOM = 21, WIGANDOY_LIST_TOO_SHORT = 22,
     WIGANDOY_BAD_SCRIPT = 30, WIGANDOY_BAD_NESTING = 31, WIGANDOY_BAD_BINDING = 32
 };

@@ -70,6 +70,9 @@ fn one_move(now: Vec<u8>, m: &[u8], tally: &mut Tally, seen: &mut Seen) -> Resul
     let list = open_list(&now)?;
     let listed = list.chunks_exact(6).any(|l| l == m);
     law(listed == (reply.answer == 0 && m[0] != 3), "a move is listed exactly if it is accepted and no time", &now, m)?;
+    let time = m[0] == 3 && m[1] == 0 && bytes::word(m, 4) == 0;
+    law(!time || (reply.answer == 17) == (bytes::word(m, 2) == 0), "a time is refused exactly if it is 0", &now, m)?;
+    law(!time || reply.answer == 17 || reply.answer == 0, "any other time goes on", &now, m)?;
     if reply.answer != 0 {
         seen.refused += 1;
         law(out == before && reply.records == 0, "a refusal changes nothing", &now, m)?;
@@ -141,7 +144,7 @@ fn of_kind(now: &[u8], next: &[u8], m: &[u8], seen: &mut Seen) -> Result<(), Str
         }
         1 => law(is + 2 <= was, "a communication takes two off the load", now, m),
         2 => law(is < was, "a timeout takes one off the load", now, m),
-        3 => law(is == was && same_but_intervals(now, next), "time changes intervals only", now, m),
+        3 => law(is == was && lowered(now, next, a), "time lowers intervals, to 0 where they hold less, and nothing else", now, m),
         4 => {
             let body = bytes::end(now, a) - a - 1;
             law(next.len() == now.len() + 16 * (body + 1), "an unfolding adds the body and a parallel", now, m)
@@ -177,8 +180,19 @@ fn way_in(now: &[u8], next: &[u8], a: usize) -> Vec<usize> {
     path
 }
 
-fn same_but_intervals(now: &[u8], next: &[u8]) -> bool {
-    now.len() == next.len() && now.chunks(16).zip(next.chunks(16)).all(|(r, s)| r[..14] == s[..14] && (r[0] == 4 || r == s))
+/// Each wait falls by the time, and to 0 where it holds less; what stands behind a receive or a wait or under a replication stays, and so does every other record.
+fn lowered(now: &[u8], next: &[u8], time: usize) -> bool {
+    let mut expected = now.to_vec();
+    let mut place = 0;
+    while place < now.len() / 16 {
+        let kind = bytes::kind(now, place);
+        if kind == 4 {
+            let left = (bytes::word(now, 16 * place + 14) as usize).saturating_sub(time);
+            expected[16 * place + 14..16 * place + 16].copy_from_slice(&(left as u16).to_le_bytes());
+        }
+        place = if [3, 4, 9].contains(&kind) { bytes::end(now, place) } else { place + 1 };
+    }
+    next == expected
 }
 
 fn law(holds: bool, words: &str, table: &[u8], m: &[u8]) -> Result<(), String> {

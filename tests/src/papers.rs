@@ -66,8 +66,8 @@ pub fn nights() -> Vec<Paper> {
     ]
 }
 
-fn n9() -> [Played; 5] {
-    [((2, 0, 0), (16, 0, 2)), ((3, 5, 0), (17, 0, 2)), ((3, 4, 0), (0, 0, 2)), ((3, 1, 0), (17, 0, 2)), ((2, 0, 0), (0, 0, 1))]
+fn n9() -> [Played; 4] {
+    [((2, 0, 0), (16, 0, 2)), ((3, 5, 0), (0, 0, 2)), ((3, 1, 0), (0, 0, 2)), ((2, 0, 0), (0, 0, 1))]
 }
 
 /// Small nights on which wrong readings give another answer.
@@ -77,7 +77,8 @@ pub fn further() -> Vec<Paper> {
     let beside = delimitation(K, parallel(protection(parallel(kill(K), sent(V))), invoke(Q, O, &[V])));
     let sender = parallel(delimitation(K, parallel(kill(K), sent(V))), taken(V));
     let dormant = parallel(delimitation(K, parallel(replication(kill(K)), taken(V))), sent(V));
-    let waits = || parallel(wait(9, nil()), parallel(wait(3, nil()), wait(1, nil())));
+    let waits = |a, b, c| parallel(wait(a, nil()), parallel(wait(b, nil()), wait(c, nil())));
+    let replicated_wait = |n| parallel(replication(wait(5, nil())), wait(n, nil()));
     let choices = choice(taken(V), choice(wait(0, sent(V)), wait(7, nil())));
     let two_values = delimitation(Y, delimitation(N, delimitation(X, parallel(receive(P, O, &[X, Y], nil()), invoke(P, O, &[N, V])))));
     let two_scopes = delimitation(J, delimitation(K, parallel(kill(K), parallel(taken(V), sent(V)))));
@@ -100,8 +101,8 @@ pub fn further() -> Vec<Paper> {
         ),
         paper("a kill in the scope of the invoke", sender, &[((1, 5, 4), (14, 1, 7))], None),
         paper("a replicated kill", dormant, &[((1, 5, 7), (14, 1, 8))], None),
-        paper("a replicated wait", parallel(replication(wait(1, nil())), wait(5, nil())), &[((3, 3, 0), (0, 0, 6)), ((3, 3, 0), (17, 4, 6))], None),
-        paper("the first wait below", waits(), &[((3, 5, 0), (17, 4, 8))], None),
+        paper("a replicated wait", replicated_wait(5), &[((3, 3, 0), (0, 0, 6))], Some(replicated_wait(2))),
+        paper("waits that hold less", waits(9, 4, 1), &[((3, 0, 0), (17, 0, 8)), ((3, 5, 0), (0, 0, 8))], Some(waits(4, 0, 0))),
         paper("choices within choices", choices, &[((2, 4, 0), (0, 0, 1))], Some(sent(V))),
         paper("each variable with its value", two_values, &[((1, 4, 6), (0, 0, 4))], None),
         paper("the scope of the kill's own label", two_scopes, &[((1, 5, 7), (14, 1, 8))], None),

@@ -6,26 +6,26 @@ use mathlib.Core.Option.{Option, none, some}
 use mathlib.Core.List.{[], _∷_, _++_, map}
 use Prim.Native.Nat.{ℕ, _≤_}
 use native.Mathlib.Omega.{arith}
-use lib.Dec.{ltb, eqb}
+use lib.Dec.{eqb}
 use lib.ListN.{length}
-use borrow.Author.Tests.{ltb-true, ltb-false, eq-eqb, eqb-true, ne-eqb, eqb-false, not-false}
+use borrow.Author.Tests.{eq-eqb, eqb-true, not-false}
 use Rattle.cows.specs.Basics.{any, every, foundWith, accept, _>>=_, _>>_, forbid, placeIf, oneIf}
 use Rattle.cows.specs.Terms.{nil, kill, Prefix, receive, wait, protection, delimitation, replication, choice, parallel, Term, leaf, under, both, Action, variable, label, size, kills, invokes, prefixed, receives, waits, delimits, delimitsAtom, replicates, below, uses, usesBasic, binders, atoms, invokeOf, receiveOf}
 use Rattle.cows.specs.Kinds.{open-kinds}
 use Rattle.cows.specs.Places.{Frame, inside, leftOf, rightOf, plug, Way, fill, wayTo, sub, first, enclosed, frameChooses, passed}
 use Rattle.cows.specs.Within.{Right, counts, Within}
 use Rattle.cows.specs.Active.{live, wanted, onKind}
-use Rattle.cows.specs.Moves.{Substitution, binds, haltBeside, haltInside, afterKill, killAt, fit, matched, inScope, heldBack, tighter, silence, continue, bind, communicateAt, timeoutAt, shorter, elapseBy, renaming, afterUnfold, unfoldAt, fitting, exchange, afterExtrude, extrudeAt, Move, Kill, Communicate, Timeout, Elapse, Unfold, Extrude, successor, freshCopy}
+use Rattle.cows.specs.Moves.{Substitution, binds, haltBeside, haltInside, afterKill, killAt, fit, matched, inScope, heldBack, tighter, silence, continue, bind, communicateAt, timeoutAt, elapseBy, renaming, afterUnfold, unfoldAt, fitting, exchange, afterExtrude, extrudeAt, Move, Kill, Communicate, Timeout, Elapse, Unfold, Extrude, successor, freshCopy}
 use Rattle.cows.specs.Allows.{Stands, StandsLive, Meets, Renames, Ended, Choice, Exchanged, Replaced, Instantiated, Elapsed, Parent, onLeft, onRight, protected, delimited, Allows, by-kill, by-communicate, by-timeout, by-elapse, by-unfold, by-extrude}
-use Rattle.cows.proofs.Basics.{never, and-true, or-false, or-right, not-so, any-append, bind-accept, same-accept, forbid-accept, placeIf-none}
+use Rattle.cows.proofs.Basics.{never, or-false, or-right, not-so, any-append, bind-accept, same-accept, forbid-accept, placeIf-none}
 use Rattle.cows.proofs.Renaming.{renaming-renames, renames-unique}
 use Rattle.cows.proofs.Atoms.{few-binders, few-atoms, binders-right}
 use Rattle.cows.proofs.Places.{fill-spot}
-use Rattle.cows.proofs.Stands.{sub-ind, right-at, scoped-at, kills-is, invokes-is, looks, prefixed-is, wanted-live, live-wanted, first-fails, fails-first, prefixed-stands}
+use Rattle.cows.proofs.Stands.{sub-ind, right-at, scoped-at, kills-is, invokes-is, looks, prefixed-is, wanted-live, live-wanted}
 use Rattle.cows.proofs.Meeting.{fit-fits, fits-fit, matched-binds, inScope-reaches, reaches-inScope, heldBack-unheld, unheld-heldBack, tighter-tightest, tightest-tighter}
 use Rattle.cows.proofs.Scopes.{counts-fill, counts-enclosed}
 use Rattle.cows.proofs.Parts.{part-counts, part-silence, part-continue}
-use Rattle.cows.proofs.Recordwise.{map-replaced, replaced-map, elapse-elapsed, elapsed-elapse}
+use Rattle.cows.proofs.Recordwise.{map-replaced, replaced-map, elapse-elapsed, elapsed-elapse, some-time, time-gives}
 use Rattle.cows.proofs.Contexts.{halts-ended, ended-halts, halt-cut, nearest, fill-cut, live-unchosen, choice-around, choice-split, Met, exchanged-met, parties-exchanged}
 use Rattle.cows.proofs.Instances.{Unique, instantiated-bind, Distinct, bind-instantiated, matches-distinct, reach-keyed}
 
@@ -184,30 +184,11 @@ unfolding timeoutAt _>>=_ _>>_ forbid placeIf prefixed waits
 allows-timeout t a r c w l q h = rw (live-wanted (prefixed waits) t a 0 (under (wait 0) r) refl l) (ap accept (continue-leaves t a (wait 0) r c w (l .at .stands) q h))
 
 -- elapse
-abbrev Covered : Term → ℕ → Type 0
-Covered t d = (n i : ℕ) (s : Term) → StandsLive t n (under (wait i) s) → d ≤ i
-
-shorter-covered : (t : Term) (d : ℕ) → first (shorter d) t ≡ none → Covered t d
-unfolding shorter foundWith prefixed waits
-shorter-covered t d e n i s l = ltb-false i d (rw (l .live) at (first-fails (shorter d) t e n (under (wait i) s) (l .at)))
-
-covered-shorter : (t : Term) (d : ℕ) → Covered t d → first (shorter d) t ≡ none
-unfolding shorter
-covered-shorter t d h = fails-first (shorter d) t (λ n p e.
-    let (l, e₁) = and-true (live (wayTo t n)) _ e in
-    let (i, st, e₂) = prefixed-stands waits wait (λ u. looks u .waiting) (λ i. ltb i d) t n p e₁ in
-    omega (arith, ltb-true i d e₂, h n i _ (record { at = st; live = l })))
-
 elapse-allows : (t s : Term) (d : ℕ) → elapseBy t d ≡ accept s → Allows t (Elapse d) s
-unfolding elapseBy
-elapse-allows t s d e =
-    let (z, e₁) = forbid-accept 17 (placeIf (eqb d 0) 0) _ s e in
-    let (n, e₂) = forbid-accept 17 (first (shorter d) t) _ s e₁ in
-    subst (Allows t (Elapse d)) (same-accept e₂) (by-elapse d _ (omega (arith, eqb-false d 0 (placeIf-none _ 0 z))) (shorter-covered t d n) (elapse-elapsed d t))
+elapse-allows t s d e = let (z, k) = time-gives t s d e in subst (Allows t (Elapse d)) k (by-elapse d _ (omega (arith, z)) (elapse-elapsed d t))
 
-allows-elapse : (t s : Term) (d : ℕ) → 1 ≤ d → Covered t d → Elapsed d t s → elapseBy t d ≡ accept s
-unfolding elapseBy _>>_ forbid placeIf
-allows-elapse t s d h k e = rw (ne-eqb d 0 (λ q. omega arith), covered-shorter t d k) (ap accept (sym (elapsed-elapse d t s e)))
+allows-elapse : (t s : Term) (d : ℕ) → 1 ≤ d → Elapsed d t s → elapseBy t d ≡ accept s
+allows-elapse t s d h e = some-time t d (λ z. omega arith) ∙ ap accept (sym (elapsed-elapse d t s e))
 
 -- unfold: there is room for new atoms
 body-right : (t s : Term) (a : ℕ) → sub t a ≡ under replication s → Right t → Right s
@@ -298,7 +279,7 @@ unfolding successor
 allows-successor t s m w (by-kill a k v u z l e h) = allows-kill t a k l ∙ ap accept (kill-after t a k v u z e (kill-once t _ a k v z w (l .at .stands) e) h)
 allows-successor t s m w (by-communicate a b σ r q h x i) = allows-communicate t q a b σ r w h x i
 allows-successor t s m w (by-timeout a r c z l q h) = allows-timeout t a r c z l q h
-allows-successor t s m w (by-elapse d q h k e) = allows-elapse t q d h k e
+allows-successor t s m w (by-elapse d q h e) = allows-elapse t q d h e
 allows-successor t s m w (by-unfold a r c σ l h k) = allows-unfold t a r c σ w l h k
 allows-successor t s m w (by-extrude a d r f v l h q p) = allows-extrude t a d r f v l h q p
 

@@ -159,6 +159,11 @@ unfolding placeIf
 placeIf-none true n e = cc
 placeIf-none false n e = refl
 
+pub placeIf-some : (b : Bool) (n p : ℕ) → placeIf b n ≡ some p → (b ≡ true) × (n ≡ p)
+unfolding placeIf
+placeIf-some true n p e = (refl, same-some e)
+placeIf-some false n p e = absurd (let z : _≡_ {A = ℕ} 0 1 = cc in omega arith)
+
 pub found-none : {A : Type 0} (o : Option A) → found o ≡ false → o ≡ none
 unfolding found
 found-none none e = refl

@@ -40,6 +40,7 @@ pub mod Allows
 pub mod Corollaries
 pub mod Accepts
 pub mod Mismatched
+pub mod Timed
 pub mod Load
 pub mod Run
 pub mod Theorems

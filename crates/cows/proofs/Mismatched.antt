@@ -17,7 +17,7 @@ use Rattle.cows.proofs.Basics.{never}
 use Rattle.cows.proofs.Tables.{judge-encode, judge-within, within-judge}
 use Rattle.cows.proofs.Stands.{right-at, invokes-is, looks, prefixed-is, wanted-live, live-wanted}
 use Rattle.cows.proofs.Unlike.{number-small, fit-lowest, lowest-fit}
-use Rattle.cows.proofs.Bounds.{OfRefusal, beside12, OfMismatch, judgeStep-refusal}
+use Rattle.cows.proofs.Bounds.{OfRefusal, untold, OfMismatch, judgeStep-refusal}
 
 module _ (table m : List ℕ) where
   told-here : AreBytes table → (t : Term) → judge table ≡ accept t → (v : Move) → readMove m ≡ some v → OfMismatch (Mismatched table m) t v
@@ -39,7 +39,7 @@ module _ (table m : List ℕ) where
   pub refused-mismatched : (room n : ℕ) → AreBytes table → judgeStep table m room ≡ refuse 12 n → Mismatched table m n
   refused-mismatched room n h e =
       subst (OfRefusal (λ k p. k ≡ 12 → Mismatched table m p)) e
-      (judgeStep-refusal (λ k p. k ≡ 12 → Mismatched table m p) (λ k p l z. never (ap beside12 (sym z) ∙ l)) table m room (λ t et v ev a b r i d is er ei f _. told-here h t et v ev a b r i d is er ei f)) refl
+      (judgeStep-refusal (λ k p. k ≡ 12 → Mismatched table m p) (λ k p l z. never (ap untold (sym z) ∙ l)) table m room (λ t et v ev. ((λ a b r i d is er ei f _. told-here h t et v ev a b r i d is er ei f), λ _ z. absurd (omega (arith, z))))) refl
 
   pub mismatched-refused : (room n : ℕ) → Mismatched table m n → judgeStep table m room ≡ refuse 12 n
   unfolding judgeStep stepTerm proposed need successor communicateAt matched _>>=_ prefixed receives invokes

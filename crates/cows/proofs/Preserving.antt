@@ -11,10 +11,11 @@ use Rattle.cows.specs.Terms.{Prefix, receive, wait, protection, delimita
 use Rattle.cows.specs.Places.{wayTo, sub, first}
 use Rattle.cows.specs.Active.{wanted}
 use Rattle.cows.specs.Within.{Right, Formed, Within}
-use Rattle.cows.specs.Moves.{Substitution, binds, fit, matched, inScope, heldBack, tighter, silence, continue, bind, shorter, fitting, killAt, communicateAt, timeoutAt, elapseBy, unfoldAt, extrudeAt, Move, Kill, Communicate, Timeout, Elapse, Unfold, Extrude, successor}
+use Rattle.cows.specs.Moves.{Substitution, binds, fit, matched, inScope, heldBack, tighter, silence, continue, bind, fitting, killAt, communicateAt, timeoutAt, elapseBy, unfoldAt, extrudeAt, Move, Kill, Communicate, Timeout, Elapse, Unfold, Extrude, successor}
 use Rattle.cows.specs.Step.{stepTerm}
 use Rattle.cows.proofs.Basics.{or-false, bind-accept, same-accept, forbid-accept, placeIf-none}
 use Rattle.cows.proofs.Parts.{Sound, part-sound, part-kill, part-silence, part-elapse, part-continue}
+use Rattle.cows.proofs.Recordwise.{time-gives}
 use Rattle.cows.proofs.Stands.{right-at, wanted-is, invokes-is, looks, prefixed-is}
 use Rattle.cows.proofs.Step.{Accepted, step-accepted}
 use Rattle.cows.proofs.ExtrudeKeeps.{part-extrude}
@@ -30,11 +31,7 @@ sound-kill t s a e h =
     subst Sound (same-accept es) (part-sound (part-kill k t a) h)
 
 sound-elapse : (t s : Term) (d : ℕ) → elapseBy t d ≡ accept s → Sound t → Sound s
-unfolding elapseBy
-sound-elapse t s d e h =
-    let (z, e₁) = forbid-accept 17 (placeIf (eqb d 0) 0) _ s e in
-    let (l, e₂) = forbid-accept 17 (first (shorter d) t) _ s e₁ in
-    subst Sound (same-accept e₂) (part-sound (part-elapse d t) h)
+sound-elapse t s d e h = subst Sound (time-gives t s d e .1) (part-sound (part-elapse d t) h)
 
 -- a prefix of another kind delimits nothing
 other-delimits : {A : Type 0} (kind : Prefix → Option A) → ((d : ℕ) → kind (delimitation d) ≡ none) → (s : Term) (a : A) → prefixed kind s ≡ some a → prefixed delimits s ≡ none

@@ -1,23 +1,24 @@
 -- Record by record: a term is told by its records; a substitution and the time passed, said of every record (specs/Allows: Replaced, Elapsed), are what
--- mapAtoms and elapse compute (specs/Moves).
+-- mapAtoms and elapse compute (specs/Moves). What a time move gives, and when.
 use mathlib.Core.Path.{_≡_, refl, sym, ap, subst, _∙_}
+use mathlib.Core.Logic.{_≢_}
 use mathlib.Core.Bool.{Bool, true, false, cond}
 use mathlib.Core.List.{List, [], _∷_, _++_, map}
-use Prim.Native.Nat.{ℕ, zero, suc, _-_, _<_}
+use Prim.Native.Nat.{ℕ, zero, suc, _+_, _-_, _<_}
 use native.Mathlib.Omega.{arith}
 use lib.Dec.{ltb, eqb}
 use lib.ListN.{getD}
 use lib.Seq.{ext-getD, getD-at}
-use borrow.Author.Tests.{eqb-true, eqb-false, eq-eqb, ne-eqb}
-use Rattle.cows.specs.Basics.{every}
+use borrow.Author.Tests.{ltb-true, ltb-false, eqb-true, eqb-false, eq-eqb, ne-eqb}
+use Rattle.cows.specs.Basics.{every, placeIf, refuse, accept, _>>_, forbid}
 use Rattle.cows.specs.Terms.{Basic, nil, kill, invoke, Prefix, receive, wait, protection, delimitation, replication, Term, leaf, under, both, size, depth, Join, choice, parallel}
 use Rattle.cows.specs.Kinds.{Node, basic, prefix, join, root, kind, liveKind, open-kinds}
 use Rattle.cows.specs.Places.{inside, leftOf, rightOf, Way, Spot, descend, spotAt, wayTo, sub, passed}
 use Rattle.cows.specs.Format.{nodes, decode}
 use Rattle.cows.specs.Active.{live, onKind}
-use Rattle.cows.specs.Moves.{Substitution, mapBasic, mapPrefix, mapNode, mapAtoms, image, lower, elapse}
+use Rattle.cows.specs.Moves.{Substitution, mapBasic, mapPrefix, mapNode, mapAtoms, image, lower, elapse, elapseBy}
 use Rattle.cows.specs.Allows.{StandsLive, Becomes, itself, by-pair, by-others, AllBecome, no-more, and-more, Rewritten, as-nil, as-kill, as-invoke, as-receive, as-wait, as-protection, as-delimitation, as-replication, as-join, Replaced, Elapsed}
-use Rattle.cows.proofs.Basics.{clash, cond-case, cond-case₂, true-and}
+use Rattle.cows.proofs.Basics.{clash, cond-case, cond-case₂, bool-case, true-and, placeIf-none, same-accept, forbid-accept}
 use Rattle.cows.proofs.Places.{fill-spot, descend-here}
 use Rattle.cows.proofs.Format.{length-nodes, decode-nodes}
 use Rattle.cows.specs.Records.{ahead, behind}
@@ -207,9 +208,17 @@ pub elapse-elapsed : (d : ℕ) (t : Term) → Elapsed d t (elapse d t)
 elapse-elapsed d t =
     record {
       count = elapse-keeps of-size d t;
-      falls = falls-live d t;
+      falls = λ n i r l. falls-live d t n (i + d) r l ∙ ap (λ j. prefix (wait j)) (let z : i + d - d ≡ i = omega arith in z);
+      runs-out = λ n i r l h. falls-live d t n i r l ∙ ap (λ j. prefix (wait j)) (let z : i - d ≡ 0 = omega arith in z);
       stays = λ n l h. wait-or-not (root (sub (elapse d t) n) ≡ root (sub t n)) d t n l (λ i r k. absurd (h i r k)) (λ k e. root-elapsed d t n ∙ e);
     }
+
+-- a live wait holds less than d, or d and the rest
+elapsed-live : (d : ℕ) (t s : Term) → Elapsed d t s → (n i : ℕ) (r : Term) → StandsLive t n (under (wait i) r) → root (sub s n) ≡ prefix (wait (i - d))
+elapsed-live d t s h n i r l =
+    bool-case _ (ltb i d)
+    (λ e. h .runs-out n i r l (ltb-true i d e) ∙ ap (λ j. prefix (wait j)) (let z : 0 ≡ i - d = omega (arith, ltb-true i d e) in z))
+    (λ e. h .falls n (i - d) r (subst (λ j. StandsLive t n (under (wait j) r)) (let z : i ≡ i - d + d = omega (arith, ltb-false i d e) in z) l))
 
 pub elapsed-elapse : (d : ℕ) (t s : Term) → Elapsed d t s → s ≡ elapse d t
 elapsed-elapse d t s h =
@@ -217,4 +226,17 @@ elapsed-elapse d t s h =
     (λ n l.
     let k : n < size t = omega (arith, elapse-keeps of-size d t) in
     wait-or-not (root (sub s n) ≡ root (sub (elapse d t) n)) d t n k
-    (λ i r y. h .falls n i r y ∙ sym (falls-live d t n i r y)) (λ y e. h .stays n k y ∙ sym (root-elapsed d t n ∙ e)))
+    (λ i r y. elapsed-live d t s h n i r y ∙ sym (falls-live d t n i r y)) (λ y e. h .stays n k y ∙ sym (root-elapsed d t n ∙ e)))
+
+-- A time of 0 is refused, and no other.
+pub no-time : (t : Term) (d : ℕ) → d ≡ 0 → elapseBy t d ≡ refuse 17 0
+unfolding elapseBy _>>_ forbid placeIf
+no-time t d e = rw e
+
+pub some-time : (t : Term) (d : ℕ) → d ≢ 0 → elapseBy t d ≡ accept (elapse d t)
+unfolding elapseBy _>>_ forbid placeIf
+some-time t d h = rw (ne-eqb d 0 h)
+
+pub time-gives : (t s : Term) (d : ℕ) → elapseBy t d ≡ accept s → (d ≢ 0) × (elapse d t ≡ s)
+unfolding elapseBy
+time-gives t s d e = let (z, k) = forbid-accept 17 (placeIf (eqb d 0) 0) _ s e in (eqb-false d 0 (placeIf-none _ 0 z), same-accept k)

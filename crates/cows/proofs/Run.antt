@@ -16,6 +16,7 @@ use Rattle.cows.specs.Step.{readMove, stepTerm, judgeStep}
 use Rattle.cows.specs.Run.{Tally, counted, noTally, sum, adds, RunState, start, judgement, enter, turn, run, lostBy, losses}
 use Rattle.cows.proofs.Basics.{bind-accept, accept-bind, forbid-accept, same-accept, same-some}
 use Rattle.cows.proofs.Stands.{wanted-is}
+use Rattle.cows.proofs.Recordwise.{time-gives}
 use Rattle.cows.proofs.Tables.{within-judge}
 use Rattle.cows.proofs.Step.{step-accepted}
 use Rattle.cows.proofs.Preserving.{step-within}
@@ -49,8 +50,8 @@ law-timeout t s a e =
     subst (Law t (Timeout a)) (same-accept (forbid-accept 16 _ _ s e₁ .1)) (omega (arith, load-timeout t a i (wanted-is (prefixed waits) t a i ei)))
 
 law-elapse : (t s : Term) (d : ℕ) → elapseBy t d ≡ accept s → Law t (Elapse d) s
-unfolding elapseBy copies spent lost
-law-elapse t s d e = subst (Law t (Elapse d)) (same-accept (forbid-accept 17 _ _ s (forbid-accept 17 _ _ s e .1) .1)) (omega (arith, load-elapse d t))
+unfolding copies spent lost
+law-elapse t s d e = subst (Law t (Elapse d)) (time-gives t s d e .1) (omega (arith, load-elapse d t))
 
 law-unfold : (t s : Term) (a : ℕ) → unfoldAt t a ≡ accept s → Law t (Unfold a) s
 unfolding unfoldAt copies spent lost

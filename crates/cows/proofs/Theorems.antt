@@ -15,11 +15,12 @@ use Rattle.cows.specs.Format.{AreBytes, encode}
 use Rattle.cows.specs.Tables.{judge}
 use Rattle.cows.specs.Within.{Within}
 use Rattle.cows.specs.Moves.{Substitution, Mismatch, differs, fit, mismatchNumber, silence, Move, Kill, Communicate, Timeout, Elapse, Unfold, Extrude, successor}
-use Rattle.cows.specs.Allows.{Stands, Meets, Matches, Unheld, Tightest, Halted, Ended, Allows}
+use Rattle.cows.specs.Allows.{Stands, Meets, Matches, Unheld, Tightest, Halted, Ended, Elapsed, Allows}
 use Rattle.cows.specs.Remains.{MeetingLeaves}
 use Rattle.cows.specs.Step.{readMove, judgeStep, stepTerm, stepReply, stepOutput}
 use Rattle.cows.specs.Accepts.{Accepts}
 use Rattle.cows.specs.Mismatched.{Unlike, Lowest, Mismatched}
+use Rattle.cows.specs.Timed.{ProposesTime}
 use Rattle.cows.specs.Load.{load, shielded, endedBy, dropped, lost, spent, copies}
 use Rattle.cows.specs.Run.{RunState, start, judgement, run, losses}
 use Rattle.cows.specs.Papers.{rightNight, papers, papers-right}
@@ -29,6 +30,7 @@ use Rattle.cows.proofs.Tables.{judge-encode, judge-within, within-judge
 use Rattle.cows.proofs.Meeting.{fit-fits, fits-fit}
 use Rattle.cows.proofs.Unlike.{fit-lowest, lowest-fit, fit-alike, alike-fit}
 use Rattle.cows.proofs.Mismatched.{refused-mismatched, mismatched-refused, mismatched-few}
+use Rattle.cows.proofs.Timed.{refused-timeless, timeless-refused, time-passes}
 use Rattle.cows.proofs.Allows.{successor-allows, allows-successor, allows-unique}
 use Rattle.cows.proofs.Remains.{meeting-leaves, leaves-meeting}
 use Rattle.cows.proofs.Accepts.{accepted-accepts, accepts-accepted, accepts-one, accepts-within}
@@ -172,6 +174,14 @@ mismatch-told table m room n h = (refused-mismatched table m room n h, mismatche
 
 pub mismatch-few : (table m : List ℕ) (n : ℕ) → Mismatched table m n → n ≤ 6
 mismatch-few table m n x = mismatched-few table m n x
+
+-- 8. (2026-04) Time goes on: a time of 1 or more is accepted on every well-formed table, whatever its waits hold, if the output is as long as the table; each live
+-- wait has fallen by it, or to 0 if it held less. A step refuses with 17 exactly a time of 0 on a well-formed table, at place 0.
+pub time-goes-on : (table m : List ℕ) (room d : ℕ) (x : ProposesTime table m d) → 1 ≤ d → length table ≤ room → (s : Term) × (judgeStep table m room ≡ accept s) × Elapsed d (x .term) s
+time-goes-on table m room d x h l = time-passes table m room d x h l
+
+pub no-time-told : (table m : List ℕ) (room p : ℕ) → AreBytes table → (judgeStep table m room ≡ refuse 17 p) ↔ (ProposesTime table m 0 × (p ≡ 0))
+no-time-told table m room p h = (refused-timeless table m room p h, λ x. timeless-refused table m room (x .0) ∙ ap (refuse 17) (sym (x .1)))
 
 -- N1 to N12, and the misreadings.
 pub nights : T (every rightNight papers)

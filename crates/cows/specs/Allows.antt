@@ -5,7 +5,7 @@ use mathlib.Core.Path.{_≡_}
 use mathlib.Core.Logic.{_≢_}
 use mathlib.Core.Bool.{true, false}
 use mathlib.Core.List.{List, [], _∷_, _++_}
-use Prim.Native.Nat.{ℕ, zero, suc, _+_, _-_, _≤_, _<_}
+use Prim.Native.Nat.{ℕ, zero, suc, _+_, _≤_, _<_}
 use lib.ListN.{length}
 use Rattle.cows.specs.Basics.{any, member, All}
 use Rattle.cows.specs.Terms.{nil, kill, invoke, Prefix, receive, wait, protection, delimitation, replication, Join, choice, parallel, Term, leaf, under, both, value, variable, label, size, atoms, binders}
@@ -194,10 +194,11 @@ pub data Instantiated : Substitution → Term → Term → Type 0 where
   goes : {x v : ℕ} {σ : Substitution} {s : Term} (w : Way) (r q : Term) → Replaced ((x, v) ∷ []) r q → Instantiated σ (fill w q) s
       → Instantiated ((x, v) ∷ σ) (fill w (under (delimitation x) r)) s
 
--- Time: as many records; each live wait falls by d; each record that is no live wait stays.
+-- Time: as many records; a live wait falls by d, and to 0 if it holds less; each record that is no live wait stays.
 pub record Elapsed (d : ℕ) (t s : Term) : Type 0 where
   pub count : size s ≡ size t
-  pub falls : (n i : ℕ) (r : Term) → StandsLive t n (under (wait i) r) → root (sub s n) ≡ prefix (wait (i - d))
+  pub falls : (n i : ℕ) (r : Term) → StandsLive t n (under (wait (i + d)) r) → root (sub s n) ≡ prefix (wait i)
+  pub runs-out : (n i : ℕ) (r : Term) → StandsLive t n (under (wait i) r) → i < d → root (sub s n) ≡ prefix (wait 0)
   pub stays : (n : ℕ) → n < size t → ((i : ℕ) (r : Term) → StandsLive t n (under (wait i) r) → ⊥) → root (sub s n) ≡ root (sub t n)
 
 pub data Allows (t : Term) : Move → Term → Type 0 where
@@ -205,7 +206,7 @@ pub data Allows (t : Term) : Move → Term → Type 0 where
       → Allows t (Kill a) (fill w (under (delimitation k) (fill u (leaf nil))))
   by-communicate : (a b : ℕ) (σ : Substitution) (r s : Term) (m : Meets t a b σ) → Exchanged t a b (m .body) r → Instantiated σ r s → Allows t (Communicate a b) s
   by-timeout : (a : ℕ) (r : Term) (c w : Way) → StandsLive t a (under (wait 0) r) → wayTo t a ≡ c ++ w → Choice c w → Allows t (Timeout a) (fill w r)
-  by-elapse : (d : ℕ) (s : Term) → 1 ≤ d → ((n i : ℕ) (r : Term) → StandsLive t n (under (wait i) r) → d ≤ i) → Elapsed d t s → Allows t (Elapse d) s
+  by-elapse : (d : ℕ) (s : Term) → 1 ≤ d → Elapsed d t s → Allows t (Elapse d) s
   by-unfold : (a : ℕ) (s c : Term) (σ : Substitution) → StandsLive t a (under replication s) → Renames (atoms t) (binders s) σ → Replaced σ s c
       → Allows t (Unfold a) (fill (wayTo t a) (both parallel c (under replication s)))
   by-extrude : (a d : ℕ) (s : Term) (f : Frame) (w : Way) → StandsLive t a (under (delimitation d) s) → label d ≡ false → wayTo t a ≡ f ∷ w → Parent f

@@ -16,6 +16,7 @@ pub mod Remains
 pub mod Step
 pub mod Accepts
 pub mod Mismatched
+pub mod Timed
 pub mod Load
 pub mod Run
 pub mod Papers

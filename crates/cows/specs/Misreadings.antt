@@ -91,10 +91,10 @@ misreadings =
     ∷ refused (new k (stop ∣ po! v) ∣ po? v) (meeting 5 4 ∷ []) (says 14 1 7 ∷ []) 3
     -- M8: and at a ready kill under a replication
     ∷ refused (new k (rep stop ∣ po? v) ∣ po! v) (meeting 5 7 ∷ []) (says 14 1 8 ∷ []) 3
-    -- M9: 17 does not count waits under a replication
-    ∷ night (rep (waitFor 1 𝟘) ∣ waitFor 5 𝟘) (time 3 ∷ time 3 ∷ []) (says 0 0 6 ∷ says 17 4 6 ∷ []) (rep (waitFor 1 𝟘) ∣ waitFor 2 𝟘) (0 ∷ 0 ∷ 0 ∷ 2 ∷ [])
-    -- M10: and names the first wait that is below, not the smallest
-    ∷ refused (waitFor 9 𝟘 ∣ waitFor 3 𝟘 ∣ waitFor 1 𝟘) (time 5 ∷ []) (says 17 4 8 ∷ []) 3
+    -- M9: time does not lower waits under a replication
+    ∷ night (rep (waitFor 5 𝟘) ∣ waitFor 5 𝟘) (time 3 ∷ []) (says 0 0 6 ∷ []) (rep (waitFor 5 𝟘) ∣ waitFor 2 𝟘) (0 ∷ 0 ∷ 0 ∷ 2 ∷ [])
+    -- M10: a live wait that holds less than the time refuses nothing, falls to 0 and not round, and the others fall by the time all the same
+    ∷ accepted (waitFor 0 𝟘 ∣ waitFor 9 𝟘 ∣ waitFor 5 𝟘 ∣ waitFor 4 𝟘) (time 5) (waitFor 0 𝟘 ∣ waitFor 4 𝟘 ∣ waitFor 0 𝟘 ∣ waitFor 0 𝟘) (0 ∷ 0 ∷ 0 ∷ 4 ∷ [])
     -- M11: 7 finds a use that stands before the delimitation
     ∷ record { begins = invoke! n 2 [] ∣ new n 𝟘; own = says 7 1 0; moves = []; replies = []; ends = invoke! n 2 [] ∣ new n 𝟘; total = [] }
     -- M12: atoms are renamed in record order
@@ -173,8 +173,8 @@ misreadings =
     (time 5)
     (new k (waitFor 0 (waitFor 2 𝟘) ∣ ⟦ waitFor 1 𝟘 ⟧ ∣ new n (waitFor 2 (qo! n)) ∣ (waitFor 3 𝟘 ⊕ po?then v (waitFor 1 𝟘) ⊕ waitFor 4 𝟘) ∣ rep ⟦ waitFor 1 𝟘 ⟧ ∣ stop ∣ po! v))
     (0 ∷ 0 ∷ 0 ∷ 12 ∷ [])
-    -- M37: 17 refuses a time of 0, at place 0, and names the first live wait that is below, in a choice too
-    ∷ night (⟦ 𝟘 ⟧ ∣ (po?then v (waitFor 1 𝟘) ⊕ waitFor 4 𝟘)) (time 0 ∷ time 5 ∷ time 4 ∷ []) (says 17 0 9 ∷ says 17 7 9 ∷ says 0 0 9 ∷ [])
+    -- M37: 17 refuses a time of 0, at place 0, and no other; a wait in a choice falls to 0 too
+    ∷ night (⟦ 𝟘 ⟧ ∣ (po?then v (waitFor 1 𝟘) ⊕ waitFor 4 𝟘)) (time 0 ∷ time 1 ∷ time 65535 ∷ []) (says 17 0 9 ∷ says 0 0 9 ∷ says 0 0 9 ∷ [])
     (⟦ 𝟘 ⟧ ∣ (po?then v (waitFor 1 𝟘) ⊕ waitFor 0 𝟘)) (0 ∷ 0 ∷ 0 ∷ 3 ∷ [])
     -- Unfold.
     -- M38: a new value is sought from 1, a new variable from 32768, a new label from 49152

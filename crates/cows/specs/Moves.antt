@@ -10,7 +10,7 @@ use Rattle.cows.specs.Basics.{any, every, member, foundWith, found, plac
 use Rattle.cows.specs.Terms.{Basic, nil, kill, invoke, Prefix, receive, wait, protection, delimitation, replication, Join, choice, parallel, Term, leaf, under, both, Action, value, variable, label, atoms, binders, kills, invokes, prefixed, receives, waits, delimits, replicates, delimitsAtom, delimitsAt, below}
 use Rattle.cows.specs.Places.{Frame, inside, leftOf, rightOf, plug, Way, fill, Spot, wayTo, sub, first, encloses, frameDelimits, enclosed, frameChooses}
 use Rattle.cows.specs.Kinds.{Node, basic, prefix, join, kind, liveKind, floatsOver}
-use Rattle.cows.specs.Active.{onKind, live, ready, wanted}
+use Rattle.cows.specs.Active.{onKind, ready, wanted}
 pub use Rattle.cows.specs.Proposed.{Substitution, Move, Kill, Communicate, Timeout, Elapse, Unfold, Extrude}
 
 -- Kill. Halting (001) makes nil of kills, invokes and whole choices, receives and waits; it goes down both sides of a parallel,
@@ -192,7 +192,7 @@ timeoutAt t a = do
   forbid 16 (placeIf (not (eqb i 0)) a)
   accept (continue t a)
 
--- Elapse. Each live wait falls by d; waits under replication keep theirs.
+-- Elapse. Each live wait falls by d, and to 0 where it holds less (2026-04): the difference of numbers stops at 0. Waits under replication keep theirs.
 unfoldable pub lower : ℕ → Prefix → Prefix
 lower d (receive p o ws) = receive p o ws
 lower d (wait n) = wait (n - d)
@@ -205,14 +205,10 @@ elapse d (leaf x) = leaf x
 elapse d (under u t) = under (lower d u) (cond (liveKind (kind (prefix u))) (elapse d t) t)
 elapse d (both j s t) = both j (elapse d s) (elapse d t)
 
--- 17: a time of 0, or above a live wait.
-unfoldable pub shorter : ℕ → ℕ → Spot → Bool
-shorter d n z = live (z .way) && foundWith (λ i. ltb i d) (prefixed waits (z .here))
-
+-- 17: a time of 0.
 unfoldable pub elapseBy : Term → ℕ → Result Term
 elapseBy t d = do
   forbid 17 (placeIf (eqb d 0) 0)
-  forbid 17 (first (shorter d) t)
   accept (elapse d t)
 
 -- Unfold. The smallest atom from n on that is not taken, within so many tries; the first atom of an atom's set.
@@ -278,5 +274,5 @@ successor t (Extrude a) = extrudeAt t a
 
 -- (for computed checks) to unfold this is to unfold every definition of this file
 unfoldable pub open-moves : Unit {0}
-unfolding haltUnder haltBoth halt haltBeside haltInside afterKill killAt provided besides match closedAction fit mismatchNumber matched outside inScope readyKill heldBack fewer tighter silence aroundChoice continue mapBasic mapPrefix mapNode mapAtoms image instantiate bind communicateAt timeoutAt lower elapse shorter elapseBy firstFree least fresh renaming freshCopy afterUnfold unfoldAt fitting exchange afterExtrude extrudeAt successor
+unfolding haltUnder haltBoth halt haltBeside haltInside afterKill killAt provided besides match closedAction fit mismatchNumber matched outside inScope readyKill heldBack fewer tighter silence aroundChoice continue mapBasic mapPrefix mapNode mapAtoms image instantiate bind communicateAt timeoutAt lower elapse elapseBy firstFree least fresh renaming freshCopy afterUnfold unfoldAt fitting exchange afterExtrude extrudeAt successor
 open-moves = tt

@@ -157,8 +157,8 @@ papers =
     ∷ record { begins = new k stop ∣ po? v ∣ po! v; own = says 0 0 6; moves = meeting 4 6 ∷ []; replies = says 0 0 6 ∷ []; ends = new k stop ∣ 𝟘 ∣ 𝟘; total = 1 ∷ 0 ∷ 0 ∷ 1 ∷ [] }
     -- N8
     ∷ record { begins = N8; own = says 0 0 3; moves = meeting 2 4 ∷ float 1 ∷ meeting 2 4 ∷ []; replies = says 13 2 5 ∷ says 0 0 5 ∷ says 0 0 3 ∷ []; ends = 𝟘 ∣ 𝟘; total = 1 ∷ 0 ∷ 0 ∷ 0 ∷ [] }
-    -- N9
-    ∷ record { begins = waitFor 4 𝟘; own = says 0 0 1; moves = expiry 0 ∷ time 5 ∷ time 4 ∷ time 1 ∷ expiry 0 ∷ []; replies = says 16 0 2 ∷ says 17 0 2 ∷ says 0 0 2 ∷ says 17 0 2 ∷ says 0 0 1 ∷ []; ends = 𝟘; total = 0 ∷ 0 ∷ 1 ∷ 0 ∷ [] }
+    -- N9, as 2026-04 has it: time 5 leaves 0, and time goes on at 0
+    ∷ record { begins = waitFor 4 𝟘; own = says 0 0 1; moves = expiry 0 ∷ time 5 ∷ time 1 ∷ expiry 0 ∷ []; replies = says 16 0 2 ∷ says 0 0 2 ∷ says 0 0 2 ∷ says 0 0 1 ∷ []; ends = 𝟘; total = 0 ∷ 0 ∷ 1 ∷ 0 ∷ [] }
     -- N10
     ∷ record { begins = N10; own = says 0 0 11; moves = meeting 4 2 ∷ meeting 9 2 ∷ []; replies = says 15 9 11 ∷ says 14 6 11 ∷ []; ends = N10; total = 0 ∷ 0 ∷ 0 ∷ 4 ∷ [] }
     -- N11

@@ -1,33 +1,26 @@
-// Elapse (time): every live wait falls by d, which none of them may be below.
-mod scans;
-
-use crate::scans::first_shorter;
+// Elapse (time): every live wait falls by d, and to 0 if it holds less.
 use plans::Judgement;
 use plans::Plan;
 use plans::refused;
-use records::Found;
 use rewriting::elapsing::elapse_at;
+ghost use mathlib.Core.List.{List};
+ghost use Prim.Native.Nat.{ℕ};
 ghost use Rattle.cows.specs.Terms.{Term};
 ghost use Rattle.cows.specs.Moves.{elapseBy};
-ghost use Rattle.ways.specs.Known.{Table, Known};
+ghost use Rattle.ways.specs.Known.{Table};
 ghost use Rattle.plans.specs.Plans.{Planned, Asks, Gives};
 
-// The move by the time d; the place of its plan is the root.
-pub fn judge(s: &[u8], ends: &[u16], d: u16) -> Plan
-    requires { ⌜ Known (now s) (now ends) ⌝ }
-    ensures { λ r. ⌜ ((t : Term) → Table (now (s .entry)) (now (ends .entry)) t → Planned (elapseBy t d) 0 r) ⌝ }
+// The move by the time d, whatever the waits hold; the place of its plan is the root.
+pub fn judge(s: &[u8], d: u16) -> Plan
+    ensures { λ r. ⌜ ((ends : List ℕ) (t : Term) → Table (now (s .entry)) ends t → Planned (elapseBy t d) 0 r) ⌝ }
 {
     if d == 0 {
-        return refused(Judgement::Early(0));
+        return refused(Judgement::Timeless);
     }
-    let found = first_shorter(s, ends, d);
-    let Found::At(p) = found else {
-        return Plan {
-            judgement: Judgement::Allowed(s.len() / 16),
-            from: 0,
-        };
-    };
-    refused(Judgement::Early(p))
+    Plan {
+        judgement: Judgement::Allowed(s.len() / 16),
+        from: 0,
+    }
 }
 
 // Its successor: the table with its live waits lowered.

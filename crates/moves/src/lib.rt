@@ -19,7 +19,7 @@ pub fn judge(s: &[u8], ends: &[u16], m: Move) -> Plan
         Move::Kill(a) => kill::judge(s, ends, a),
         Move::Communicate(a, b) => communicate::judge(s, ends, a, b),
         Move::Timeout(a) => timeout::judge(s, ends, a),
-        Move::Elapse(d) => elapse::judge(s, ends, d),
+        Move::Elapse(d) => elapse::judge(s, d),
         Move::Unfold(a) => unfold::judge(s, ends, a),
         Move::Extrude(a) => extrude::judge(s, ends, a),
         Move::None => refused(Judgement::Unread),

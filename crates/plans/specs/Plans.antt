@@ -10,7 +10,7 @@ use Rattle.cows.specs.Step.{overLimits}
 use Rattle.records.specs.Rewrites.{put}
 use Rattle.ways.specs.Known.{Table, Known}
 use Rattle.plans.specs.declared.Judgement.{Judgement}
-use Rattle.plans.specs.declared.Judgement.the-variants.{Allowed, Unread, Absent, Differs, Apart, Held, Looser, Unripe, Early, Stuck, Large}
+use Rattle.plans.specs.declared.Judgement.the-variants.{Allowed, Unread, Absent, Differs, Apart, Held, Looser, Unripe, Timeless, Stuck, Large}
 use Rattle.plans.specs.declared.Plan.{Plan}
 
 -- the number of records of the successor, or the refusal
@@ -23,7 +23,7 @@ resultOf (Apart p) = refuse 13 p
 resultOf (Held p) = refuse 14 p
 resultOf (Looser p) = refuse 15 p
 resultOf (Unripe p) = refuse 16 p
-resultOf (Early p) = refuse 17 p
+resultOf Timeless = refuse 17 0
 resultOf (Stuck p) = refuse 18 p
 resultOf Large = refuse 20 0
 

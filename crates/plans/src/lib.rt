@@ -13,7 +13,7 @@ pub enum Judgement {
     Held(usize),
     Looser(usize),
     Unripe(usize),
-    Early(usize),
+    Timeless,
     Stuck(usize),
     Large,
 }

@@ -18,7 +18,7 @@ use Rattle.cows.proofs.Format.{length-encode}
 use Rattle.records.specs.Rewrites.{put}
 use Rattle.ways.specs.Known.{Table, Known}
 use Rattle.plans.specs.declared.Judgement.{Judgement}
-use Rattle.plans.specs.declared.Judgement.the-variants.{Allowed, Unread, Absent, Differs, Apart, Held, Looser, Unripe, Early, Stuck, Large}
+use Rattle.plans.specs.declared.Judgement.the-variants.{Allowed, Unread, Absent, Differs, Apart, Held, Looser, Unripe, Timeless, Stuck, Large}
 use Rattle.plans.specs.declared.Plan.{Plan}
 use Rattle.plans.specs.Plans.{resultOf, limited, Planned, Asks}
 use Rattle.tables.specs.declared.Reply.{Reply}
@@ -54,7 +54,7 @@ answer-allowed (Apart p) room e = absurd (omega arith)
 answer-allowed (Held p) room e = absurd (omega arith)
 answer-allowed (Looser p) room e = absurd (omega arith)
 answer-allowed (Unripe p) room e = absurd (omega arith)
-answer-allowed (Early p) room e = absurd (omega arith)
+answer-allowed Timeless room e = absurd (omega arith)
 answer-allowed (Stuck p) room e = absurd (omega arith)
 answer-allowed Large room e = absurd (omega arith)
 

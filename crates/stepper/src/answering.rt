@@ -34,7 +34,7 @@ pub fn answer(judgement: Judgement, room: usize) -> Reply
         Judgement::Held(p) => refusal(14, p),
         Judgement::Looser(p) => refusal(15, p),
         Judgement::Unripe(p) => refusal(16, p),
-        Judgement::Early(p) => refusal(17, p),
+        Judgement::Timeless => refusal(17, 0),
         Judgement::Stuck(p) => refusal(18, p),
         Judgement::Large => refusal(20, 0),
     }

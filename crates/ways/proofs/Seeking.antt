@@ -1,24 +1,20 @@
 -- A walk for the first active record that passes a test (cows, proofs/Scans): what is found is what is found from the present place on.
-use mathlib.Core.Path.{_≡_, refl, sym, ap, _∙_}
+use mathlib.Core.Path.{_≡_, sym, ap, _∙_}
 use mathlib.Core.Bool.{Bool, true, false, _&&_}
 use mathlib.Core.List.{List, []}
 use mathlib.Core.Option.{Option, none, some}
 use Prim.Native.Nat.{ℕ, _+_, _*_, _-_, _/_, _≤_, _<_}
 use native.Mathlib.Omega.{arith}
 use native.Mathlib.Numerals.{add-one}
-use lib.Dec.{ltb, eqb}
 use lib.ListN.{length, getD}
-use Rattle.cows.specs.Basics.{every, foundWith, firstFrom, placeIf, orElse}
-use Rattle.cows.specs.Terms.{nil, kill, invoke, receive, wait, protection, delimitation, replication, choice, parallel, Term, leaf, under, both, size, prefixed, waits}
-use Rattle.cows.specs.Kinds.{root, kindOf}
-use Rattle.cows.specs.Format.{word, record16}
+use Rattle.cows.specs.Basics.{every, firstFrom, placeIf, orElse}
+use Rattle.cows.specs.Terms.{Term, size}
+use Rattle.cows.specs.Kinds.{kindOf}
 use Rattle.cows.specs.Places.{Spot, spotAt, wayTo, sub, first}
 use Rattle.cows.proofs.Basics.{from-next, from-end, from-skip}
-use Rattle.cows.proofs.Fields.{interval-wait}
 use Rattle.cows.proofs.Places.{size-pos, spot-fits, descend-first}
 use Rattle.cows.proofs.Scans.{active, active-over, active-next, shut-below}
-use Rattle.records.specs.Holds.{Holds}
-use Rattle.records.proofs.StandsIn.{holds-kind, holds-word}
+use Rattle.records.proofs.StandsIn.{holds-kind}
 use Rattle.ways.specs.Known.{Table}
 use Rattle.ways.proofs.KnownTables.{table-size, table-ended, table-inside}
 
@@ -99,20 +95,3 @@ module _ (s ends : List ℕ) (t : Term) (h : Table s ends t) (i : ℕ) (l : i < 
 
       pub table-over : g ≡ false → (next : ℕ) → next ≡ getD ends i 0 → Seeking P test t next
       table-over e next at = rw (at, table-ended s ends t h i inside) (seeking-over P test t i k inside (sym (tested inside) ∙ no) (kind-is ∙ e))
-
--- a wait that is shorter, by its bytes
-shorter-record : (s : Term) (d : ℕ) → (eqb (kindOf s) 4 && ltb (word (record16 (root s)) 14) d) ≡ foundWith (λ i. ltb i d) (prefixed waits s)
-unfolding kindOf root prefixed waits foundWith
-shorter-record (leaf nil) d = refl
-shorter-record (leaf (kill k)) d = refl
-shorter-record (leaf (invoke p o ws)) d = refl
-shorter-record (under (receive p o ws) t) d = refl
-shorter-record (under (wait n) t) d = ap (λ i. ltb i d) (interval-wait n t)
-shorter-record (under protection t) d = refl
-shorter-record (under (delimitation c) t) d = refl
-shorter-record (under replication t) d = refl
-shorter-record (both choice l r) d = refl
-shorter-record (both parallel l r) d = refl
-
-pub shorter-bytes : (s : List ℕ) (t : Term) (p d : ℕ) → Holds s t → p < size t → (eqb (getD s (16 * p) 0) 4 && ltb (word s (16 * p + 14)) d) ≡ foundWith (λ i. ltb i d) (prefixed waits (sub t p))
-shorter-bytes s t p d h l = rw (holds-kind s t p h l, holds-word s t p 14 h l (omega arith)) (shorter-record (sub t p) d)

@@ -140,7 +140,7 @@ fn sample() {
 fn lawful(seed: u64) {
     match laws::run(seed, 600) {
         Ok(seen) => println!(
-            "laws: {} nights, {} accepted moves ({} kills), {} refused, {} moves of {} lists: demand 3's inequality, play as its steps, well-formed successors, untouched outputs, halting, exactly the accepted moves listed",
+            "laws: {} nights, {} accepted moves ({} kills), {} refused, {} moves of {} lists: demand 3's inequality, play as its steps, well-formed successors, untouched outputs, halting, time, exactly the accepted moves listed",
             seen.nights, seen.accepted, seen.kills, seen.refused, seen.listed, seen.lists
         ),
         Err(words) => {

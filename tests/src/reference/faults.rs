@@ -101,8 +101,10 @@ faults! {
     TimeoutHeld: "a ready kill holds a timeout back",
     TimeoutEarly: "a wait above 0 may time out",
     TimeZero: "a time of 0 is allowed",
-    SmallestWait: "the smallest wait is the place, not the first below",
-    ReplicatedWaitHolds: "a wait under a replication holds time",
+    WaitHoldsTime: "a time above a live wait is refused",
+    WaitGoesRound: "a wait goes below 0 and round",
+    ShorterWaitKept: "a wait that holds less than the time keeps it",
+    UpToShortest: "no wait falls by more than the shortest live one holds",
     ReplicatedWaitFalls: "a wait under a replication falls",
     // unfolding and extrusion
     CopyRight: "the copy stands right",

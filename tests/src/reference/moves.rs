@@ -156,39 +156,50 @@ fn timeout(all: &[Place], a: usize) -> Result<Term, Refusal> {
     Ok(all[0].here.with(&whole_choice(p), p.here.parts[0].clone()))
 }
 
-/// Time: each live wait falls, and none may be below.
+/// Time: each live wait falls, whatever it holds. Only a time of 0 is refused.
 fn elapse(all: &[Place], by: u16) -> Result<Term, Refusal> {
     if by == 0 && !planted(Fault::TimeZero) {
         return refuse(17, 0);
     }
-    let holds = |p: &Place| p.live() || (planted(Fault::ReplicatedWaitHolds) && p.ready());
-    let below = |p: &&Place| holds(p) && matches!(p.here.head, Head::Wait(n) if n < by);
-    let mut first = all.iter().find(below);
-    if planted(Fault::SmallestWait) {
-        first = all.iter().filter(below).min_by_key(|p| interval(p));
+    if planted(Fault::WaitHoldsTime) {
+        if let Some((p, _)) = live_waits(all).find(|(_, n)| *n < by) {
+            return refuse(17, p);
+        }
     }
-    match first {
-        Some(p) => refuse(17, p.number),
-        None => Ok(elapsed(all[0].here, by)),
+    if planted(Fault::UpToShortest) {
+        let shortest = live_waits(all).map(|(_, n)| n).min().unwrap_or(by);
+        return Ok(elapsed(all[0].here, by.min(shortest)));
     }
+    Ok(elapsed(all[0].here, by))
 }
 
-fn interval(p: &Place) -> u16 {
-    if let Head::Wait(n) = p.here.head {
-        n
-    } else {
-        0
-    }
+/// (for planted faults) The places and intervals of the live waits.
+fn live_waits<'a>(all: &'a [Place<'a>]) -> impl Iterator<Item = (usize, u16)> + 'a {
+    all.iter().filter(|p| p.live()).filter_map(|p| if let Head::Wait(n) = p.here.head { Some((p.number, n)) } else { None })
 }
 
 /// Every live wait less the time; what stands behind a wait, a receive or a replication is not live.
 fn elapsed(term: &Term, by: u16) -> Term {
     match term.head {
-        Head::Wait(n) => Term { head: Head::Wait(n.saturating_sub(by)), parts: term.parts.clone() },
+        Head::Wait(n) => Term { head: Head::Wait(lowered(n, by)), parts: term.parts.clone() },
         Head::Receive(_) => term.clone(),
         Head::Replication if !planted(Fault::ReplicatedWaitFalls) => term.clone(),
         _ => Term { head: term.head.clone(), parts: term.parts.iter().map(|p| elapsed(p, by)).collect() },
     }
+}
+
+/// An interval less the time, and 0 where it holds less.
+fn lowered(interval: u16, by: u16) -> u16 {
+    if interval >= by {
+        return interval - by;
+    }
+    if planted(Fault::WaitGoesRound) {
+        return interval.wrapping_sub(by);
+    }
+    if planted(Fault::ShorterWaitKept) {
+        return interval;
+    }
+    0
 }
 
 /// Unfolding: a parallel of a copy of the body (left) and the replication itself.

@@ -17,7 +17,7 @@ judge-spec =
     (λ c t h. plans (c .before .before .m .given .1) t _ (c .judge .ensures t h))
     (λ c t h. plans (c .before .before .m2 .given .1) t _ (c .judge2 .ensures t h))
     (λ c t h. plans (c .before .before .m3 .given .1) t _ (c .judge3 .ensures t h))
-    (λ c t h. plans (c .before .before .m4 .given .1) t _ (c .judge4 .ensures t h))
+    (λ c t h. plans (c .before .before .m4 .given .1) t _ (c .judge4 .ensures _ t h))
     (λ c t h. plans (c .before .before .m5 .given .1) t _ (c .judge5 .ensures t h))
     (λ c t h. plans (c .before .before .m6 .given .1) t _ (c .judge6 .ensures t h))
     (λ c t h. plans-none (c .before .enum-told .given .1) t _ (c .refused .ensures .0)))
