@@ -194,10 +194,13 @@ unfolding silence
 part-silence t n = replaced (Part true) plug-part t n (leaf nil) cut
 
 -- Elapse
+lowered-by : (m d : ℕ) → Lowered (wait m) (wait (m - d))
+lowered-by m d = lowered {m = m} {n = m - d} (omega arith)
+
 lowered-lower : (d : ℕ) (u : Prefix) → Lowered u (lower d u)
 unfolding lower
 lowered-lower d (receive p o ws) = same
-lowered-lower d (wait n) = lowered {m = n} {n = n - d} (omega arith)
+lowered-lower d (wait n) = lowered-by n _
 lowered-lower d protection = same
 lowered-lower d (delimitation a) = same
 lowered-lower d replication = same
