@@ -8,7 +8,8 @@
  *
  * A reply is one number: see the three functions at the end. Answer 0 is accepted: place 0, and the number of records.
  * Any other answer is a refusal, with 0 records and untouched buffers. The lowest number that applies is given
- * (for a script 30 to 32 come before 20 and 21), then the lowest place. Places count records from 0, but those of 12 and 22.
+ * (for a script 30 to 32 come before 20 and 21, for ticks 23 and 24 before 21), then the lowest place. Places count records
+ * from 0, but those of 12 and 22.
  *
  *   the table's author
  *    1  no bytes, over 32,768, or not a multiple of 16                                  place 0
@@ -39,10 +40,13 @@
  *   the lender of the output
  *   20  the successor, or the table of a script, has over 2,048 records or a depth
  *       over 256                                                                        place 0
- *   21  a step's or a script's output is shorter than that; a play's is shorter than
- *       32,768 bytes, or its replies than 6 bytes for each move                         place 0
+ *   21  the output of a step, of ticks or of a script is shorter than that; a play's is
+ *       shorter than 32,768 bytes, or its replies than 6 bytes for each move            place 0
  *   the lender of the list of open moves
  *   22  the list is shorter than 6 bytes for each of them                               their number
+ *   the reader of the clock
+ *   23  2,147,483,648 ticks or more: the clock has gone back                            place 0
+ *   24  over 65,535 ticks                                                               place 0
  *   the author of an Orc script
  *   30  no bytes, over 512 records, or not a multiple of 8; or a result endpoint that
  *       is no pair of values                                                            place 0
@@ -86,6 +90,7 @@ enum {
     WIGANDOY_NO_MOVE = 10, WIGANDOY_ABSENT = 11, WIGANDOY_DIFFERS = 12, WIGANDOY_APART = 13, WIGANDOY_HELD_BACK = 14,
     WIGANDOY_LOOSER = 15, WIGANDOY_UNRIPE = 16, WIGANDOY_NO_TIME = 17, WIGANDOY_STUCK = 18, WIGANDOY_LIST_TOO_LONG = 19,
     WIGANDOY_TOO_LARGE = 20, WIGANDOY_NO_ROOM = 21, WIGANDOY_LIST_TOO_SHORT = 22,
+    WIGANDOY_GONE_BACK = 23, WIGANDOY_TOO_MANY_TICKS = 24,
     WIGANDOY_BAD_SCRIPT = 30, WIGANDOY_BAD_NESTING = 31, WIGANDOY_BAD_BINDING = 32
 };
 
@@ -101,7 +106,7 @@ enum {
  * that one of them writes is used by another. All that a call needs is on the stack of its thread, at most so many bytes
  * (measured by tests/c/stack.c, and rounded up): */
 #define WIGANDOY_STACK_CHECK 196608 /* check and load */
-#define WIGANDOY_STACK_STEP 262144
+#define WIGANDOY_STACK_STEP 262144 /* step and ticks */
 #define WIGANDOY_STACK_PLAY 327680
 #define WIGANDOY_STACK_OPEN 196608
 #define WIGANDOY_STACK_ORC 65536
@@ -112,9 +117,15 @@ uint64_t wigandoy_check(const uint8_t *table, size_t bytes);
 /* The load of a table, its kills, invokes, receives and waits: refusals 1 to 7, or 0 and the load in place of the records. */
 uint64_t wigandoy_load(const uint8_t *table, size_t bytes);
 
-/* One move on a table: all refusals above but 19, or 0 and the successor's records, which the output then begins with; the
+/* One move on a table: refusals 1 to 7, 10 to 18, 20 and 21, or 0 and the successor's records, which the output then begins with; the
  * bytes behind them stay as they were. */
 uint64_t wigandoy_step(const uint8_t *table, size_t bytes, const uint8_t *move, size_t length, uint8_t *out, size_t room);
+
+/* A time move from two readings of a controller's clock of 32 bits. What has elapsed is later less earlier, rolling over at the
+ * top: from 4,294,967,290 to 4 it is 10. Refusals 1 to 7, 23, 24 and 21, in this order. If nothing has elapsed, no move is made:
+ * 0 and the table's records, which the output then begins with as they came. Otherwise reply and output are exactly those of the
+ * step whose move is the time that has elapsed. (Request 2026-08 will add an argument, b: the engine whose waits fall.) */
+uint64_t wigandoy_ticks(const uint8_t *table, size_t bytes, uint32_t earlier, uint32_t later, uint8_t *out, size_t room);
 
 /* A list of moves on a table, six bytes each, which may be anything; a tail of 1 to 5 bytes is no move. Each is judged on
  * the table that the accepted ones before it left, with an output of 32,768 bytes. Refusals of the whole: 1 to 7, 19 and

@@ -119,7 +119,7 @@ static void nest_script(int kind, int operators, int shape) {
 static uint64_t reply;
 static uint8_t *move_at;
 static size_t room;
-static uint32_t tally[4];
+static uint32_t tally[4], later;
 static ucontext_t back, there;
 
 static void call_check(void) { reply = wigandoy_check(table, bytes); }
@@ -127,6 +127,7 @@ static void call_load(void) { reply = wigandoy_load(table, bytes); }
 static void call_open(void) { reply = wigandoy_open(table, bytes, opened, room); }
 static void call_orc(void) { reply = wigandoy_orc(script, length, 3, 4, out, sizeof out); }
 static void call_step(void) { reply = wigandoy_step(table, bytes, move_at, 6, out, sizeof out); }
+static void call_ticks(void) { reply = wigandoy_ticks(table, bytes, UINT32_MAX, later, out, sizeof out); }
 static void call_play(void) { reply = wigandoy_play(table, bytes, moves, list, out, sizeof out, replies, sizeof replies, tally); }
 
 /* The bytes of stack that a call takes. */
@@ -151,9 +152,9 @@ static void clash(void) {
     table[16 * above + 3] = 0;
 }
 
-static size_t check, load, step, play, open, orc;
+static size_t check, load, step, ticks, play, open, orc;
 
-/* Every function on a table and its list, open with room and without; whether check, open and each step have the answer. */
+/* Every function on a table and its list, open with room and without, no tick and one over the top; whether check, open, ticks and each step have the answer. */
 static int measured(unsigned answer) {
     int right = 1;
     check = most(check, taken(call_check));
@@ -165,6 +166,10 @@ static int measured(unsigned answer) {
     }
     for (move_at = moves; move_at < moves + list; move_at += 6) {
         step = most(step, taken(call_step));
+        right &= wigandoy_answer(reply) == answer;
+    }
+    for (later = UINT32_MAX; later == UINT32_MAX || later == 0; later++) {
+        ticks = most(ticks, taken(call_ticks));
         right &= wigandoy_answer(reply) == answer;
     }
     play = most(play, taken(call_play));
@@ -207,7 +212,7 @@ int main(void) {
         printf("stack: a table, a script or a move has another answer than this program is made for\n");
         return 1;
     }
-    printf("stack: check %zu, load %zu, open %zu, step %zu, play %zu, orc %zu bytes\n", check, load, open, step, play, orc);
+    printf("stack: check %zu, load %zu, open %zu, step %zu, ticks %zu, play %zu, orc %zu bytes\n", check, load, open, step, ticks, play, orc);
     return check > WIGANDOY_STACK_CHECK || load > WIGANDOY_STACK_CHECK || open > WIGANDOY_STACK_OPEN || step > WIGANDOY_STACK_STEP ||
-           play > WIGANDOY_STACK_PLAY || orc > WIGANDOY_STACK_ORC;
+           ticks > WIGANDOY_STACK_STEP || play > WIGANDOY_STACK_PLAY || orc > WIGANDOY_STACK_ORC;
 }

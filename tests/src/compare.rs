@@ -2,6 +2,7 @@
 use crate::bytes;
 use crate::library;
 use crate::lists::Listed;
+use crate::readings::Ticking;
 use crate::reference;
 use crate::reply::Reply;
 use crate::translations::Translations;
@@ -119,6 +120,7 @@ pub struct Reached {
     pub played: u64,
     pub listed: Listed,
     pub translations: Translations,
+    pub ticking: Ticking,
 }
 
 impl Reached {

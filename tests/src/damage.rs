@@ -8,6 +8,7 @@ use crate::nights::Fault;
 use crate::papers::{self, Paper};
 use crate::plays;
 use crate::random::Random;
+use crate::readings;
 use crate::scripts;
 
 /// How much of the damage is tried: all of it, or a sample (under a memory checker, which is slow).
@@ -37,6 +38,7 @@ pub fn run(seed: u64, extent: Extent, reached: &mut Reached) -> Result<(), Fault
     plays::limits(reached)?;
     plays::damaged(&mut random, extent.stride(97), reached)?;
     scripts::damaged(&mut random, extent.stride(97), reached)?;
+    readings::damaged(&mut random, extent.stride(97), reached)?;
     if extent == Extent::All {
         plays::longest(&mut random, reached)?;
     }

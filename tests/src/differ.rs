@@ -6,6 +6,7 @@ use crate::nights::{self, Fault};
 use crate::papers::{self, Paper};
 use crate::plays;
 use crate::random::Random;
+use crate::readings;
 use crate::scripts;
 use crate::shrink;
 
@@ -71,7 +72,7 @@ fn run_case(random: &mut Random, case: u64, lists: Lists, reached: &mut Reached)
     compare_step(Case { table, m, room }, reached)
 }
 
-fn draw_table(random: &mut Random, case: u64) -> Vec<u8> {
+pub fn draw_table(random: &mut Random, case: u64) -> Vec<u8> {
     let records = random.pick(&[3, 6, 10, 16, 24, 40]);
     if case % LARGE == 0 {
         return generate::large(random);
@@ -89,7 +90,7 @@ fn draw_table(random: &mut Random, case: u64) -> Vec<u8> {
 }
 
 /// Room for any successor mostly; now and then too little, or just enough.
-fn draw_room(random: &mut Random, table: &[u8]) -> usize {
+pub fn draw_room(random: &mut Random, table: &[u8]) -> usize {
     let length = table.len();
     match random.below(20) {
         0 => random.below(2 * length + 1),
@@ -169,6 +170,10 @@ pub fn found(case: u64, fault: Fault) -> Found {
         Fault::Open(table) => {
             let small = shrink::shrink(Case { table, m: vec![], room: 0 }, |case| lists::differ(&case.table));
             Found { case, records: small.table.len() / 16, words: lists::describe(&small.table) }
+        }
+        Fault::Ticks(first) => {
+            let small = readings::smallest(first);
+            Found { case, records: small.table.len() / 16, words: readings::describe(&small) }
         }
         Fault::Script(first) => {
             let small = scripts::smallest(first);

@@ -1,5 +1,6 @@
 // Laws of nights that are read off the bytes alone: no other implementation is asked.
 use crate::bytes;
+use crate::clock;
 use crate::generate;
 use crate::library;
 use crate::nights::{self, next_move};
@@ -15,6 +16,7 @@ pub struct Seen {
     pub kills: u64,
     pub listed: u64,
     pub lists: u64,
+    pub clocks: u64,
 }
 
 /// Random nights, each law tried at each move; the first that fails is put into words.
@@ -40,6 +42,10 @@ fn one_night(random: &mut Random, start: Vec<u8>, moves: usize, seen: &mut Seen)
     let mut now = start.clone();
     let mut list = vec![];
     for _ in 0..moves {
+        if random.chance(10) {
+            clock::laws(random, &now)?;
+            seen.clocks += 1;
+        }
         let m = next_move(random, &now);
         now = one_move(now, &m, &mut tally, seen)?;
         list.extend(m);
@@ -195,7 +201,7 @@ fn lowered(now: &[u8], next: &[u8], time: usize) -> bool {
     next == expected
 }
 
-fn law(holds: bool, words: &str, table: &[u8], m: &[u8]) -> Result<(), String> {
+pub fn law(holds: bool, words: &str, table: &[u8], m: &[u8]) -> Result<(), String> {
     if holds {
         return Ok(());
     }

@@ -1,5 +1,6 @@
 // Trust by trial: what a proof cannot say. The compiled library beside an independent implementation, damaged inputs, and laws of nights.
 pub mod bytes;
+pub mod clock;
 pub mod compare;
 pub mod damage;
 pub mod differ;
@@ -13,6 +14,7 @@ pub mod papers;
 pub mod planted;
 pub mod plays;
 pub mod random;
+pub mod readings;
 pub mod reference;
 pub mod reply;
 pub mod scripts;

@@ -5,6 +5,7 @@ mod raw {
     extern "C" {
         pub fn wigandoy_check(table: *const u8, bytes: usize) -> u64;
         pub fn wigandoy_step(table: *const u8, bytes: usize, m: *const u8, length: usize, out: *mut u8, room: usize) -> u64;
+        pub fn wigandoy_ticks(table: *const u8, bytes: usize, earlier: u32, later: u32, out: *mut u8, room: usize) -> u64;
         pub fn wigandoy_load(table: *const u8, bytes: usize) -> u64;
         pub fn wigandoy_open(table: *const u8, bytes: usize, list: *mut u8, room: usize) -> u64;
         pub fn wigandoy_orc(script: *const u8, bytes: usize, partner: u16, operation: u16, out: *mut u8, room: usize) -> u64;
@@ -37,6 +38,13 @@ pub fn check(table: &[u8]) -> Reply {
 pub fn step(table: &[u8], m: &[u8], out: &mut [u8]) -> Reply {
     // SAFETY: pointers and lengths are those of three slices; the one that is written is borrowed mutably and overlaps no other.
     unpack(unsafe { raw::wigandoy_step(table.as_ptr(), table.len(), m.as_ptr(), m.len(), out.as_mut_ptr(), out.len()) })
+}
+
+/// A time move from two readings of a clock: the table that is left in the output and its records, or the refusal of 1 to 7, 21, 23 or 24 and an untouched
+/// output.
+pub fn ticks(table: &[u8], earlier: u32, later: u32, out: &mut [u8]) -> Reply {
+    // SAFETY: pointers and lengths are those of two slices; the one that is written is borrowed mutably and does not overlap the other.
+    unpack(unsafe { raw::wigandoy_ticks(table.as_ptr(), table.len(), earlier, later, out.as_mut_ptr(), out.len()) })
 }
 
 /// The load of a table, in place of the records, or the refusal of 1 to 7.

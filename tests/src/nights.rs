@@ -6,6 +6,7 @@ use crate::library;
 use crate::orc::Script;
 use crate::plays;
 use crate::random::Random;
+use crate::readings::Readings;
 use crate::reference;
 use crate::reply::{Reply, Tally};
 
@@ -60,9 +61,10 @@ pub fn by_reference(table: &[u8], moves: &[u8]) -> Night {
     Night { replies, table: out, tally }
 }
 
-/// What went wrong: a single move, a night's list as a whole, the list of open moves of a table, or an Orc script.
+/// What went wrong: a single move, two readings of a clock, a night's list as a whole, the list of open moves of a table, or an Orc script.
 pub enum Fault {
     Step(Case),
+    Ticks(Readings),
     Open(Vec<u8>),
     Script(Script),
     List { table: Vec<u8>, moves: Vec<u8>, what: &'static str },

@@ -1,11 +1,12 @@
-// Small scope: every term of up to five records over a few atoms, every move on it, and the list of those that are open. What goes wrong at all mostly
-// goes wrong on a small table.
+// Small scope: every term of up to five records over a few atoms, every move on it, the list of those that are open, and readings of a clock. What goes
+// wrong at all mostly goes wrong on a small table.
 use crate::bytes::{self, a_move};
 use crate::compare::{Case, Reached};
 use crate::differ::{compare_check, compare_step};
 use crate::library;
 use crate::lists;
 use crate::nights::Fault;
+use crate::readings;
 
 const X: u16 = 32_768;
 const K: u16 = 49_152;
@@ -68,13 +69,14 @@ fn moves(records: usize) -> Vec<[u8; 6]> {
     all
 }
 
-/// Every term checked, and every move on those that are well formed, and the list of open moves of all.
+/// Every term checked, and every move on those that are well formed, and the list of open moves and some ticks of all.
 pub fn run(most: usize, reached: &mut Reached) -> Result<(), Fault> {
     for (records, tables) in terms(most).into_iter().enumerate() {
         let moves = moves(records);
         for table in tables {
             compare_check(&table, reached)?;
             lists::compare(&table, reached)?;
+            readings::each(&table, reached)?;
             if library::check(&table).answer == 0 {
                 every_move(&table, &moves, reached)?;
             }

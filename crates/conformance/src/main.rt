@@ -8,6 +8,7 @@
 // A case of the open moves goes on with the word >? and the list buffer's length. Its line has the reply, and of the buffer what a step's line has of its output.
 // A case of a translation goes on with the word >!, the result endpoint's partner and operation and the output's length, all in decimal; a partner or operation over
 // 65,535 is taken for 0. The bytes before the word are the script's, with xN for N more of the last 8. Its line has the reply, and of the output what a step's line has.
+// A case of ticks goes on with the word >@, the earlier and the later reading in hexadecimal and the output's length in decimal. Its line is as that of a step.
 use libc::STDIN_FILENO;
 use libc::STDOUT_FILENO;
 ghost use mathlib.Core.Path.{_≡_};
@@ -311,12 +312,52 @@ fn run_translation(text: &[u8], from: usize, to: usize, script: &[u8], out: &mut
     }
 }
 
-// A translation or play: there is more behind the word.
+// A reading of the clock in hexadecimal digits, of which the last eight count.
+fn reading(text: &[u8], from: usize, to: usize) -> u32
+    requires { ⌜ to ≤ length (now text) ⌝ }
+{
+    let mut n: u32 = 0;
+    let mut i = from;
+    while i < to {
+        n = n % 268435456 * 16 + digit(text[i]) as u32;
+        i += 1;
+    }
+    n
+}
+
+// Ticks with all of the output: the reply, and what is left there.
+fn print_ticks(table: &[u8], earlier: u32, later: u32, out: &mut [u8]) {
+    fill(out);
+    let r = ticks::tick(table, earlier, later, out);
+    print_reply(r);
+    print_left(out);
+}
+
+// Ticks: the two readings, and the output's length.
+fn run_ticks(text: &[u8], from: usize, to: usize, table: &[u8], out: &mut [u8])
+    requires { ⌜ (from ≤ to) × (to ≤ length (now text)) ⌝ }
+{
+    let e = bytes::scan::find(text, from, to, b' ');
+    if e == to {
+        return;
+    }
+    let f = bytes::scan::find(text, e + 1, to, b' ');
+    let earlier = reading(text, from, e);
+    let later = reading(text, e + 1, f);
+    let room = number(text, f, to);
+    if room <= out.len() {
+        print_ticks(table, earlier, later, &mut out[..room]);
+    }
+}
+
+// A translation, ticks or play: there is more behind the word.
 fn run_long(text: &[u8], mark: usize, to: usize, table: &[u8], out: &mut [u8])
     requires { ⌜ (mark + 3 ≤ to) × (to ≤ length (now text)) ⌝ }
 {
     if text[mark + 1] == b'!' {
         run_translation(text, mark + 3, to, table, out);
+    } else if text[mark + 1] == b'@' {
+        run_ticks(text, mark + 3, to, table, out);
     } else {
         run_play(text, mark + 3, to, table, out);
     }

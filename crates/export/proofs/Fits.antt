@@ -19,6 +19,8 @@ use Rattle.cows.proofs.Preserving.{step-within}
 use Rattle.cows.proofs.Theorems.{tables-within}
 use Rattle.opening.specs.Opening.{openMoves, judgeOpen, openReply}
 use Rattle.opening.proofs.Theorems.{open-number, open-refused, open-listed, open-too-short}
+use Rattle.ticks.specs.Ticks.{judgeTicks, ticksReply}
+use Rattle.ticks.proofs.Adding.{ticks-cases}
 use Rattle.orc.specs.Translation.{judgeOrc, orcReply}
 use Rattle.orc.proofs.Bounds.{below-orc}
 use Rattle.orc.proofs.Theorems.{accepted-output}
@@ -61,6 +63,17 @@ step-fits table m out k h =
     (below-judgeStep 65536 (omega arith) table m (length out) (word-small m 2 h) (word-small m 4 h) (λ t e. judge-within table t k e))
     (λ s e. let (t, et, es) = bind-accept (judge table) _ s e in
     step-within t s (readMove m) (length out) (judge-within table t k et) es .small)
+
+pub ticks-fits : (table : List ℕ) (earlier later : ℕ) (out : List ℕ) → AreBytes table → Fits (replyOf (ticksReply table earlier later out))
+unfolding ticksReply judgeTicks replyTo
+ticks-fits table earlier later out k =
+    ticks-cases table _ (length out) (λ x. Fits (replyOf (replyTo x))) k
+    (λ n p e. record { place = omega (arith, (rw e at (below-judge 65536 (omega arith) table)) .1); records = omega arith })
+    refused refused refused
+    (λ s w. record { place = omega arith; records = omega (arith, w .small) })
+  where
+    refused : {n : ℕ} → Fits (refusal n 0)
+    refused = record { place = omega arith; records = omega arith }
 
 pub play-fits : (table moves out slots : List ℕ) → AreBytes table → Fits (replyOf (playedReply (play table moves out slots)))
 unfolding play playedReply

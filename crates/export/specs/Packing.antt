@@ -7,6 +7,7 @@ use Rattle.cows.specs.Step.{stepReply, stepOutput}
 use Rattle.cows.specs.Run.{play, playedReply, playedTally, playedOutput, playedReplies}
 use Rattle.opening.specs.Opening.{judgeOpen, openReply, openBuffer}
 use Rattle.orc.specs.Translation.{orcReply, orcOutput}
+use Rattle.ticks.specs.Ticks.{ticksReply, ticksOutput}
 use Rattle.tables.specs.declared.Reply.{Reply}
 use Rattle.stepper.specs.Replies.{replyOf}
 use Rattle.tally.specs.declared.Tally.{Tally}
@@ -25,6 +26,11 @@ packed r = r .answer + 256 * r .place + 4294967296 * r .records
 pub record StepPacked (table m out after : List ℕ) (r : ℕ) : Type 0 where
   pub replies : r ≡ packed (replyOf (stepReply table m out))
   pub output : after ≡ stepOutput table m out
+
+-- What two readings of a clock give on any bytes, the reply packed.
+pub record TicksPacked (table : List ℕ) (earlier later : ℕ) (out after : List ℕ) (r : ℕ) : Type 0 where
+  pub replies : r ≡ packed (replyOf (ticksReply table earlier later out))
+  pub output : after ≡ ticksOutput table earlier later out
 
 -- communications, kills, timeouts and the load copied
 abbrev pub fourCounts : Tally → List ℕ

@@ -5,7 +5,7 @@ ghost use mathlib.Core.Path.{_≡_};
 ghost use Rattle.cows.specs.Tables.{judge};
 ghost use Rattle.tables.specs.Verdict.{checkReply};
 ghost use Rattle.player.specs.Loads.{loadReply};
-ghost use Rattle.export.specs.Packing.{Fits, packed, StepPacked, PlayedWith, OpenPacked, OrcPacked};
+ghost use Rattle.export.specs.Packing.{Fits, packed, StepPacked, TicksPacked, PlayedWith, OpenPacked, OrcPacked};
 
 // A reply in 64 bits: the answer in the lowest 8, the place in the 24 above them, the records in the highest 32.
 fn pack(r: Reply) -> u64
@@ -32,6 +32,14 @@ pub extern "C" fn wigandoy_step(table: &[u8], m: &[u8], out: &mut [u8]) -> u64
     ensures { λ r. ⌜ StepPacked (now (table .entry)) (now (m .entry)) (now (out .entry)) (now (out .exit)) r ⌝ }
 {
     pack(stepper::step(table, m, out))
+}
+
+// A time move from two readings of a clock: `ticks::tick`, packed.
+#[no_mangle]
+pub extern "C" fn wigandoy_ticks(table: &[u8], earlier: u32, later: u32, out: &mut [u8]) -> u64
+    ensures { λ r. ⌜ TicksPacked (now (table .entry)) earlier later (now (out .entry)) (now (out .exit)) r ⌝ }
+{
+    pack(ticks::tick(table, earlier, later, out))
 }
 
 // The load of a table: `player::load`, packed.

@@ -1,5 +1,5 @@
 -- The judgement of any bytes, step by step (specs/Judging): 30, then 31, then 32, then 20 and 21.
-use mathlib.Core.Path.{_≡_, refl, sym, ap, _∙_}
+use mathlib.Core.Path.{_≡_, refl, ap, _∙_}
 use mathlib.Core.Bool.{true, false, _||_}
 use mathlib.Core.Option.{Option, none, some}
 use mathlib.Core.List.{List, []}
@@ -9,15 +9,13 @@ use lib.Dec.{ltb}
 use lib.ListN.{length}
 use borrow.Author.Tests.{lt-ltb, le-ltb}
 use Rattle.cows.specs.Basics.{Result, refuse, accept, placeIf, _>>=_, _>>_, forbid}
-use Rattle.cows.specs.Terms.{Term, size}
+use Rattle.cows.specs.Terms.{size}
 use Rattle.cows.specs.Cut.{cut, firstFailing}
 use Rattle.cows.specs.Format.{AreBytes, encode}
 use Rattle.cows.specs.Within.{nowhere}
 use Rattle.cows.specs.Step.{overLimits, fitted, replyTo, written}
 use Rattle.records.specs.Rewrites.{put}
-use Rattle.tables.specs.declared.Reply.{Reply}
-use Rattle.tables.specs.Verdict.{refusal}
-use Rattle.stepper.specs.Replies.{replyOf, Answers}
+use Rattle.stepper.specs.Replies.{Answers}
 use Rattle.stepper.proofs.Moved.{put-encode}
 use Rattle.orc.specs.Expressions.{Orc, recordsIn}
 use Rattle.orc.specs.Scripts.{rightRecord8, nodesOf, expression, wrongScript, wrongEndpoint, misplaced, misbound, judgeScript}
@@ -29,15 +27,6 @@ use Rattle.scripts.specs.Standing.{ScriptOf}
 use Rattle.extents.specs.Extents.{outSize, outDepth}
 use Rattle.extents.proofs.Sizes.{size-translates, depth-translates}
 use Rattle.translator.specs.Judging.{judgeOutput, judgeBindings, judgeNesting, RightScript, KnownScript}
-
--- a refusal, and what it leaves
-pub refused-answers : {x : Result Term} {out : List ℕ} {r : Reply} (n p : ℕ) → x ≡ refuse n p → r ≡ refusal n p → Answers x out out r
-unfolding replyTo written
-refused-answers n p e q = record { replies = q ∙ rw e; output = rw e }
-
--- the same judgement has the same answers
-pub answers-as : {x y : Result Term} {out after : List ℕ} {r : Reply} → x ≡ y → Answers y out after r → Answers x out after r
-answers-as {out = out} e h = record { replies = h .replies ∙ ap (λ z. replyOf (replyTo z)) (sym e); output = h .output ∙ ap (λ z. written z out) (sym e) }
 
 -- 30
 pub wrong-start : (b : List ℕ) (p o room : ℕ) → (wrongScript b || wrongEndpoint p o) ≡ true → judgeOrc b p o room ≡ refuse 30 0

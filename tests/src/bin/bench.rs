@@ -1,28 +1,30 @@
 // The benchmark: `bench write DIR` writes the workloads, `bench time [FILE..]` times the library, the independent implementation and a copy of
-// the table on them, all in one run, and prints ratios; a FILE holds the figures of another program on the same folders; then the list of open moves beside
-// check, and the translation of Orc scripts beside the check of their tables. `bench lists` and `bench scripts` time these alone, `bench repeat NAME` runs
-// one workload for a second, for a profiler.
+// the table on them, all in one run, and prints ratios; a FILE holds the figures of another program on the same folders; then ticks beside the step of the
+// same time and check, the list of open moves beside check, and the translation of Orc scripts beside the check of their tables. `bench ticks`, `bench lists`
+// and `bench scripts` time these alone, `bench repeat NAME` runs one workload for a second, for a profiler.
 use std::collections::HashMap;
 use std::fs;
 use std::hint::black_box;
 use std::path::Path;
 use std::time::Instant;
 use trial::workloads::{self, Workload, RESULT, SCRIPTS, SIZES};
-use trial::{library, reference};
+use trial::{bytes, library, reference};
 
 fn main() {
     let arguments: Vec<String> = std::env::args().skip(1).collect();
     match arguments.iter().map(String::as_str).collect::<Vec<_>>()[..] {
         ["write", folder] => write(Path::new(folder)),
         ["repeat", name] => repeat(name),
+        ["ticks"] => time_ticks(),
         ["lists"] => time_lists(),
         ["scripts"] => time_scripts(),
         ["time", ref files @ ..] => {
             time(&others(files));
+            time_ticks();
             time_lists();
             time_scripts();
         }
-        _ => println!("usage: bench write DIR | bench time [FILE..] | bench lists | bench scripts | bench repeat NAME"),
+        _ => println!("usage: bench write DIR | bench time [FILE..] | bench ticks | bench lists | bench scripts | bench repeat NAME"),
     }
 }
 
@@ -176,6 +178,39 @@ fn exponent(points: &[(f64, f64)]) -> f64 {
     let (mx, my) = (logs.iter().map(|p| p.0).sum::<f64>() / n, logs.iter().map(|p| p.1).sum::<f64>() / n);
     let over: f64 = logs.iter().map(|(x, y)| (x - mx) * (y - my)).sum();
     over / logs.iter().map(|(x, _)| (x - mx) * (x - mx)).sum::<f64>()
+}
+
+/// What ticks cost in nanoseconds, beside the check of the table and the step of the same time: a time whose clock rolls over, and no tick.
+struct TickCost {
+    check: f64,
+    step: f64,
+    ticks: f64,
+    none: f64,
+}
+
+fn tick_cost(w: &Workload) -> TickCost {
+    let mut out = vec![0; 32_768];
+    let (earlier, later) = (u32::MAX, u32::from(bytes::word(&w.moves, 2)) - 1);
+    assert_eq!(library::ticks(&w.table, earlier, later, &mut out).answer, w.answer, "{}", w.name);
+    let check = median(|| _ = black_box(library::check(black_box(&w.table))));
+    let step = median(|| by_library(w, &mut out, &mut []));
+    let ticks = median(|| _ = black_box(library::ticks(black_box(&w.table), earlier, later, &mut out)));
+    let none = median(|| _ = black_box(library::ticks(black_box(&w.table), earlier, earlier, &mut out)));
+    TickCost { check, step, ticks, none }
+}
+
+/// Three passes over the tables on which time is timed, of which the least counts.
+fn time_ticks() {
+    let works: Vec<Workload> = all().into_iter().filter(|w| w.operation == "elapse").collect();
+    let passes: Vec<Vec<TickCost>> = (0..3).map(|_| works.iter().map(tick_cost).collect()).collect();
+    println!("\n| ticks on | records | check ns | step ns | ticks ns | ticks / step | no tick ns | no tick / check |");
+    println!("|---|---|---|---|---|---|---|---|");
+    for (i, w) in works.iter().enumerate() {
+        let least = |of: fn(&TickCost) -> f64| passes.iter().map(|pass| of(&pass[i])).fold(f64::INFINITY, f64::min);
+        let (check, step, ticks, none) = (least(|c| c.check), least(|c| c.step), least(|c| c.ticks), least(|c| c.none));
+        let (ratio, handed) = (ticks / step, none / check);
+        println!("| {} | {} | {check:.0} | {step:.0} | {ticks:.0} | {ratio:.2} | {none:.0} | {handed:.2} |", w.name, w.table.len() / 16);
+    }
 }
 
 /// Room for any list of open moves that is timed.

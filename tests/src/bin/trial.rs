@@ -6,7 +6,7 @@ use trial::compare::Reached;
 use trial::damage::{self, Extent};
 use trial::lists::Listed;
 use trial::translations::Translations;
-use trial::{differ, laws, planted, scripts, small};
+use trial::{differ, laws, planted, readings, scripts, small};
 
 const CASES: u64 = 100_000;
 
@@ -26,6 +26,7 @@ fn main() {
     let start = Instant::now();
     differential(seed, cases);
     translated(seed, cases);
+    ticked(seed, cases);
     every_small(SMALL);
     damaged(seed);
     lawful(seed);
@@ -102,6 +103,16 @@ fn translated(seed: u64, cases: u64) {
     all_reached(uncounted(reached.translations.counts()));
 }
 
+fn ticked(seed: u64, cases: u64) {
+    println!("ticks: {cases} generated pairs of readings, seed {seed}");
+    let mut reached = Reached::new();
+    if let Err(found) = readings::generated(seed, cases, &mut reached) {
+        stop(found);
+    }
+    println!("  {} pairs of readings agree in reply, place, records and every byte", reached.ticking.calls);
+    all_reached(uncounted(reached.ticking.counts()));
+}
+
 /// How many records the tables and scripts of the small scope have at most.
 const SMALL: usize = 5;
 
@@ -112,8 +123,8 @@ fn every_small(most: usize) {
     }
     let accepted: u64 = reached.accepted.iter().sum();
     println!(
-        "small scope: all {} tables of up to {most} records over a few atoms, {} moves on them, {accepted} accepted, {} lists, and {} translations of all scripts of up to {most} records: agree",
-        reached.checks, reached.steps, reached.listed.lists, reached.translations.calls
+        "small scope: all {} tables of up to {most} records over a few atoms, {} moves on them, {accepted} accepted, {} lists, {} pairs of readings, and {} translations of all scripts of up to {most} records: agree",
+        reached.checks, reached.steps, reached.listed.lists, reached.ticking.calls, reached.translations.calls
     );
 }
 
@@ -122,9 +133,10 @@ fn damaged(seed: u64) {
     if let Err(fault) = damage::run(seed, Extent::All, &mut reached) {
         stop(differ::found(0, fault));
     }
-    let Reached { steps, checks, plays, played, listed: Listed { lists, .. }, translations: Translations { calls, .. }, .. } = reached;
+    let Reached { steps, checks, plays, played, listed: Listed { lists, .. }, translations: Translations { calls, .. }, ticking, .. } = reached;
+    let readings = ticking.calls;
     println!(
-        "damage: {steps} steps, {checks} checks and loads, {lists} lists, {calls} translations and {plays} plays of {played} moves on damaged bytes and at every length agree"
+        "damage: {steps} steps, {checks} checks and loads, {lists} lists, {calls} translations, {readings} pairs of readings and {plays} plays of {played} moves on damaged bytes and at every length agree"
     );
 }
 
@@ -133,15 +145,16 @@ fn sample() {
     if let Err(fault) = damage::run(1, Extent::Sample, &mut reached) {
         stop(differ::found(0, fault));
     }
-    let Reached { steps, checks, plays, listed: Listed { lists, .. }, translations: Translations { calls, .. }, .. } = reached;
-    println!("sample: {steps} steps, {checks} checks, {lists} lists, {calls} translations and {plays} plays on damaged bytes agree");
+    let Reached { steps, checks, plays, listed: Listed { lists, .. }, translations: Translations { calls, .. }, ticking, .. } = reached;
+    let readings = ticking.calls;
+    println!("sample: {steps} steps, {checks} checks, {lists} lists, {calls} translations, {readings} pairs of readings and {plays} plays on damaged bytes agree");
 }
 
 fn lawful(seed: u64) {
     match laws::run(seed, 600) {
         Ok(seen) => println!(
-            "laws: {} nights, {} accepted moves ({} kills), {} refused, {} moves of {} lists: demand 3's inequality, play as its steps, well-formed successors, untouched outputs, halting, time, exactly the accepted moves listed",
-            seen.nights, seen.accepted, seen.kills, seen.refused, seen.listed, seen.lists
+            "laws: {} nights, {} accepted moves ({} kills), {} refused, {} moves of {} lists: demand 3's inequality, play as its steps, well-formed successors, untouched outputs, halting, time, exactly the accepted moves listed; {} clocks: readings moved on, ticks as a step, time adds up",
+            seen.nights, seen.accepted, seen.kills, seen.refused, seen.listed, seen.lists, seen.clocks
         ),
         Err(words) => {
             println!("{words}");

@@ -14,16 +14,19 @@ pub fn plant(fault: Option<Fault>) {
     PLANTED.store(fault.map_or(usize::MAX, |f| f as usize), Ordering::Relaxed);
 }
 
-/// What a fault is of; those of tables, moves and nights stand first, then those of the list of open moves, then those of Orc scripts.
+/// What a fault is of; those of tables, moves and nights stand first, then those of the list of open moves, those of Orc scripts, and those of
+/// ticks.
 #[derive(Clone, Copy, PartialEq, Eq, Debug)]
 pub enum Of {
     Moves,
     List,
     Scripts,
+    Ticks,
 }
 
 pub fn of(fault: Fault) -> Of {
     match fault as usize {
+        n if n >= Fault::StopsAtZero as usize => Of::Ticks,
         n if n >= Fault::LongScript as usize => Of::Scripts,
         n if n >= Fault::LastFloatingLeftOut as usize => Of::List,
         _ => Of::Moves,
@@ -167,4 +170,16 @@ faults! {
     RoomBeforeTooLarge: "21 of a translation before 20",
     ByteBehindTranslation: "the byte behind a translation is cleared",
     RefusedScriptWrites: "a refused script writes a byte",
+    // ticks
+    StopsAtZero: "a later reading below the earlier one is no tick",
+    BackOneEarly: "2,147,483,647 ticks are a clock gone back",
+    LongOneEarly: "65,535 ticks are too many",
+    LongBeforeBack: "24 before 23",
+    LongByRemainder: "of more than 65,535 ticks the lowest 16 bits pass",
+    LongWrites: "24 writes the table to the output",
+    TicksBeforeTable: "23 and 24 before the table's refusals",
+    RoomBeforeTicks: "21 before 23 and 24",
+    NoTickAsTime: "no tick is a time of 0",
+    NotHandedOn: "no tick leaves the output as it was",
+    ByteBehindTable: "the byte behind a table that is handed on is cleared",
 }

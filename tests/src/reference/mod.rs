@@ -1,4 +1,5 @@
-// The independent implementation: check, step, play and load as document 01 says, open as request 2026-01 does, and orc as 2026-03, on a plain tree.
+// The independent implementation: check, step, play and load as document 01 says, open as request 2026-01 does, orc as 2026-03 and ticks as 2026-05, on a
+// plain tree.
 // It is written from the papers' text and shares no code with crates/. Nothing here is meant to be fast.
 mod communicate;
 pub mod faults;
@@ -11,12 +12,14 @@ mod places;
 mod scripts;
 mod tables;
 pub mod terms;
+mod ticks;
 
 pub use crate::reply::Reply;
 pub use moves::Move;
 pub use night::{check, load, play, step};
 pub use open::{open, open_moves, put_list, Found};
 pub use orc::{orc, put_translation, translate};
+pub use ticks::ticks;
 
 /// A refusal: its number and its place.
 #[derive(Clone, Copy, PartialEq, Eq, Debug)]

@@ -12,8 +12,9 @@ use Rattle.cows.proofs.Cut.{failing-below, length-cut}
 use Rattle.records.specs.Answers.{placeOr}
 use Rattle.records.proofs.Laws.{place-tells}
 use Rattle.tables.proofs.Judging.{slice-bytes}
+use Rattle.stepper.proofs.Stepping.{refused-answers, answers-as}
 use Rattle.orc.specs.Scripts.{rightRecord8, wrongScript, wrongEndpoint}
-use Rattle.translator.proofs.Judging.{refused-answers, answers-as, wrong-start, wrong-record, right-records, right-script}
+use Rattle.translator.proofs.Judging.{wrong-start, wrong-record, right-records, right-script}
 use Rattle.translator.proofs.Claims.{translated, claims}
 use Rattle.translator.proofs.translate.Statement.{statement}
 use Rattle.translator.proofs.translate.Tie as tie

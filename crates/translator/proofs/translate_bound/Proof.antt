@@ -2,7 +2,8 @@
 use borrow.Author.Needs.{needs}
 use mathlib.Core.Path.{sym, _∙_}
 use Rattle.records.proofs.Laws.{found-at, found-nothing}
-use Rattle.translator.proofs.Judging.{refused-answers, answers-as, wrong-binding, right-bindings}
+use Rattle.stepper.proofs.Stepping.{refused-answers, answers-as}
+use Rattle.translator.proofs.Judging.{wrong-binding, right-bindings}
 use Rattle.translator.proofs.translate_bound.Statement.{statement}
 use Rattle.translator.proofs.translate_bound.Tie as tie
 

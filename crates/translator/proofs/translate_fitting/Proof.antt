@@ -1,10 +1,11 @@
 -- 20 and 21 by the extent; else the translation is written.
 use borrow.Author.Needs.{needs}
 use native.Mathlib.Omega.{arith}
+use Rattle.stepper.proofs.Stepping.{refused-answers}
 use Rattle.scripts.proofs.Standing.{whole-at}
 use Rattle.extents.proofs.Sizes.{size-bound}
 use Rattle.extents.proofs.Measures.{measurable}
-use Rattle.translator.proofs.Judging.{refused-answers, too-large, no-room, written-answers}
+use Rattle.translator.proofs.Judging.{too-large, no-room, written-answers}
 use Rattle.translator.proofs.Writing.{known-few}
 use Rattle.translator.proofs.translate_fitting.Statement.{statement}
 use Rattle.translator.proofs.translate_fitting.Tie as tie

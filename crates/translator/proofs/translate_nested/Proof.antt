@@ -4,7 +4,8 @@ use mathlib.Core.Path.{sym, _∙_}
 use native.Mathlib.Omega.{arith}
 use Rattle.records.proofs.Laws.{found-at, found-nothing}
 use Rattle.tables.proofs.Judging.{slice-bytes}
-use Rattle.translator.proofs.Judging.{refused-answers, answers-as, wrong-nesting, right-nesting, known-script, known-expression}
+use Rattle.stepper.proofs.Stepping.{refused-answers, answers-as}
+use Rattle.translator.proofs.Judging.{wrong-nesting, right-nesting, known-script, known-expression}
 use Rattle.translator.proofs.translate_nested.Statement.{statement}
 use Rattle.translator.proofs.translate_nested.Tie as tie
 

@@ -1,0 +1,5 @@
+pub mod Ticks
+pub mod Claims
+pub mod Unmoved
+pub mod Readings
+pub mod Samples
