@@ -3,6 +3,8 @@ use mathlib.Core.Path.{_≡_, refl, sym, ap, subst, _∙_}
 use mathlib.Core.List.{List, [], _∷_}
 use Prim.Native.Nat.{ℕ, _+_, _-_, _*_, _≤_, _<_}
 use native.Mathlib.Omega.{arith}
+use lib.ListN.{length, take, drop}
+use lib.Seq.{take-at}
 use Rattle.cows.specs.Basics.{All, Result, refuse, accept, _>>=_, need}
 use Rattle.cows.specs.Terms.{Prefix, receive, wait, protection, delimitation, replication, Term, leaf, under, both, size}
 use Rattle.cows.specs.Kinds.{prefix, kind, liveKind, open-kinds}
@@ -11,20 +13,24 @@ use Rattle.cows.specs.Tables.{judge}
 use Rattle.cows.specs.Within.{Within}
 use Rattle.cows.specs.Moves.{Elapse, lower, elapse, successor}
 use Rattle.cows.specs.Allows.{Elapsed}
-use Rattle.cows.specs.Step.{proposed, fitted, stepTerm, judgeStep}
+use Rattle.cows.specs.Step.{proposed, fitted, stepTerm, judgeStep, replyTo, written}
 use Rattle.cows.specs.Papers.{time}
 use Rattle.cows.proofs.Basics.{bool-case, cond-case, eq-case, lt-case, accept-bind}
-use Rattle.cows.proofs.Format.{encode-bytes}
+use Rattle.cows.proofs.Format.{encode-bytes, length-encode}
 use Rattle.cows.proofs.Tables.{judge-within, within-judge}
+use Rattle.cows.proofs.Bounds.{below-judge}
 use Rattle.cows.proofs.Preserving.{successor-kept}
 use Rattle.cows.proofs.Recordwise.{of-size, of-depth, elapse-keeps, elapse-elapsed, elapsed-elapse, some-time}
 use Rattle.opening.specs.Opening.{sixByteForm}
 use Rattle.opening.proofs.SixBytes.{read-six}
+use Rattle.tables.specs.declared.Reply.{Reply}
+use Rattle.stepper.specs.Replies.{Stepped}
 use Rattle.ticks.specs.Ticks.{rollover, goneBack, longestTime, ticksBetween, judgeElapsed, judgeTicks}
+use Rattle.ticks.specs.Claims.{ClockGoes, Ticked}
 use Rattle.ticks.specs.Readings.{tickThrough, lastReading, ticksThrough}
-use Rattle.ticks.proofs.Clock.{between-sum}
+use Rattle.ticks.proofs.Clock.{goes-between, between-sum}
 use Rattle.ticks.proofs.Judging.{table-elapsed, back-elapsed, long-elapsed, none-elapsed, time-elapsed}
-use Rattle.ticks.proofs.Claims.{no-room-fitted, room-fitted}
+use Rattle.ticks.proofs.Claims.{no-room-fitted, room-fitted, answers-of, ticked-of, claims, step-ticked}
 
 -- no time changes nothing; one time after another is their sum
 lower-none : (u : Prefix) → lower 0 u ≡ u
@@ -144,6 +150,67 @@ through-sum table earlier (later ∷ readings) room bytes h (k, hs) l =
     (λ s w. through-sum (encode s) later readings room (encode-bytes s (w .right)) k hs (omega arith) ∙ elapsed-fitted (encode s) s (within-judge s w) room b (omega (arith, e)))
     table bytes (omega arith) (omega (arith, e))
     ∙ ap (λ n. judgeElapsed table n room) (sym sum)
+
+-- Of what is returned and left: at the start of the output of an accepted reading stands the table of the term when so much time has passed.
+record Left (table : List ℕ) (d : ℕ) (bytes : List ℕ) : Type 0 where
+  term : Term
+  judged : judge table ≡ accept term
+  within : Within term
+  is : bytes ≡ encode (elapse d term)
+
+ticked-left : (table : List ℕ) (earlier later : ℕ) (out after : List ℕ) (r : Reply) → AreBytes table → ticksBetween earlier later ≤ longestTime → Ticked table earlier later out after r → r .answer ≡ 0
+    → Left table (ticksBetween earlier later) (take (16 * r .records) after)
+unfolding judgeTicks replyTo written
+ticked-left table earlier later out after r bytes l h z = go (judge table) refl
+  where
+    go : (x : Result Term) → judge table ≡ x → Left table (ticksBetween earlier later) (take (16 * r .records) after)
+    go (refuse n p) e =
+        let k = rw e at (below-judge 2049 (omega arith) table) in
+        let a = answers-of table earlier later out after r (refuse n p) (table-elapsed table _ (length out) n p e) h in
+        absurd (omega (arith, k .0, sym (ap (λ q. q .answer) (a .replies)) ∙ z))
+    go (accept t) e =
+        let d = ticksBetween earlier later in
+        let s = elapse d t in
+        let w = judge-within table t bytes e in
+        let v = elapse-within d t w in
+        let f = elapsed-fitted table t e (length out) d l in
+        lt-case _ (length out) (16 * size s)
+        (λ i. let a = answers-of table earlier later out after r (refuse 21 0) (f ∙ no-room-fitted s v (length out) i) h in absurd (omega (arith, sym (ap (λ q. q .answer) (a .replies)) ∙ z)))
+        (λ i. let a = answers-of table earlier later out after r (accept s) (f ∙ room-fitted s v (length out) i) h in record {
+          term = t;
+          judged = e;
+          within = w;
+          is = rw (ap (λ q. q .records) (a .replies), a .output) (take-at (encode s) (drop (16 * size s) out) (16 * size s) (length-encode s));
+        })
+
+-- a reading on what an accepted one left is one reading over both
+pub replied-sum : (table : List ℕ) (first second third : ℕ) (out middle out′ after : List ℕ) (r r′ : Reply) → AreBytes table → first < rollover → second < rollover → third < rollover
+    → ticksBetween first second + ticksBetween second third ≤ longestTime → Ticked table first second out middle r → r .answer ≡ 0 → Ticked (take (16 * r .records) middle) second third out′ after r′
+    → Ticked table first third out′ after r′
+unfolding judgeTicks
+replied-sum table first second third out middle out′ after r r′ bytes f g k l h z h′ =
+    let a = ticksBetween first second in
+    let b = ticksBetween second third in
+    let left = ticked-left table first second out middle r bytes (omega arith) h z in
+    let t = left .term in
+    let s = elapse a t in
+    let x = elapsed-fitted (encode s) s (within-judge s (elapse-within a t (left .within))) (length out′) b (omega arith) in
+    ticked-of table first third out′ after r′ (fitted (length out′) (elapse b s))
+    (ap (λ n. judgeElapsed table n (length out′)) (between-sum first second third f g k (omega arith)) ∙ (elapsed-fitted table t (left .judged) (length out′) (a + b) l ∙ ap (fitted (length out′)) (sym (elapse-sum a b t))))
+    (answers-of (encode s) second third out′ after r′ _ x (subst (λ y. Ticked y second third out′ after r′) (left .is) h′))
+
+-- the same of the step: read off a clock that shows 0, a and a + b
+pub stepped-sum : (table : List ℕ) (a b : ℕ) (out middle out′ after : List ℕ) (r r′ : Reply) → AreBytes table → 1 ≤ a → 1 ≤ b → a + b ≤ longestTime
+    → Stepped table (time a) out middle r → r .answer ≡ 0 → Stepped (take (16 * r .records) middle) (time b) out′ after r′ → Stepped table (time (a + b)) out′ after r′
+stepped-sum table a b out middle out′ after r r′ bytes h k l x z y =
+    let u : ClockGoes 0 a a = record { less = omega arith; shows = omega arith } in
+    let v : ClockGoes a b (a + b) = record { less = omega arith; shows = omega arith } in
+    let c : ClockGoes 0 (a + b) (a + b) = record { less = omega arith; shows = omega arith } in
+    let early : a < rollover = omega arith in
+    claims table 0 (a + b) out′ after r′ (omega arith)
+    (replied-sum table 0 a (a + b) out middle out′ after r r′ bytes (omega arith) early (omega arith) (omega (arith, goes-between (omega arith) u, goes-between early v))
+    (step-ticked table 0 a out middle r (omega arith) a u h (omega arith) x) z (step-ticked (take (16 * r .records) middle) a (a + b) out′ after r′ early b v k (omega arith) y))
+    .timed (a + b) c (omega arith) l
 
 -- every case of the judgement: the table's refusals, 23, 24, 21, or a term within the limits
 pub ticks-cases : (table : List ℕ) (d room : ℕ) (P : Result Term → Type 0) → AreBytes table → ((n p : ℕ) → judge table ≡ refuse n p → P (refuse n p)) → P (refuse 23 0) → P (refuse 24 0) → P (refuse 21 0)

@@ -55,10 +55,10 @@ module _ (table : List ℕ) (earlier later : ℕ) (out after : List ℕ) (r : Re
   answers-ticked h = record { replies = h .replies; output = h .output }
 
   -- of a judgement that is known
-  answers-of : (x : Result Term) → judgeTicks table earlier later (length out) ≡ x → Ticked table earlier later out after r → Answers x out after r
+  pub answers-of : (x : Result Term) → judgeTicks table earlier later (length out) ≡ x → Ticked table earlier later out after r → Answers x out after r
   answers-of x e h = answers-as (sym e) (ticked-answers h)
 
-  ticked-of : (x : Result Term) → judgeTicks table earlier later (length out) ≡ x → Answers x out after r → Ticked table earlier later out after r
+  pub ticked-of : (x : Result Term) → judgeTicks table earlier later (length out) ≡ x → Answers x out after r → Ticked table earlier later out after r
   ticked-of x e h = answers-ticked (answers-as e h)
 
   refused-of : (n p : ℕ) → judgeTicks table earlier later (length out) ≡ refuse n p → Ticked table earlier later out after r → RefusedWith n p out after r
