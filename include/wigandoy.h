@@ -117,14 +117,15 @@ uint64_t wigandoy_check(const uint8_t *table, size_t bytes);
 /* The load of a table, its kills, invokes, receives and waits: refusals 1 to 7, or 0 and the load in place of the records. */
 uint64_t wigandoy_load(const uint8_t *table, size_t bytes);
 
-/* One move on a table: refusals 1 to 7, 10 to 18, 20 and 21, or 0 and the successor's records, which the output then begins with; the
- * bytes behind them stay as they were. */
+/* One move on a table: refusals 1 to 7, 10 to 18, 20 and 21, or 0 and the successor's records, which the output then begins
+ * with; the bytes behind them stay as they were. */
 uint64_t wigandoy_step(const uint8_t *table, size_t bytes, const uint8_t *move, size_t length, uint8_t *out, size_t room);
 
 /* A time move from two readings of a controller's clock of 32 bits. What has elapsed is later less earlier, rolling over at the
  * top: from 4,294,967,290 to 4 it is 10. Refusals 1 to 7, 23, 24 and 21, in this order. If nothing has elapsed, no move is made:
- * 0 and the table's records, which the output then begins with as they came. Otherwise reply and output are exactly those of the
- * step whose move is the time that has elapsed. (Request 2026-08 will add an argument, b: the engine whose waits fall.) */
+ * 0 and the table's records, which the output then begins with as they came; the bytes behind them stay as they were. Otherwise
+ * reply and output are exactly those of the step whose move is the time that has elapsed. (Request 2026-08 will add an argument,
+ * b: the engine whose waits fall.) */
 uint64_t wigandoy_ticks(const uint8_t *table, size_t bytes, uint32_t earlier, uint32_t later, uint8_t *out, size_t room);
 
 /* A list of moves on a table, six bytes each, which may be anything; a tail of 1 to 5 bytes is no move. Each is judged on
