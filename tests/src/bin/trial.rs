@@ -93,22 +93,25 @@ fn all_reached(missing: Vec<String>) {
     }
 }
 
-fn translated(seed: u64, cases: u64) {
-    println!("Orc scripts: {cases} generated ones, seed {seed}");
+/// Generated cases of an operation that is compared by itself, and what they reached.
+fn by_itself(seed: u64, cases: u64, generated: fn(u64, u64, &mut Reached) -> Result<(), differ::Found>) -> Reached {
     let mut reached = Reached::new();
-    if let Err(found) = scripts::generated(seed, cases, &mut reached) {
+    if let Err(found) = generated(seed, cases, &mut reached) {
         stop(found);
     }
+    reached
+}
+
+fn translated(seed: u64, cases: u64) {
+    println!("Orc scripts: {cases} generated ones, seed {seed}");
+    let reached = by_itself(seed, cases, scripts::generated);
     println!("  {} translations agree in reply, place, records and every byte; each accepted table passes check", reached.translations.calls);
     all_reached(uncounted(reached.translations.counts()));
 }
 
 fn ticked(seed: u64, cases: u64) {
     println!("ticks: {cases} generated pairs of readings, seed {seed}");
-    let mut reached = Reached::new();
-    if let Err(found) = readings::generated(seed, cases, &mut reached) {
-        stop(found);
-    }
+    let reached = by_itself(seed, cases, readings::generated);
     println!("  {} pairs of readings agree in reply, place, records and every byte", reached.ticking.calls);
     all_reached(uncounted(reached.ticking.counts()));
 }
