@@ -7,7 +7,7 @@ use lib.ListN.{length, take, drop}
 use lib.Seq.{take-at}
 use Rattle.cows.specs.Basics.{All, Result, refuse, accept, _>>=_, need}
 use Rattle.cows.specs.Terms.{Prefix, receive, wait, protection, delimitation, replication, Term, leaf, under, both, size}
-use Rattle.cows.specs.Kinds.{prefix, kind, liveKind, open-kinds}
+use Rattle.cows.specs.Kinds.{prefix, kind, liveKind}
 use Rattle.cows.specs.Format.{AreBytes, encode}
 use Rattle.cows.specs.Tables.{judge}
 use Rattle.cows.specs.Within.{Within}
@@ -18,6 +18,7 @@ use Rattle.cows.specs.Papers.{time}
 use Rattle.cows.proofs.Basics.{bool-case, cond-case, eq-case, lt-case, accept-bind}
 use Rattle.cows.proofs.Format.{encode-bytes, length-encode}
 use Rattle.cows.proofs.Tables.{judge-within, within-judge}
+use Rattle.cows.proofs.Rows.{lowered-kind}
 use Rattle.cows.proofs.Bounds.{below-judge}
 use Rattle.cows.proofs.Preserving.{successor-kept}
 use Rattle.cows.proofs.Recordwise.{of-size, of-depth, elapse-keeps, elapse-elapsed, elapsed-elapse, some-time}
@@ -49,14 +50,6 @@ lower-sum a b protection = refl
 lower-sum a b (delimitation d) = refl
 lower-sum a b replication = refl
 
-lower-kind : (a : ℕ) (u : Prefix) → kind (prefix (lower a u)) ≡ kind (prefix u)
-unfolding lower open-kinds
-lower-kind a (receive p o ws) = refl
-lower-kind a (wait n) = refl
-lower-kind a protection = refl
-lower-kind a (delimitation d) = refl
-lower-kind a replication = refl
-
 elapse-none : (t : Term) → elapse 0 t ≡ t
 unfolding elapse
 elapse-none (leaf x) = refl
@@ -67,7 +60,7 @@ pub elapse-sum : (a b : ℕ) (t : Term) → elapse b (elapse a t) ≡ elapse (a 
 unfolding elapse
 elapse-sum a b (leaf x) = refl
 elapse-sum a b (under u t) =
-    rw (lower-kind a u, lower-sum a b u)
+    rw (lowered-kind a u, lower-sum a b u)
     (bool-case _ (liveKind (kind (prefix u))) (λ e. rw e (ap (under (lower (a + b) u)) (elapse-sum a b t))) (λ e. rw e))
 elapse-sum a b (both j s t) = cc (elapse-sum a b s, elapse-sum a b t)
 

@@ -38,10 +38,10 @@ module _ (t : Term) (w : Within t) (room : ℕ) where
 formed-judge : {table : List ℕ} (x : WellFormed table) → judge table ≡ accept (x .term)
 formed-judge x = ap judge (sym (x .table-of)) ∙ within-judge (x .term) (x .within)
 
-judge-formed : (table : List ℕ) (t : Term) → AreBytes table → judge table ≡ accept t → WellFormed table
+abbrev pub judge-formed : (table : List ℕ) (t : Term) → AreBytes table → judge table ≡ accept t → WellFormed table
 judge-formed table t b e = record { term = t; within = judge-within table t b e; table-of = judge-encode table t b e }
 
-formed-length : {table : List ℕ} (x : WellFormed table) → length table ≡ 16 * size (x .term)
+pub formed-length : {table : List ℕ} (x : WellFormed table) → length table ≡ 16 * size (x .term)
 formed-length x = ap length (sym (x .table-of)) ∙ length-encode (x .term)
 
 module _ (table : List ℕ) (earlier later : ℕ) (out after : List ℕ) (r : Reply) where

@@ -16,8 +16,6 @@ use Rattle.cows.specs.Tables.{judge}
 use Rattle.cows.specs.Step.{fitted, replyTo, written}
 use Rattle.cows.specs.Papers.{time}
 use Rattle.cows.proofs.Basics.{clash, bool-case, eq-case, and-true, true-and}
-use Rattle.cows.proofs.Format.{length-encode}
-use Rattle.cows.proofs.Tables.{judge-encode, judge-within}
 use Rattle.records.specs.Rewrites.{put}
 use Rattle.tables.specs.declared.Reply.{Reply}
 use Rattle.tables.specs.Verdict.{refusal, checkReply}
@@ -27,7 +25,7 @@ use Rattle.stepper.proofs.Moved.{put-encode}
 use Rattle.ticks.specs.Ticks.{rollover, goneBack, longestTime, judgeElapsed}
 use Rattle.ticks.specs.Claims.{ClockGoes, Ticked, TicksClaims}
 use Rattle.ticks.specs.Unmoved.{isTime, refusedWith, judgeUnmoved}
-use Rattle.ticks.proofs.Claims.{no-room-fitted, room-fitted, elapsed-ticked, step-ticked, promised}
+use Rattle.ticks.proofs.Claims.{judge-formed, formed-length, no-room-fitted, room-fitted, elapsed-ticked, step-ticked, promised}
 
 -- no tick, or more than a move's time: the judgement is that of the number
 pub unmoved-elapsed : (table : List ℕ) (d room : ℕ) → isTime d ≡ false → judgeElapsed table d room ≡ judgeUnmoved (refusedWith d) table room
@@ -53,9 +51,6 @@ module _ (table : List ℕ) (n : ℕ) (out : List ℕ) (checked : Reply) (h : ch
     unfolding judgeUnmoved _>>=_
     refused-unmoved k r q = let (t, e, _) = check-accepts table checked h z in refused-answers n 0 (rw (e, ne-eqb n 0 k)) q
 
-    judged-length : (t : Term) → judge table ≡ accept t → length table ≡ 16 * size t
-    judged-length t e = ap length (sym (judge-encode table t bytes e)) ∙ length-encode t
-
     module _ (k : n ≡ 0) where
       unmoved-fitted : (t : Term) → judge table ≡ accept t → judgeUnmoved n table (length out) ≡ fitted (length out) t
       unfolding judgeUnmoved _>>=_
@@ -65,16 +60,18 @@ module _ (table : List ℕ) (n : ℕ) (out : List ℕ) (checked : Reply) (h : ch
       pub short-unmoved : length out < length table → (r : Reply) → r ≡ refusal 21 0 → Answers (judgeUnmoved n table (length out)) out out r
       short-unmoved l r q =
           let (t, e, _) = check-accepts table checked h z in
-          refused-answers 21 0 (unmoved-fitted t e ∙ no-room-fitted t (judge-within table t bytes e) (length out) (omega (arith, judged-length t e))) q
+          let x = judge-formed table t bytes e in
+          refused-answers 21 0 (unmoved-fitted t e ∙ no-room-fitted t (x .within) (length out) (omega (arith, formed-length x))) q
 
       -- the table as it came
       pub handed-unmoved : length table ≤ length out → (after : List ℕ) → after ≡ put out 0 (take (length table) (drop 0 table)) → Answers (judgeUnmoved n table (length out)) out after (record { answer = 0; place = 0; records = checked .records })
       unfolding replyTo written
       handed-unmoved l after w =
           let (t, e, i) = check-accepts table checked h z in
-          let s : 16 * size t ≤ length out = omega (arith, judged-length t e) in
-          answers-as (unmoved-fitted t e ∙ room-fitted t (judge-within table t bytes e) (length out) s)
-          (record { replies = ap (λ (m : ℕ). record { answer = 0; place = 0; records = m }) i; output = w ∙ (ap (put out 0) (take-length table ∙ sym (judge-encode table t bytes e)) ∙ put-encode out t s) })
+          let x = judge-formed table t bytes e in
+          let s : 16 * size t ≤ length out = omega (arith, formed-length x) in
+          answers-as (unmoved-fitted t e ∙ room-fitted t (x .within) (length out) s)
+          (record { replies = ap (λ (m : ℕ). record { answer = 0; place = 0; records = m }) i; output = w ∙ (ap (put out 0) (take-length table ∙ sym (x .table-of)) ∙ put-encode out t s) })
 
 -- the time of a move has 16 bits
 pub time-fits : (d : ℕ) → isTime d ≡ true → d ≤ longestTime
