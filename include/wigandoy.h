@@ -8,8 +8,8 @@
  *
  * A reply is one number: see the three functions at the end. Answer 0 is accepted: place 0, and the number of records.
  * Any other answer is a refusal, with 0 records and untouched buffers. The lowest number that applies is given
- * (for a script 30 to 32 come before 20 and 21, for ticks 23 and 24 before 21), then the lowest place. Places count records
- * from 0, but those of 12 and 22.
+ * (for a script 30 to 32 come before 20 and 21, for ticks 23 and 24 before 21; for a joint step the order is 25, 11, 26, 21),
+ * then the lowest place (for 11 and 26 of a joint step the first listed). Places count records from 0, but those of 12 and 22.
  *
  *   the table's author
  *    1  no bytes, over 32,768, or not a multiple of 16                                  place 0
@@ -24,6 +24,7 @@
  *   the proposer of the move
  *   10  not 6 bytes, a kind over 5, byte 1 not zero, or an unused b not zero            place 0
  *   11  no live record of the kind wanted                                               a if it is at fault, else b
+ *       or, for a joint step, no live kill at a listed position                         the first listed such
  *   12  an invoke that does not fit the receive                                         what differs, the lowest of:
  *       a variable in its endpoint or its tuple is unset                                0
  *       another endpoint                                                                1
@@ -40,13 +41,17 @@
  *   the lender of the output
  *   20  the successor, or the table of a script, has over 2,048 records or a depth
  *       over 256                                                                        place 0
- *   21  the output of a step, of ticks or of a script is shorter than that; a play's is
- *       shorter than 32,768 bytes, or its replies than 6 bytes for each move            place 0
+ *   21  the output of a step, of a joint step, of ticks or of a script is shorter than
+ *       that; a play's is shorter than 32,768 bytes, or its replies than 6 bytes for
+ *       each move                                                                       place 0
  *   the lender of the list of open moves
  *   22  the list is shorter than 6 bytes for each of them                               their number
  *   the reader of the clock
  *   23  2,147,483,648 ticks or more: the clock has gone back                            place 0
  *   24  over 65,535 ticks                                                               place 0
+ *   the proposer of a joint step
+ *   25  no stop, or over 8                                                              place 0
+ *   26  a stop whose scope lies inside, holds or is that of another listed one          the first listed such
  *   the author of an Orc script
  *   30  no bytes, over 512 records, or not a multiple of 8; or a result endpoint that
  *       is no pair of values                                                            place 0
@@ -90,7 +95,7 @@ enum {
     WIGANDOY_NO_MOVE = 10, WIGANDOY_ABSENT = 11, WIGANDOY_DIFFERS = 12, WIGANDOY_APART = 13, WIGANDOY_HELD_BACK = 14,
     WIGANDOY_LOOSER = 15, WIGANDOY_UNRIPE = 16, WIGANDOY_NO_TIME = 17, WIGANDOY_STUCK = 18, WIGANDOY_LIST_TOO_LONG = 19,
     WIGANDOY_TOO_LARGE = 20, WIGANDOY_NO_ROOM = 21, WIGANDOY_LIST_TOO_SHORT = 22,
-    WIGANDOY_GONE_BACK = 23, WIGANDOY_TOO_MANY_TICKS = 24,
+    WIGANDOY_GONE_BACK = 23, WIGANDOY_TOO_MANY_TICKS = 24, WIGANDOY_WRONG_NUMBER = 25, WIGANDOY_SCOPES_CLASH = 26,
     WIGANDOY_BAD_SCRIPT = 30, WIGANDOY_BAD_NESTING = 31, WIGANDOY_BAD_BINDING = 32
 };
 
@@ -106,7 +111,7 @@ enum {
  * that one of them writes is used by another. All that a call needs is on the stack of its thread, at most so many bytes
  * (measured by tests/c/stack.c, and rounded up): */
 #define WIGANDOY_STACK_CHECK 196608 /* check and load */
-#define WIGANDOY_STACK_STEP 262144 /* step and ticks */
+#define WIGANDOY_STACK_STEP 262144 /* step, ticks and joint */
 #define WIGANDOY_STACK_PLAY 327680
 #define WIGANDOY_STACK_OPEN 196608
 #define WIGANDOY_STACK_ORC 65536
@@ -127,6 +132,16 @@ uint64_t wigandoy_step(const uint8_t *table, size_t bytes, const uint8_t *move, 
  * reply and output are exactly those of the step whose move is the time that has elapsed. (Request 2026-08 will add an argument,
  * b: the engine whose waits fall.) */
 uint64_t wigandoy_ticks(const uint8_t *table, size_t bytes, uint32_t earlier, uint32_t later, uint8_t *out, size_t room);
+
+/* One to eight stops (kills of the table) fired as one step. `stops` has their positions, `count` of them, as numbers of the
+ * machine. Each is live, and no one's scope, the delimitation of its label, lies inside another's or is the same; a position that
+ * is listed twice clashes with itself. Fired singly in any order, each at the place that its record then has, they are all
+ * accepted and leave one table: the joint step leaves it. Refusals 1 to 7, 25, 11, 26 and 21, in this order; or 0 and the
+ * successor's records, which the output then begins with; the bytes behind them stay as they were. `tally` is always written, in
+ * play's order: as many kills as were listed and nothing else, or zeros if the step was refused. It is a step of its own: no move
+ * says it, and no list or play has it. */
+uint64_t wigandoy_joint(const uint8_t *table, size_t bytes, const uint16_t *stops, size_t count, uint8_t *out, size_t room,
+                        uint32_t tally[4]);
 
 /* A list of moves on a table, six bytes each, which may be anything; a tail of 1 to 5 bytes is no move. Each is judged on
  * the table that the accepted ones before it left, with an output of 32,768 bytes. Refusals of the whole: 1 to 7, 19 and

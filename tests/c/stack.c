@@ -1,5 +1,6 @@
 /* How much stack the functions of the library take: each is called on a stack of its own that was painted before, on tables and scripts that take the
- * longest ways (depth 256, 2,048 records, atoms far apart, every move; scripts 64 deep, of 511 records), and the painted bytes that are left are counted.
+ * longest ways (depth 256, 2,048 records, atoms far apart, every move, eight stops; scripts 64 deep, of 511 records), and the painted bytes that are left
+ * are counted.
  * A function that takes more than the header says is a failure. */
 #include <stdio.h>
 #include <stdlib.h>
@@ -12,7 +13,8 @@ enum { STACK = 4 << 20, PAINT = 0xa5 };
 
 static uint8_t *stack;
 static uint8_t table[32768], out[32768], replies[60000], moves[60000], opened[60000];
-static size_t bytes, list, above;
+static uint16_t stops[8];
+static size_t bytes, list, above, count;
 
 /* A record at the end of the table. */
 static size_t put(int kind, unsigned first, unsigned second, unsigned slot, unsigned interval) {
@@ -31,10 +33,12 @@ static size_t put(int kind, unsigned first, unsigned second, unsigned slot, unsi
     return bytes / 16 - 1;
 }
 
+/* A move at the end of the list; a kill is a stop of the joint step too. */
 static void propose(int kind, size_t a, size_t b) {
     uint8_t m[] = {(uint8_t)kind, 0, (uint8_t)a, (uint8_t)(a >> 8), (uint8_t)b, (uint8_t)(b >> 8)};
     memcpy(moves + list, m, 6);
     list += 6;
+    if (kind == WIGANDOY_KILL_MOVE) stops[count++] = (uint16_t)a;
 }
 
 /* Parallels nested to the left, waits and invokes on their right sides. */
@@ -47,7 +51,7 @@ static void nest(int depth) {
 
 /* [k](kill(k) | deep) beside a receive that meets an invoke, under time, with a kill at the end. */
 static void deep_night(void) {
-    bytes = list = 0;
+    bytes = list = count = 0;
     put(WIGANDOY_PARALLEL, 0, 0, 0, 0);
     put(WIGANDOY_DELIMITATION, 49152, 0, 0, 0);
     put(WIGANDOY_PARALLEL, 0, 0, 0, 0);
@@ -74,7 +78,7 @@ static void scattered(unsigned from, unsigned to) {
 
 /* Delimitations of atoms far apart, in a replication that unfolds; a wait that runs out; a delimitation that floats up. */
 static void wide_night(void) {
-    bytes = list = 0;
+    bytes = list = count = 0;
     put(WIGANDOY_PARALLEL, 0, 0, 0, 0);
     size_t replication = put(WIGANDOY_REPLICATION, 0, 0, 0, 0);
     put(WIGANDOY_PARALLEL, 0, 0, 0, 0);
@@ -89,6 +93,19 @@ static void wide_night(void) {
     propose(WIGANDOY_EXTRUDE, above, 0);
     propose(WIGANDOY_TIMEOUT, wait, 0);
     propose(WIGANDOY_UNFOLD, replication, 0);
+}
+
+/* Eight scopes side by side at the end of a way of protections, each a nest of parallels over its kill. */
+static void closing_night(void) {
+    bytes = list = count = 0;
+    for (int i = 0; i < 130; i++) put(WIGANDOY_PROTECTION, 0, 0, 0, 0);
+    for (unsigned k = 49152; k < 49160; k++) {
+        if (k < 49159) put(WIGANDOY_PARALLEL, 0, 0, 0, 0);
+        put(WIGANDOY_DELIMITATION, k, 0, 0, 0);
+        for (int i = 0; i < 115; i++) put(WIGANDOY_PARALLEL, 0, 0, 0, 0);
+        propose(WIGANDOY_KILL_MOVE, put(WIGANDOY_KILL, k, 0, 0, 0), 0);
+        for (int i = 0; i < 115; i++) put(WIGANDOY_INVOKE, 1, 2, 5, 0);
+    }
 }
 
 /* Orc scripts: operators nested to the left, to the right or balanced, over calls of sites far apart. */
@@ -128,6 +145,7 @@ static void call_open(void) { reply = wigandoy_open(table, bytes, opened, room);
 static void call_orc(void) { reply = wigandoy_orc(script, length, 3, 4, out, sizeof out); }
 static void call_step(void) { reply = wigandoy_step(table, bytes, move_at, 6, out, sizeof out); }
 static void call_ticks(void) { reply = wigandoy_ticks(table, bytes, UINT32_MAX, later, out, sizeof out); }
+static void call_joint(void) { reply = wigandoy_joint(table, bytes, stops, count, out, sizeof out, tally); }
 static void call_play(void) { reply = wigandoy_play(table, bytes, moves, list, out, sizeof out, replies, sizeof replies, tally); }
 
 /* The bytes of stack that a call takes. */
@@ -152,9 +170,16 @@ static void clash(void) {
     table[16 * above + 3] = 0;
 }
 
-static size_t check, load, step, ticks, play, open, orc;
+static size_t check, load, step, ticks, joint, play, open, orc;
 
-/* Every function on a table and its list, open with room and without, no tick and one over the top; whether check, open, ticks and each step have the answer. */
+/* The stops as one step; whether it has the answer. */
+static int joined(unsigned answer) {
+    joint = most(joint, taken(call_joint));
+    return wigandoy_answer(reply) == answer;
+}
+
+/* Every function on a table and its list, open with room and without, no tick and one over the top, all stops as one step; whether check, open, ticks, the
+ * joint step and each step have the answer. */
 static int measured(unsigned answer) {
     int right = 1;
     check = most(check, taken(call_check));
@@ -172,8 +197,17 @@ static int measured(unsigned answer) {
         ticks = most(ticks, taken(call_ticks));
         right &= wigandoy_answer(reply) == answer;
     }
+    right &= joined(answer == WIGANDOY_ACCEPTED && count == 0 ? WIGANDOY_WRONG_NUMBER : answer);
     play = most(play, taken(call_play));
     return right;
+}
+
+/* Eight stops once more, the last of them twice, and with a position behind the table; whether both are refused. */
+static int refused_stops(void) {
+    stops[6] = stops[7];
+    int right = joined(WIGANDOY_SCOPES_CLASH);
+    stops[7] = (uint16_t)(bytes / 16);
+    return right & joined(WIGANDOY_ABSENT);
 }
 
 /* The translation of a script of one operator; whether it has the answer. */
@@ -203,6 +237,8 @@ int main(void) {
     right &= measured(WIGANDOY_ACCEPTED);
     clash();
     right &= measured(WIGANDOY_CLASH);
+    closing_night();
+    right &= measured(WIGANDOY_ACCEPTED) & refused_stops();
     right &= translated(WHERE, 63, LEFT, WIGANDOY_ACCEPTED) & translated(SEQUENCE, 63, LEFT, WIGANDOY_ACCEPTED) & refused();
     right &= translated(WHERE, 42, RIGHT, WIGANDOY_ACCEPTED) & translated(WHERE, 63, RIGHT, WIGANDOY_TOO_LARGE);
     right &= translated(SEQUENCE, 42, RIGHT, WIGANDOY_ACCEPTED) & translated(SEQUENCE, 63, RIGHT, WIGANDOY_TOO_LARGE);
@@ -212,7 +248,8 @@ int main(void) {
         printf("stack: a table, a script or a move has another answer than this program is made for\n");
         return 1;
     }
-    printf("stack: check %zu, load %zu, open %zu, step %zu, ticks %zu, play %zu, orc %zu bytes\n", check, load, open, step, ticks, play, orc);
+    printf("stack: check %zu, load %zu, open %zu, step %zu, ticks %zu, joint %zu, play %zu, orc %zu bytes\n", check, load, open, step, ticks, joint, play,
+           orc);
     return check > WIGANDOY_STACK_CHECK || load > WIGANDOY_STACK_CHECK || open > WIGANDOY_STACK_OPEN || step > WIGANDOY_STACK_STEP ||
-           ticks > WIGANDOY_STACK_STEP || play > WIGANDOY_STACK_PLAY || orc > WIGANDOY_STACK_ORC;
+           ticks > WIGANDOY_STACK_STEP || joint > WIGANDOY_STACK_STEP || play > WIGANDOY_STACK_PLAY || orc > WIGANDOY_STACK_ORC;
 }

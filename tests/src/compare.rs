@@ -1,5 +1,6 @@
 // The library beside the independent implementation: one case, compared byte by byte, and what was reached.
 use crate::bytes;
+use crate::closed::Closed;
 use crate::library;
 use crate::lists::Listed;
 use crate::readings::Ticking;
@@ -121,6 +122,7 @@ pub struct Reached {
     pub listed: Listed,
     pub translations: Translations,
     pub ticking: Ticking,
+    pub closed: Closed,
 }
 
 impl Reached {

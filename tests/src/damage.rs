@@ -1,5 +1,6 @@
 // Damage: single bytes changed, random bytes, every length, and outputs and lists of every length.
 use crate::bytes;
+use crate::closings;
 use crate::compare::{Case, Reached};
 use crate::differ::{compare_check, compare_step};
 use crate::generate;
@@ -39,6 +40,7 @@ pub fn run(seed: u64, extent: Extent, reached: &mut Reached) -> Result<(), Fault
     plays::damaged(&mut random, extent.stride(97), reached)?;
     scripts::damaged(&mut random, extent.stride(97), reached)?;
     readings::damaged(&mut random, extent.stride(97), reached)?;
+    closings::damaged(&mut random, extent.stride(97), reached)?;
     if extent == Extent::All {
         plays::longest(&mut random, reached)?;
     }
@@ -47,6 +49,23 @@ pub fn run(seed: u64, extent: Extent, reached: &mut Reached) -> Result<(), Fault
 
 fn all_papers() -> Vec<Paper> {
     papers::nights().into_iter().chain(papers::further()).collect()
+}
+
+/// Tables for a comparison: single bytes of the papers' tables changed, a table cut off or filled up at every length, and random bytes of each; one in so many.
+pub fn each_spoilt(random: &mut Random, stride: usize, mut each: impl FnMut(&[u8]) -> Result<(), Fault>) -> Result<(), Fault> {
+    for paper in all_papers() {
+        for change in (0..255 * paper.table.len()).step_by(16 * stride) {
+            each(&bytes::changed(&paper.table, change))?;
+        }
+    }
+    let whole = generate::table(random, 260);
+    for length in (0..=4_200).chain(32_760..=32_800).step_by(stride) {
+        let mut cut = whole.clone();
+        cut.resize(length, 0);
+        each(&cut)?;
+        each(&random.bytes(length))?;
+    }
+    Ok(())
 }
 
 fn first_move(paper: &Paper) -> Vec<u8> {

@@ -1,4 +1,5 @@
 // The differential trial: generated cases through the library and the independent implementation.
+use crate::closings;
 use crate::compare::{self, Case, Reached};
 use crate::generate;
 use crate::lists;
@@ -174,6 +175,10 @@ pub fn found(case: u64, fault: Fault) -> Found {
         Fault::Ticks(first) => {
             let small = readings::smallest(first);
             Found { case, records: small.table.len() / 16, words: readings::describe(&small) }
+        }
+        Fault::Joint(first) => {
+            let small = closings::smallest(first);
+            Found { case, records: small.table.len() / 16, words: closings::describe(&small) }
         }
         Fault::Script(first) => {
             let small = scripts::smallest(first);

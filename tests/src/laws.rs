@@ -6,6 +6,7 @@ use crate::library;
 use crate::nights::{self, next_move};
 use crate::random::Random;
 use crate::reply::{Reply, Tally};
+use crate::together;
 
 /// What was looked at.
 #[derive(Default, Debug)]
@@ -17,23 +18,39 @@ pub struct Seen {
     pub listed: u64,
     pub lists: u64,
     pub clocks: u64,
+    pub joint: u64,
+    pub several: u64,
 }
 
-/// Random nights, each law tried at each move; the first that fails is put into words.
+/// Random nights, one in four of blocks, each law tried at each move; and joint steps on other blocks. The first law that fails is put into words.
 pub fn run(seed: u64, count: u64) -> Result<Seen, String> {
     let mut seen = Seen::default();
     for night in 0..count {
         let mut random = Random::new(seed.wrapping_mul(7_919).wrapping_add(night));
         let records = random.pick(&[8, 20, 40, 80]);
-        let table = generate::night(&mut random, records);
+        let table = if night % 4 == 3 { generate::blocks(&mut random) } else { generate::night(&mut random, records) };
         let moves = random.between(100, 400);
         one_night(&mut random, table, moves, &mut seen)?;
         seen.nights += 1;
+        for _ in 0..5 {
+            let table = generate::blocks(&mut random);
+            joint(&mut random, &table, &mut seen)?;
+        }
         if night % 10 == 0 {
             whole_list(&generate::large(&mut random), &mut seen)?;
+            let table = generate::large_blocks(&mut random);
+            joint(&mut random, &table, &mut seen)?;
         }
     }
     Ok(seen)
+}
+
+/// The laws of joint steps on one table.
+fn joint(random: &mut Random, table: &[u8], seen: &mut Seen) -> Result<(), String> {
+    let kills = together::laws(random, table)?;
+    seen.joint += (kills > 0) as u64;
+    seen.several += (kills > 1) as u64;
+    Ok(())
 }
 
 /// Demand 3 over the whole list; the other laws at each of its moves.
@@ -45,6 +62,9 @@ fn one_night(random: &mut Random, start: Vec<u8>, moves: usize, seen: &mut Seen)
         if random.chance(10) {
             clock::laws(random, &now)?;
             seen.clocks += 1;
+        }
+        if random.chance(10) {
+            joint(random, &now, seen)?;
         }
         let m = next_move(random, &now);
         now = one_move(now, &m, &mut tally, seen)?;

@@ -1,6 +1,8 @@
 // Trust by trial: what a proof cannot say. The compiled library beside an independent implementation, damaged inputs, and laws of nights.
 pub mod bytes;
 pub mod clock;
+pub mod closed;
+pub mod closings;
 pub mod compare;
 pub mod damage;
 pub mod differ;
@@ -20,5 +22,6 @@ pub mod reply;
 pub mod scripts;
 pub mod shrink;
 pub mod small;
+pub mod together;
 pub mod translations;
 pub mod workloads;

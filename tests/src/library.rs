@@ -6,6 +6,7 @@ mod raw {
         pub fn wigandoy_check(table: *const u8, bytes: usize) -> u64;
         pub fn wigandoy_step(table: *const u8, bytes: usize, m: *const u8, length: usize, out: *mut u8, room: usize) -> u64;
         pub fn wigandoy_ticks(table: *const u8, bytes: usize, earlier: u32, later: u32, out: *mut u8, room: usize) -> u64;
+        pub fn wigandoy_joint(table: *const u8, bytes: usize, stops: *const u16, count: usize, out: *mut u8, room: usize, tally: *mut u32) -> u64;
         pub fn wigandoy_load(table: *const u8, bytes: usize) -> u64;
         pub fn wigandoy_open(table: *const u8, bytes: usize, list: *mut u8, room: usize) -> u64;
         pub fn wigandoy_orc(script: *const u8, bytes: usize, partner: u16, operation: u16, out: *mut u8, room: usize) -> u64;
@@ -28,6 +29,12 @@ fn unpack(packed: u64) -> Reply {
     Reply { answer: packed as u8, place: (packed as u32 >> 8) as usize, records: (packed >> 32) as usize }
 }
 
+/// A tally from its four numbers.
+fn counted(counts: [u32; 4]) -> Tally {
+    let [communications, kills, timeouts, copied] = counts.map(u64::from);
+    Tally { communications, kills, timeouts, copied }
+}
+
 /// Whether bytes are a well-formed table: its records, or the refusal of 1 to 7.
 pub fn check(table: &[u8]) -> Reply {
     // SAFETY: pointer and length are those of a slice, which is only read.
@@ -45,6 +52,15 @@ pub fn step(table: &[u8], m: &[u8], out: &mut [u8]) -> Reply {
 pub fn ticks(table: &[u8], earlier: u32, later: u32, out: &mut [u8]) -> Reply {
     // SAFETY: pointers and lengths are those of two slices; the one that is written is borrowed mutably and does not overlap the other.
     unpack(unsafe { raw::wigandoy_ticks(table.as_ptr(), table.len(), earlier, later, out.as_mut_ptr(), out.len()) })
+}
+
+/// Some kills as one step: the successor in the output and its records, or the refusal of 1 to 7, 11, 21, 25 or 26 and an untouched output; and the tally.
+pub fn joint(table: &[u8], stops: &[u16], out: &mut [u8]) -> (Reply, Tally) {
+    let mut counts = [u32::MAX; 4];
+    let (t, s, o) = (table.as_ptr(), stops.as_ptr(), out.as_mut_ptr());
+    // SAFETY: pointers and lengths are those of three slices and an array of four; those that are written are borrowed mutably and overlap no other.
+    let packed = unsafe { raw::wigandoy_joint(t, table.len(), s, stops.len(), o, out.len(), counts.as_mut_ptr()) };
+    (unpack(packed), counted(counts))
 }
 
 /// The load of a table, in place of the records, or the refusal of 1 to 7.
@@ -72,6 +88,5 @@ pub fn play(table: &[u8], moves: &[u8], out: &mut [u8], replies: &mut [u8]) -> (
     let (t, m, o, r) = (table.as_ptr(), moves.as_ptr(), out.as_mut_ptr(), replies.as_mut_ptr());
     // SAFETY: pointers and lengths are those of four slices and an array of four; those that are written are borrowed mutably and overlap no other.
     let packed = unsafe { raw::wigandoy_play(t, table.len(), m, moves.len(), o, out.len(), r, replies.len(), counts.as_mut_ptr()) };
-    let [communications, kills, timeouts, copied] = counts.map(u64::from);
-    (unpack(packed), Tally { communications, kills, timeouts, copied })
+    (unpack(packed), counted(counts))
 }

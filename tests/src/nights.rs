@@ -1,5 +1,6 @@
 // Nights: lists of moves played through the library, and compared with the independent implementation's play.
 use crate::bytes;
+use crate::closings::Closing;
 use crate::compare::{self, Case, Reached};
 use crate::generate;
 use crate::library;
@@ -61,10 +62,11 @@ pub fn by_reference(table: &[u8], moves: &[u8]) -> Night {
     Night { replies, table: out, tally }
 }
 
-/// What went wrong: a single move, two readings of a clock, a night's list as a whole, the list of open moves of a table, or an Orc script.
+/// What went wrong: a single move, two readings of a clock, a joint step, a night's list as a whole, the list of open moves of a table, or an Orc script.
 pub enum Fault {
     Step(Case),
     Ticks(Readings),
+    Joint(Closing),
     Open(Vec<u8>),
     Script(Script),
     List { table: Vec<u8>, moves: Vec<u8>, what: &'static str },

@@ -1,6 +1,7 @@
 // Ticks: the library's time move from two readings beside the independent implementation's: reply, every byte of the output and those around it.
 use crate::bytes;
 use crate::compare::{said, Case, Lent, Reached};
+use crate::damage;
 use crate::differ::{draw_room, draw_table, found, Found};
 use crate::generate;
 use crate::library;
@@ -71,22 +72,13 @@ pub fn each(table: &[u8], reached: &mut Reached) -> Result<(), Fault> {
 /// Damage: single bytes of the papers' tables changed, random bytes, tables cut off and outputs at every length, each with every number of ticks; one in so
 /// many.
 pub fn damaged(random: &mut Random, stride: usize, reached: &mut Reached) -> Result<(), Fault> {
+    damage::each_spoilt(random, stride, |table| each(table, reached))?;
     for paper in papers::nights().iter().chain(&papers::further()) {
-        for change in (0..255 * paper.table.len()).step_by(16 * stride) {
-            each(&bytes::changed(&paper.table, change), reached)?;
-        }
         for room in (0..=paper.table.len() + 32).step_by(stride) {
             for ticks in TICKS {
                 compare(Readings::from(3, ticks, &paper.table, room), reached)?;
             }
         }
-    }
-    let whole = generate::table(random, 260);
-    for length in (0..=4_200).chain(32_760..=32_800).step_by(stride) {
-        let mut cut = whole.clone();
-        cut.resize(length, 0);
-        each(&cut, reached)?;
-        each(&random.bytes(length), reached)?;
     }
     Ok(())
 }

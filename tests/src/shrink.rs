@@ -64,20 +64,23 @@ fn without(case: &Case, from: usize, to: usize, p: usize, q: usize, new: &[u8]) 
     Case { table, m: with_places(&case.m, moved), room: case.room }
 }
 
-fn with_places(m: &[u8], moved: impl Fn(usize) -> usize) -> Vec<u8> {
-    let mut m = m.to_vec();
-    let slots: &[usize] = match m.first() {
-        Some(1) => &[2, 4],
-        Some(3) => &[],
-        _ => &[2],
-    };
-    for slot in slots {
-        if slot + 2 <= m.len() {
-            let place = moved(bytes::word(&m, *slot) as usize) as u16;
-            m[*slot..slot + 2].copy_from_slice(&place.to_le_bytes());
+/// The same moves, six bytes each, at the places that the records have come to.
+fn with_places(moves: &[u8], moved: impl Fn(usize) -> usize) -> Vec<u8> {
+    let mut moves = moves.to_vec();
+    for m in moves.chunks_mut(6) {
+        let slots: &[usize] = match m[0] {
+            1 => &[2, 4],
+            3 => &[],
+            _ => &[2],
+        };
+        for slot in slots {
+            if slot + 2 <= m.len() {
+                let place = moved(bytes::word(m, *slot) as usize) as u16;
+                m[*slot..slot + 2].copy_from_slice(&place.to_le_bytes());
+            }
         }
     }
-    m
+    moves
 }
 
 /// A record with a shorter tuple, or a wait of 0.

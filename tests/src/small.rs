@@ -1,6 +1,7 @@
-// Small scope: every term of up to five records over a few atoms, every move on it, the list of those that are open, and readings of a clock. What goes
-// wrong at all mostly goes wrong on a small table.
+// Small scope: every term of up to five records over a few atoms, every move on it, the list of those that are open, readings of a clock, and joint steps
+// of up to two positions. What goes wrong at all mostly goes wrong on a small table.
 use crate::bytes::{self, a_move};
+use crate::closings;
 use crate::compare::{Case, Reached};
 use crate::differ::{compare_check, compare_step};
 use crate::library;
@@ -69,7 +70,7 @@ fn moves(records: usize) -> Vec<[u8; 6]> {
     all
 }
 
-/// Every term checked, and every move on those that are well formed, and the list of open moves and some ticks of all.
+/// Every term checked, and every move and pair of positions on those that are well formed, and the list of open moves, some ticks and joint steps of all.
 pub fn run(most: usize, reached: &mut Reached) -> Result<(), Fault> {
     for (records, tables) in terms(most).into_iter().enumerate() {
         let moves = moves(records);
@@ -77,8 +78,10 @@ pub fn run(most: usize, reached: &mut Reached) -> Result<(), Fault> {
             compare_check(&table, reached)?;
             lists::compare(&table, reached)?;
             readings::each(&table, reached)?;
+            closings::each(&table, reached)?;
             if library::check(&table).answer == 0 {
                 every_move(&table, &moves, reached)?;
+                closings::every_pair(&table, reached)?;
             }
         }
     }

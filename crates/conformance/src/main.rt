@@ -9,6 +9,8 @@
 // A case of a translation goes on with the word >!, the result endpoint's partner and operation and the output's length, all in decimal; a partner or operation over
 // 65,535 is taken for 0. The bytes before the word are the script's, with xN for N more of the last 8. Its line has the reply, and of the output what a step's line has.
 // A case of ticks goes on with the word >@, the earlier and the later reading in hexadecimal and the output's length in decimal. Its line is as that of a step.
+// A case of a joint step goes on with the word >&, the output's length and the stops' positions, up to 16 of them, all in decimal; a position over 65,535 is taken for 0.
+// Its line has the reply, the tally, and of the output what a step's line has.
 use libc::STDIN_FILENO;
 use libc::STDOUT_FILENO;
 ghost use mathlib.Core.Path.{_≡_};
@@ -350,7 +352,50 @@ fn run_ticks(text: &[u8], from: usize, to: usize, table: &[u8], out: &mut [u8])
     }
 }
 
-// A translation, ticks or play: there is more behind the word.
+// A joint step with all of the output: its reply, its tally, and what it left there.
+fn print_joint(table: &[u8], kills: &[u16], out: &mut [u8]) {
+    fill(out);
+    let joined = stopper::joint(table, kills, out);
+    let reply = joined.reply;
+    let tally = joined.tally;
+    print_reply(reply);
+    print_tally(tally);
+    print_left(out);
+}
+
+// The positions in decimal, each behind a space, and how many there are.
+fn spell_positions(text: &[u8], from: usize, to: usize, places: &mut [u16]) -> usize
+    requires { ⌜ (from ≤ to) × (to ≤ length (now text)) ⌝ }
+    ensures { λ r. ⌜ r ≤ length (now (places .entry)) ⌝ }
+{
+    let mut n = 0;
+    let mut i = from;
+    while i < to {
+        if n == places.len() {
+            return n;
+        }
+        let e = bytes::scan::find(text, i + 1, to, b' ');
+        places[n] = atom(text, i + 1, e);
+        n += 1;
+        i = e;
+    }
+    n
+}
+
+// A joint step: the output's length, and the positions.
+fn run_joint(text: &[u8], from: usize, to: usize, table: &[u8], out: &mut [u8])
+    requires { ⌜ (from ≤ to) × (to ≤ length (now text)) ⌝ }
+{
+    let mut kills = [0u16; 16];
+    let e = bytes::scan::find(text, from, to, b' ');
+    let room = number(text, from, e);
+    let n = spell_positions(text, e, to, &mut kills);
+    if room <= out.len() {
+        print_joint(table, &kills[..n], &mut out[..room]);
+    }
+}
+
+// A translation, ticks, a joint step or play: there is more behind the word.
 fn run_long(text: &[u8], mark: usize, to: usize, table: &[u8], out: &mut [u8])
     requires { ⌜ (mark + 3 ≤ to) × (to ≤ length (now text)) ⌝ }
 {
@@ -358,6 +403,8 @@ fn run_long(text: &[u8], mark: usize, to: usize, table: &[u8], out: &mut [u8])
         run_translation(text, mark + 3, to, table, out);
     } else if text[mark + 1] == b'@' {
         run_ticks(text, mark + 3, to, table, out);
+    } else if text[mark + 1] == b'&' {
+        run_joint(text, mark + 3, to, table, out);
     } else {
         run_play(text, mark + 3, to, table, out);
     }
@@ -419,7 +466,7 @@ fn run_all(text: &[u8], table: &mut [u8], out: &mut [u8]) {
 }
 
 fn main() {
-    let mut input = [0; 262144];
+    let mut input = [0; 393216];
     let got = io::read_full(STDIN_FILENO, &mut input);
     let mut table = io::large_buffer();
     let mut out = io::large_buffer();

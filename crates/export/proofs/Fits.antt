@@ -21,6 +21,9 @@ use Rattle.opening.specs.Opening.{openMoves, judgeOpen, openReply}
 use Rattle.opening.proofs.Theorems.{open-number, open-refused, open-listed, open-too-short}
 use Rattle.ticks.specs.Ticks.{judgeTicks, ticksReply}
 use Rattle.ticks.proofs.Adding.{ticks-cases}
+use Rattle.joint.specs.Joint.{judgeJoint, jointReply}
+use Rattle.joint.proofs.Bounds.{PlacesBelow, below-joint}
+use Rattle.joint.proofs.Theorems.{successor-formed}
 use Rattle.orc.specs.Translation.{judgeOrc, orcReply}
 use Rattle.orc.proofs.Bounds.{below-orc}
 use Rattle.orc.proofs.Theorems.{accepted-output}
@@ -74,6 +77,12 @@ ticks-fits table earlier later out k =
   where
     refused : {n : ℕ} → Fits (refusal n 0)
     refused = record { place = omega arith; records = omega arith }
+
+pub joint-fits : (table kills out : List ℕ) → AreBytes table → PlacesBelow 65536 kills → Fits (replyOf (jointReply table kills out))
+unfolding jointReply replyTo
+joint-fits table kills out k h =
+    fits (λ x. replyOf (replyTo x)) size (λ n p. refl) (λ s. refl) (judgeJoint table kills (length out)) (below-joint 65536 (omega arith) table kills (length out) h)
+    (λ s e. successor-formed table kills (length out) s k e .small)
 
 pub play-fits : (table moves out slots : List ℕ) → AreBytes table → Fits (replyOf (playedReply (play table moves out slots)))
 unfolding play playedReply

@@ -8,6 +8,7 @@ use Rattle.cows.specs.Run.{play, playedReply, playedTally, playedOutput, played
 use Rattle.opening.specs.Opening.{judgeOpen, openReply, openBuffer}
 use Rattle.orc.specs.Translation.{orcReply, orcOutput}
 use Rattle.ticks.specs.Ticks.{ticksReply, ticksOutput}
+use Rattle.joint.specs.Joint.{jointReply, jointOutput, jointTally}
 use Rattle.tables.specs.declared.Reply.{Reply}
 use Rattle.stepper.specs.Replies.{replyOf}
 use Rattle.tally.specs.declared.Tally.{Tally}
@@ -42,6 +43,12 @@ pub record PlayedWith (table moves out after slots after′ tally : List ℕ) (r
   pub tallied : tally ≡ fourCounts (tallyOf (playedTally (play table moves out slots)))
   pub output : after ≡ playedOutput (play table moves out slots) out
   pub slots-are : after′ ≡ playedReplies (play table moves out slots) slots
+
+-- What several kills as one step give on any bytes, the reply packed.
+pub record JointPacked (table kills out after tally : List ℕ) (r : ℕ) : Type 0 where
+  pub replied : r ≡ packed (replyOf (jointReply table kills out))
+  pub tallied : tally ≡ fourCounts (tallyOf (jointTally table kills out))
+  pub output : after ≡ jointOutput table kills out
 
 -- What the list of open moves of any bytes gives, its reply packed.
 pub record OpenPacked (table list after : List ℕ) (r : ℕ) : Type 0 where

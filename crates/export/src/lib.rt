@@ -1,11 +1,12 @@
 // Export: the public operations under C names, for the static library that C and Rust programs link. A reply comes back as one number, so that
 // no lent buffer can be too short for it.
 use tables::Reply;
+use tally::Tally;
 ghost use mathlib.Core.Path.{_≡_};
 ghost use Rattle.cows.specs.Tables.{judge};
 ghost use Rattle.tables.specs.Verdict.{checkReply};
 ghost use Rattle.player.specs.Loads.{loadReply};
-ghost use Rattle.export.specs.Packing.{Fits, packed, StepPacked, TicksPacked, PlayedWith, OpenPacked, OrcPacked};
+ghost use Rattle.export.specs.Packing.{Fits, packed, StepPacked, TicksPacked, fourCounts, PlayedWith, JointPacked, OpenPacked, OrcPacked};
 
 // A reply in 64 bits: the answer in the lowest 8, the place in the 24 above them, the records in the highest 32.
 fn pack(r: Reply) -> u64
@@ -16,6 +17,13 @@ fn pack(r: Reply) -> u64
     let place = r.place as u64;
     let records = r.records as u64;
     answer + 256 * place + 4294967296 * records
+}
+
+// A tally in four numbers.
+fn four_counts(c: Tally) -> [u32; 4]
+    ensures { λ r. ⌜ r ≡ fourCounts c ⌝ }
+{
+    [c.communications, c.kills, c.timeouts, c.copied]
 }
 
 // Whether bytes are a well-formed table: `tables::check`, packed.
@@ -62,14 +70,23 @@ pub extern "C" fn wigandoy_play(
     ensures { λ r. ⌜ PlayedWith (now (table .entry)) (now (moves .entry)) (now (out .entry)) (now (out .exit)) (now (replies .entry)) (now (replies .exit)) (now (tally .exit)) r ⌝ }
 {
     let played = player::play(table, moves, out, replies);
-    let counts = played.tally;
-    *tally = [
-        counts.communications,
-        counts.kills,
-        counts.timeouts,
-        counts.copied,
-    ];
+    *tally = four_counts(played.tally);
     pack(played.reply)
+}
+
+// Several kills as one step: `stopper::joint`, its reply packed and its tally in four numbers.
+#[no_mangle]
+pub extern "C" fn wigandoy_joint(
+    table: &[u8],
+    kills: &[u16],
+    out: &mut [u8],
+    tally: &mut [u32; 4],
+) -> u64
+    ensures { λ r. ⌜ JointPacked (now (table .entry)) (now (kills .entry)) (now (out .entry)) (now (out .exit)) (now (tally .exit)) r ⌝ }
+{
+    let joined = stopper::joint(table, kills, out);
+    *tally = four_counts(joined.tally);
+    pack(joined.reply)
 }
 
 // What can happen now: `lister::open`, packed.

@@ -23,8 +23,8 @@ pub struct Played {
     pub tally: Tally,
 }
 
-// A play refused whole: no records, and a tally of zeros.
-fn refused(answer: u8, place: usize) -> Played
+// A play or a joint step that is refused: no records, and a tally of zeros.
+pub fn refused(answer: u8, place: usize) -> Played
     ensures { λ r. ⌜ r ≡ refusedWith answer place ⌝ }
 {
     Played {

@@ -49,6 +49,13 @@ pub fn counts(m: Move, load: u32) -> Tally
     }
 }
 
+// What kills count that fire as one step.
+pub fn of_kills(kills: u32) -> Tally
+    ensures { λ r. ⌜ r ≡ tallyOf (counted 0 kills 0 0) ⌝ }
+{
+    counted(0, kills, 0, 0)
+}
+
 // Two tallies as one.
 fn sum(c: Tally, d: Tally) -> Tally
     requires { ⌜ SumsFit c d ⌝ }

@@ -1,7 +1,8 @@
 // The benchmark: `bench write DIR` writes the workloads, `bench time [FILE..]` times the library, the independent implementation and a copy of
 // the table on them, all in one run, and prints ratios; a FILE holds the figures of another program on the same folders; then ticks beside the step of the
-// same time and check, the list of open moves beside check, and the translation of Orc scripts beside the check of their tables. `bench ticks`, `bench lists`
-// and `bench scripts` time these alone, `bench repeat NAME` runs one workload for a second, for a profiler.
+// same time and check, joint steps beside the step of one of their kills and check, the list of open moves beside check, and the translation of Orc scripts
+// beside the check of their tables. `bench ticks`, `bench joint`, `bench lists` and `bench scripts` time these alone, `bench repeat NAME` runs one workload
+// for a second, for a profiler.
 use std::collections::HashMap;
 use std::fs;
 use std::hint::black_box;
@@ -16,15 +17,17 @@ fn main() {
         ["write", folder] => write(Path::new(folder)),
         ["repeat", name] => repeat(name),
         ["ticks"] => time_ticks(),
+        ["joint"] => time_joint(),
         ["lists"] => time_lists(),
         ["scripts"] => time_scripts(),
         ["time", ref files @ ..] => {
             time(&others(files));
             time_ticks();
+            time_joint();
             time_lists();
             time_scripts();
         }
-        _ => println!("usage: bench write DIR | bench time [FILE..] | bench ticks | bench lists | bench scripts | bench repeat NAME"),
+        _ => println!("usage: bench write DIR | bench time [FILE..] | bench ticks | bench joint | bench lists | bench scripts | bench repeat NAME"),
     }
 }
 
@@ -64,6 +67,7 @@ fn by_library(w: &Workload, out: &mut [u8], replies: &mut [u8]) {
         "check" => _ = black_box(library::check(black_box(&w.table))),
         "play" => _ = black_box(library::play(black_box(&w.table), &w.moves, out, replies)),
         "open" => _ = black_box(library::open(black_box(&w.table), out)),
+        "joint" => _ = black_box(library::joint(black_box(&w.table), &stops(w), out)),
         "orc" => _ = black_box(library::orc(black_box(&w.table), RESULT.0, RESULT.1, out)),
         _ => _ = black_box(library::step(black_box(&w.table), &w.moves[..6], out)),
     }
@@ -84,7 +88,7 @@ fn by_reference(w: &Workload, out: &mut [u8], replies: &mut [u8]) {
 
 /// The library on one workload, again and again for a second.
 fn repeat(name: &str) {
-    let mut all = all().into_iter().chain(workloads::listed()).chain(workloads::scripts());
+    let mut all = all().into_iter().chain(workloads::joint()).chain(workloads::listed()).chain(workloads::scripts());
     let w = all.find(|w| w.name == name).expect("the name of a workload");
     let (mut out, mut replies) = (vec![0; if w.operation == "open" { LIST } else { 32_768 }], vec![0; 60_000]);
     let start = Instant::now();
@@ -210,6 +214,55 @@ fn time_ticks() {
         let (check, step, ticks, none) = (least(|c| c.check), least(|c| c.step), least(|c| c.ticks), least(|c| c.none));
         let (ratio, handed) = (ticks / step, none / check);
         println!("| {} | {} | {check:.0} | {step:.0} | {ticks:.0} | {ratio:.2} | {none:.0} | {handed:.2} |", w.name, w.table.len() / 16);
+    }
+}
+
+/// The positions of a joint step's kills.
+fn stops(w: &Workload) -> Vec<u16> {
+    w.moves.chunks(6).map(|m| bytes::word(m, 2)).collect()
+}
+
+/// What a joint step costs in nanoseconds, beside the check of the table and the step of its first kill alone.
+struct JointCost {
+    check: f64,
+    step: f64,
+    joint: f64,
+}
+
+fn joint_cost(w: &Workload) -> JointCost {
+    let mut out = vec![0; 32_768];
+    let stops = stops(w);
+    assert_eq!(library::joint(&w.table, &stops, &mut out).0.answer, w.answer, "{}", w.name);
+    assert_eq!(library::step(&w.table, &w.moves[..6], &mut out).answer, 0, "{}", w.name);
+    let check = median(|| _ = black_box(library::check(black_box(&w.table))));
+    let step = median(|| _ = black_box(library::step(black_box(&w.table), &w.moves[..6], &mut out)));
+    let joint = median(|| _ = black_box(library::joint(black_box(&w.table), &stops, &mut out)));
+    JointCost { check, step, joint }
+}
+
+/// Three passes over the joint steps, of which the least counts.
+fn time_joint() {
+    let works = workloads::joint();
+    let passes: Vec<Vec<JointCost>> = (0..3).map(|_| works.iter().map(joint_cost).collect()).collect();
+    println!("\n| joint step | records | kills | check ns | step ns | joint ns | joint / check | joint / step |");
+    println!("|---|---|---|---|---|---|---|---|");
+    for (i, w) in works.iter().enumerate() {
+        let least = |of: fn(&JointCost) -> f64| passes.iter().map(|pass| of(&pass[i])).fold(f64::INFINITY, f64::min);
+        let (check, step, joint) = (least(|c| c.check), least(|c| c.step), least(|c| c.joint));
+        let (records, kills, whole, ratio) = (w.table.len() / 16, w.moves.len() / 6, joint / check, joint / step);
+        println!("| {} | {records} | {kills} | {check:.0} | {step:.0} | {joint:.0} | {whole:.2} | {ratio:.2} |", w.name);
+    }
+    joint_growth(&works, &passes);
+}
+
+/// How the cost of joint steps of so many kills grows with the records.
+fn joint_growth(works: &[Workload], passes: &[Vec<JointCost>]) {
+    println!("\n| operation | exponent from the smallest to {} records | from {} to {} |\n|---|---|---|", SIZES[4], SIZES[2], SIZES[4]);
+    for kills in workloads::KILLS {
+        let sized = works.iter().enumerate().filter(|(_, w)| w.name.starts_with(&format!("joint-{kills}-")));
+        let least = |i: usize| passes.iter().map(|pass| pass[i].joint).fold(f64::INFINITY, f64::min);
+        let points: Vec<(f64, f64)> = sized.map(|(i, w)| ((w.table.len() / 16) as f64, least(i))).collect();
+        println!("| joint-{kills} | {:.2} | {:.2} |", exponent(&points), exponent(&points[points.len() - 3..]));
     }
 }
 

@@ -5,8 +5,7 @@ use std::time::Instant;
 use trial::compare::Reached;
 use trial::damage::{self, Extent};
 use trial::lists::Listed;
-use trial::translations::Translations;
-use trial::{differ, laws, planted, readings, scripts, small};
+use trial::{closings, differ, laws, planted, readings, scripts, small};
 
 const CASES: u64 = 100_000;
 
@@ -27,6 +26,7 @@ fn main() {
     differential(seed, cases);
     translated(seed, cases);
     ticked(seed, cases);
+    joined(seed, cases);
     every_small(SMALL);
     damaged(seed);
     lawful(seed);
@@ -116,6 +116,13 @@ fn ticked(seed: u64, cases: u64) {
     all_reached(uncounted(reached.ticking.counts()));
 }
 
+fn joined(seed: u64, cases: u64) {
+    println!("joint steps: {cases} generated lists of kills, seed {seed}");
+    let reached = by_itself(seed, cases, closings::generated);
+    println!("  {} joint steps agree in reply, place, records, tally and every byte", reached.closed.calls);
+    all_reached(uncounted(reached.closed.counts()));
+}
+
 /// How many records the tables and scripts of the small scope have at most.
 const SMALL: usize = 5;
 
@@ -126,8 +133,8 @@ fn every_small(most: usize) {
     }
     let accepted: u64 = reached.accepted.iter().sum();
     println!(
-        "small scope: all {} tables of up to {most} records over a few atoms, {} moves on them, {accepted} accepted, {} lists, {} pairs of readings, and {} translations of all scripts of up to {most} records: agree",
-        reached.checks, reached.steps, reached.listed.lists, reached.ticking.calls, reached.translations.calls
+        "small scope: all {} tables of up to {most} records over a few atoms, {} moves on them, {accepted} accepted, {} lists, {} pairs of readings, {} joint steps, and {} translations of all scripts of up to {most} records: agree",
+        reached.checks, reached.steps, reached.listed.lists, reached.ticking.calls, reached.closed.calls, reached.translations.calls
     );
 }
 
@@ -136,10 +143,10 @@ fn damaged(seed: u64) {
     if let Err(fault) = damage::run(seed, Extent::All, &mut reached) {
         stop(differ::found(0, fault));
     }
-    let Reached { steps, checks, plays, played, listed: Listed { lists, .. }, translations: Translations { calls, .. }, ticking, .. } = reached;
-    let readings = ticking.calls;
+    let Reached { steps, checks, plays, played, listed: Listed { lists, .. }, .. } = reached;
+    let [calls, readings, joint] = [reached.translations.calls, reached.ticking.calls, reached.closed.calls];
     println!(
-        "damage: {steps} steps, {checks} checks and loads, {lists} lists, {calls} translations, {readings} pairs of readings and {plays} plays of {played} moves on damaged bytes and at every length agree"
+        "damage: {steps} steps, {checks} checks and loads, {lists} lists, {calls} translations, {readings} pairs of readings, {joint} joint steps and {plays} plays of {played} moves on damaged bytes and at every length agree"
     );
 }
 
@@ -148,16 +155,16 @@ fn sample() {
     if let Err(fault) = damage::run(1, Extent::Sample, &mut reached) {
         stop(differ::found(0, fault));
     }
-    let Reached { steps, checks, plays, listed: Listed { lists, .. }, translations: Translations { calls, .. }, ticking, .. } = reached;
-    let readings = ticking.calls;
-    println!("sample: {steps} steps, {checks} checks, {lists} lists, {calls} translations, {readings} pairs of readings and {plays} plays on damaged bytes agree");
+    let Reached { steps, checks, plays, listed: Listed { lists, .. }, .. } = reached;
+    let [calls, readings, joint] = [reached.translations.calls, reached.ticking.calls, reached.closed.calls];
+    println!("sample: {steps} steps, {checks} checks, {lists} lists, {calls} translations, {readings} pairs of readings, {joint} joint steps and {plays} plays on damaged bytes agree");
 }
 
 fn lawful(seed: u64) {
     match laws::run(seed, 600) {
         Ok(seen) => println!(
-            "laws: {} nights, {} accepted moves ({} kills), {} refused, {} moves of {} lists: demand 3's inequality, play as its steps, well-formed successors, untouched outputs, halting, time, exactly the accepted moves listed; {} clocks: readings moved on, ticks as a step, time adds up",
-            seen.nights, seen.accepted, seen.kills, seen.refused, seen.listed, seen.lists, seen.clocks
+            "laws: {} nights, {} accepted moves ({} kills), {} refused, {} moves of {} lists: demand 3's inequality, play as its steps, well-formed successors, untouched outputs, halting, time, exactly the accepted moves listed; {} clocks: readings moved on, ticks as a step, time adds up; {} joint steps, {} of several kills: one kill as a step, several as single steps in any order, load adds up",
+            seen.nights, seen.accepted, seen.kills, seen.refused, seen.listed, seen.lists, seen.clocks, seen.joint, seen.several
         ),
         Err(words) => {
             println!("{words}");

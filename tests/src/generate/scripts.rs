@@ -113,9 +113,7 @@ fn filling(random: &mut Random, values: [u16; 5]) -> Vec<u8> {
     let left = records - 1 - 9 * wheres;
     let sequences = left % 2 + 2 * random.between(0, 1);
     let mut operators = [vec![WHERE; wheres], vec![SEQUENCE; sequences], vec![PARALLEL; (left - 7 * sequences) / 2]].concat();
-    for i in 1..operators.len() {
-        operators.swap(i, random.below(i + 1));
-    }
+    random.shuffle(&mut operators);
     expression(random, Shape::Balanced, operators, values, 0)
 }
 

@@ -14,18 +14,20 @@ pub fn plant(fault: Option<Fault>) {
     PLANTED.store(fault.map_or(usize::MAX, |f| f as usize), Ordering::Relaxed);
 }
 
-/// What a fault is of; those of tables, moves and nights stand first, then those of the list of open moves, those of Orc scripts, and those of
-/// ticks.
+/// What a fault is of; those of tables, moves and nights stand first, then those of the list of open moves, those of Orc scripts, those of ticks, and those
+/// of joint steps.
 #[derive(Clone, Copy, PartialEq, Eq, Debug)]
 pub enum Of {
     Moves,
     List,
     Scripts,
     Ticks,
+    Joint,
 }
 
 pub fn of(fault: Fault) -> Of {
     match fault as usize {
+        n if n >= Fault::NotCarried as usize => Of::Joint,
         n if n >= Fault::StopsAtZero as usize => Of::Ticks,
         n if n >= Fault::LongScript as usize => Of::Scripts,
         n if n >= Fault::LastFloatingLeftOut as usize => Of::List,
@@ -182,4 +184,33 @@ faults! {
     NoTickAsTime: "no tick is a time of 0",
     NotHandedOn: "no tick leaves the output as it was",
     ByteBehindTable: "the byte behind a table that is handed on is cleared",
+    // joint steps
+    NotCarried: "kills fire one after the other, each at the position that was listed",
+    FirstAlone: "only the first listed kill fires",
+    SecondNotHalted: "what is beside the second kill is not halted",
+    SecondShelterHalted: "what is protected in the second kill's scope is halted",
+    TwiceIsOnce: "a position listed twice counts once",
+    SameScopeFires: "two kills of one [k] do not clash",
+    OnlyInner: "of two scopes, one inside the other, only the inner clashes",
+    OnlyOuter: "of two scopes, one inside the other, only the outer clashes",
+    EarlierOnly: "a kill clashes only with those listed before it",
+    ShelteredApart: "a scope under a protection does not clash with one around the protection",
+    NearestLabel: "a kill's scope is the nearest delimitation of any label",
+    ClashByPlace: "26 at the lowest place, not the first listed",
+    AbsentByPlace: "11 at the lowest place, not the first listed",
+    PlaceInList: "the places of 11 and 26 count the list",
+    ReplicatedFires: "a replicated kill fires in a joint step",
+    DormantFires: "a kill behind a receive or a wait fires in a joint step",
+    NineFire: "nine kills fire",
+    SevenTheMost: "eight kills are too many",
+    EmptyHandedOn: "no kill hands the table on",
+    NumberBeforeTable: "25 before the table's refusals",
+    AbsentBeforeNumber: "11 before 25",
+    ClashBeforeAbsent: "26 before 11",
+    RoomBeforeClash: "21 before 26",
+    RoomForTable: "the output of a joint step must hold the table before it",
+    TallyOfOne: "the tally counts a joint step as one kill",
+    TallyOfRefused: "the tally counts the kills of a refused joint step",
+    ByteBehindJoint: "the byte behind what a joint step leaves is cleared",
+    RefusedJointWrites: "a refused joint step writes a byte",
 }

@@ -1,9 +1,10 @@
-// The independent implementation: check, step, play and load as document 01 says, open as request 2026-01 does, orc as 2026-03 and ticks as 2026-05, on a
-// plain tree.
+// The independent implementation: check, step, play and load as document 01 says, open as request 2026-01 does, orc as 2026-03, ticks as 2026-05 and joint
+// as 2026-06, on a plain tree.
 // It is written from the papers' text and shares no code with crates/. Nothing here is meant to be fast.
 mod communicate;
 pub mod faults;
 pub mod format;
+mod joint;
 mod moves;
 mod night;
 mod open;
@@ -15,6 +16,7 @@ pub mod terms;
 mod ticks;
 
 pub use crate::reply::Reply;
+pub use joint::joint;
 pub use moves::Move;
 pub use night::{check, load, play, step};
 pub use open::{open, open_moves, put_list, Found};

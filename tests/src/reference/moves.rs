@@ -96,7 +96,7 @@ fn kill(all: &[Place], a: usize) -> Result<Term, Refusal> {
 }
 
 /// The term after the kill at the end of a path; `inside` once [k] is passed.
-fn killed(term: &Term, path: &[usize], label: Atom, inside: bool) -> Term {
+pub fn killed(term: &Term, path: &[usize], label: Atom, inside: bool) -> Term {
     let Some((way, rest)) = path.split_first() else { return Term::nil() };
     let sheltered = planted(Fault::ProtectionShelters) && term.head == Head::Protection;
     let inside = planted(Fault::HaltsOutside) || ((inside || term.head.delimits(label)) && !sheltered);

@@ -1,0 +1,11 @@
+pub mod Entering
+pub mod Firing
+pub mod Settling
+pub mod Pruning
+pub mod Stops
+pub mod Orders
+pub mod Judging
+pub mod Scoping
+pub mod Listing
+pub mod Bounds
+pub mod Theorems

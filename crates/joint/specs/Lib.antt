@@ -1,0 +1,4 @@
+pub mod Joint
+pub mod Singly
+pub mod Listed
+pub mod Samples

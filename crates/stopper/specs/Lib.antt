@@ -1,0 +1,3 @@
+pub mod Gathering
+pub mod Firing
+pub mod Claims
