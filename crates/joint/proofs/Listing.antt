@@ -55,7 +55,7 @@ dead-here t a ps e = rw e
 same-refusal : {A : Type 0} {n m p q : ℕ} → _≡_ {A = Result A} (refuse n p) (refuse m q) → (n ≡ m) × (p ≡ q)
 same-refusal e = (cc, cc)
 
-not-both : {A B : Type 0} {n p : ℕ} {x : A} → _≡_ {A = Result A} (refuse n p) (accept x) → B
+pub not-both : {A B : Type 0} {n p : ℕ} {x : A} → _≡_ {A = Result A} (refuse n p) (accept x) → B
 not-both e = absurd (let z : _≡_ {A = ℕ} 0 1 = cc in omega arith)
 
 -- the first dead one is the first of the list, or of the rest

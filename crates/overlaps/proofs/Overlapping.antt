@@ -1,16 +1,15 @@
 -- The first of the listed terms that overlaps another (specs/Overlaps), from the i-th on: what one turn of the loop knows.
-use mathlib.Core.Path.{_≡_, sym, ap, _∙_}
+use mathlib.Core.Path.{_≡_, ap, _∙_}
 use mathlib.Core.Bool.{Bool, true, false, _||_}
 use mathlib.Core.List.{List, [], _∷_, _++_}
 use Prim.Native.Nat.{ℕ, zero, suc, _+_, _-_, _≤_, _<_}
 use native.Mathlib.Omega.{arith}
-use native.Mathlib.Numerals.{add-one}
 use lib.ListN.{length, getD, take, drop, length-drop}
-use lib.Seq.{take-all, take-suc, drop-cons}
+use lib.Seq.{take-all}
 use Rattle.cows.specs.Basics.{any}
 use Rattle.cows.proofs.Basics.{any-append}
 use Rattle.cows.proofs.Cut.{all-take}
-use Rattle.settling.proofs.Searching.{drop-end}
+use Rattle.settling.proofs.Searching.{drop-end, drop-here, take-here}
 use Rattle.overlaps.specs.Overlaps.{overlap, firstOverlap, AllBefore}
 
 -- one of the places, all of which stand before place n
@@ -30,23 +29,17 @@ module _ (ends ps : List ℕ) (i : ℕ) {p : ℕ} {x y : Bool} (h : firstOverlap
       any-append (overlap ends p) (take i ps) (drop (i + 1) ps)
       ∙ rw (told, told′, take-all (length ps - (i + 1)) (drop (i + 1) ps) (omega (arith, length-drop (i + 1) ps)))
 
-  here : drop i ps ≡ p ∷ drop (i + 1) ps
-  here = drop-cons ps i 0 l ∙ rw (at, add-one i)
-
-  so-far : take i ps ++ (p ∷ []) ≡ take (i + 1) ps
-  so-far = rw (add-one i) (sym (take-suc ps i 0 l ∙ rw at))
-
   pub overlap-stop : (x || y) ≡ true → i ≡ firstOverlap ends [] ps
   unfolding firstOverlap
   overlap-stop e =
-      let z : firstOverlap ends (take i ps) (drop i ps) ≡ 0 = ap (firstOverlap ends (take i ps)) here ∙ rw (others, e) in
+      let z : firstOverlap ends (take i ps) (drop i ps) ≡ 0 = ap (firstOverlap ends (take i ps)) (drop-here ps i l at) ∙ rw (others, e) in
       omega arith
 
   pub overlap-turn : (x || y) ≡ false → firstOverlap ends [] ps ≡ i + 1 + firstOverlap ends (take (i + 1) ps) (drop (i + 1) ps)
   unfolding firstOverlap
   overlap-turn e =
       let z : firstOverlap ends (take i ps) (drop i ps) ≡ suc (firstOverlap ends (take (i + 1) ps) (drop (i + 1) ps)) =
-      ap (firstOverlap ends (take i ps)) here ∙ rw (others, e, so-far) in
+      ap (firstOverlap ends (take i ps)) (drop-here ps i l at) ∙ rw (others, e, take-here ps i l at) in
       omega arith
 
 pub overlap-end : (ends ps : List ℕ) (i : ℕ) → firstOverlap ends [] ps ≡ i + firstOverlap ends (take i ps) (drop i ps) → i ≤ length ps → length ps ≤ i → i ≡ firstOverlap ends [] ps

@@ -1,13 +1,13 @@
 -- Laws of searching a list (specs/Searching), from its i-th place on: what one turn of a loop knows.
-use mathlib.Core.Path.{_≡_, sym, ap, _∙_}
+use mathlib.Core.Path.{_≡_, refl, sym, ap, _∙_}
 use mathlib.Core.Logic.{_≢_}
 use mathlib.Core.Bool.{Bool, true, false, _||_}
-use mathlib.Core.List.{List, []}
+use mathlib.Core.List.{List, [], _∷_, _++_}
 use Prim.Native.Nat.{ℕ, suc, _+_, _≤_, _<_}
 use native.Mathlib.Omega.{arith}
 use native.Mathlib.Numerals.{add-one}
-use lib.ListN.{length, getD, drop}
-use lib.Seq.{drop-cons, drop-length}
+use lib.ListN.{length, getD, take, drop}
+use lib.Seq.{take-suc, drop-cons, drop-length}
 use borrow.Author.Tests.{eq-eqb, ne-eqb}
 use Rattle.cows.specs.Basics.{any}
 use Rattle.settling.specs.Searching.{indexOf}
@@ -16,11 +16,19 @@ use Rattle.settling.specs.Searching.{indexOf}
 pub drop-end : (xs : List ℕ) (i : ℕ) → i ≤ length xs → length xs ≤ i → drop i xs ≡ []
 drop-end xs i l h = let e : i ≡ length xs = omega arith in rw e (drop-length xs)
 
+-- the i-th place, between those before it and those behind it
+module _ (xs : List ℕ) (i : ℕ) {a : ℕ} (l : i < length xs) (at : a ≡ getD xs i 0) where
+  pub drop-here : drop i xs ≡ a ∷ drop (i + 1) xs
+  drop-here = drop-cons xs i 0 l ∙ rw (at, add-one i)
+
+  pub take-here : take (i + 1) xs ≡ take i xs ++ (a ∷ [])
+  take-here = rw (add-one i) (take-suc xs i 0 l ∙ rw at)
+
 -- any of the places from i on
 module _ (f : ℕ → Bool) (xs : List ℕ) (i : ℕ) where
   any-here : i < length xs → any f (drop i xs) ≡ (f (getD xs i 0) || any f (drop (i + 1) xs))
   unfolding any
-  any-here l = ap (any f) (drop-cons xs i 0 l) ∙ rw (add-one i)
+  any-here l = ap (any f) (drop-here xs i l refl)
 
   pub any-stop : i < length xs → f (getD xs i 0) ≡ true → any f (drop i xs) ≡ true
   any-stop l h = any-here l ∙ rw h
@@ -37,13 +45,13 @@ module _ (p : ℕ) (xs : List ℕ) (i : ℕ) (h : indexOf p xs ≡ i + indexOf p
   pub index-stop : i < length xs → getD xs i 0 ≡ p → i ≡ indexOf p xs
   unfolding indexOf
   index-stop l e =
-      let z : indexOf p (drop i xs) ≡ 0 = ap (indexOf p) (drop-cons xs i 0 l) ∙ rw (eq-eqb p (getD xs i 0) (sym e)) in
+      let z : indexOf p (drop i xs) ≡ 0 = ap (indexOf p) (drop-here xs i l refl) ∙ rw (eq-eqb p (getD xs i 0) (sym e)) in
       omega arith
 
   pub index-turn : i < length xs → getD xs i 0 ≢ p → indexOf p xs ≡ i + 1 + indexOf p (drop (i + 1) xs)
   unfolding indexOf
   index-turn l e =
-      let z : indexOf p (drop i xs) ≡ suc (indexOf p (drop (i + 1) xs)) = ap (indexOf p) (drop-cons xs i 0 l) ∙ rw (ne-eqb p (getD xs i 0) (λ x. e (sym x)), add-one i) in
+      let z : indexOf p (drop i xs) ≡ suc (indexOf p (drop (i + 1) xs)) = ap (indexOf p) (drop-here xs i l refl) ∙ rw (ne-eqb p (getD xs i 0) (λ x. e (sym x))) in
       omega arith
 
   pub index-end : i ≤ length xs → length xs ≤ i → i ≡ indexOf p xs

@@ -5,9 +5,7 @@ use Prim.Native.Nat.{ℕ, _+_, _-_, _≤_, _<_}
 use native.Mathlib.Omega.{arith}
 use native.Mathlib.Numerals.{add-one}
 use lib.ListN.{length, getD, take, drop, set}
-use lib.Seq.{take-length, lt-length-set, take-suc, drop-cons, getD-set-same, take-set-le}
-use types.Run.{OneOf}
-use denote.Enum.Declared.{tagOf}
+use lib.Seq.{take-length, lt-length-set, take-suc, getD-set-same, take-set-le}
 use Rattle.cows.specs.Terms.{Term, size}
 use Rattle.cows.specs.Moves.{killAt}
 use Rattle.cows.specs.Within.{Within}
@@ -18,12 +16,11 @@ use Rattle.joint.proofs.Listing.{live-next, dead-here}
 use Rattle.plans.specs.declared.Judgement.the-variants.{Allowed}
 use Rattle.plans.specs.declared.Plan.{Plan}
 use Rattle.plans.specs.Plans.{Planned}
-use Rattle.plans.proofs.Judgement.{the-type}
 use Rattle.kill.specs.Killing.{killScope}
-use Rattle.settling.proofs.Searching.{drop-end}
+use Rattle.settling.proofs.Searching.{drop-end, drop-here, take-here}
 use Rattle.stopper.specs.declared.gathering.Gathered.the-variants.{Absent, Gone}
 use Rattle.stopper.specs.Gathering.{Gathers}
-use Rattle.stopper.proofs.Planned.{scope-there, allowed-live, allowed-left, allowed-from, else-dead}
+use Rattle.stopper.proofs.Planned.{NotAllowed, scope-there, allowed-live, allowed-left, allowed-from, else-dead}
 
 -- The first i kills are live, their scopes are at hand, and what they take away is counted.
 pub record Gathering (t : Term) (ps scopes : List ℕ) (i gone : ℕ) : Type 0 where
@@ -37,12 +34,6 @@ gathering-start t ps scopes = record { live-so = refl; scopes-so = refl; gone-so
 -- the i-th kill is at place a, and r is the plan of its move
 module _ {t : Term} {ps scopes : List ℕ} {i gone a : ℕ} {r : Plan} (w : Within t) (h : Gathering t ps scopes i gone) (l : i < length ps) (at : a ≡ getD ps i 0)
     (q : Planned (killAt t a) (killScope t a) r) where
-  here : drop i ps ≡ a ∷ drop (i + 1) ps
-  here = drop-cons ps i 0 l ∙ rw (at, add-one i)
-
-  so-far : take (i + 1) ps ≡ take i ps ++ (a ∷ [])
-  so-far = rw (add-one i) (take-suc ps i 0 l ∙ rw at)
-
   -- it is live
   module _ (left : ℕ) (e : r .judgement ≡ Allowed left) (n : ℕ) (whole : n ≡ size t) where
     pub from-fits : r .from < size t
@@ -59,15 +50,15 @@ module _ {t : Term} {ps scopes : List ℕ} {i gone a : ℕ} {r : Plan} (w : With
 
     pub gathering-turn : i < length scopes → Gathering t ps (set scopes i (r .from)) (i + 1) (gone + (n - left))
     gathering-turn k = record {
-      live-so = h .live-so ∙ (ap (allLive t) here ∙ live-next t a (drop (i + 1) ps) (allowed-live t w a q left e));
-      scopes-so = scopes-next k ∙ (rw (h .scopes-so) (sym (map-append (killScope t) (take i ps) (a ∷ []))) ∙ ap (map (killScope t)) (sym so-far));
-      gone-so = omega (arith, h .gone-so, ap (goneByAll t) here, allowed-left t w a q left e);
+      live-so = h .live-so ∙ (ap (allLive t) (drop-here ps i l at) ∙ live-next t a (drop (i + 1) ps) (allowed-live t w a q left e));
+      scopes-so = scopes-next k ∙ (rw (h .scopes-so) (sym (map-append (killScope t) (take i ps) (a ∷ []))) ∙ ap (map (killScope t)) (sym (take-here ps i l at)));
+      gone-so = omega (arith, h .gone-so, ap (goneByAll t) (drop-here ps i l at), allowed-left t w a q left e);
     }
 
   -- it is not
-  pub gathers-absent : OneOf (1 ∷ 2 ∷ 3 ∷ 4 ∷ 5 ∷ 6 ∷ 7 ∷ 8 ∷ 9 ∷ 10 ∷ []) (tagOf the-type (r .judgement)) → Gathers t ps scopes (Absent a)
+  pub gathers-absent : NotAllowed (r .judgement) → Gathers t ps scopes (Absent a)
   gathers-absent k = record {
-    absent = λ b e. let z : a ≡ b = cc in rw (← z) (h .live-so ∙ (ap (allLive t) here ∙ dead-here t a (drop (i + 1) ps) (else-dead t w a q k)));
+    absent = λ b e. let z : a ≡ b = cc in rw (← z) (h .live-so ∙ (ap (allLive t) (drop-here ps i l at) ∙ dead-here t a (drop (i + 1) ps) (else-dead t w a q k)));
     all-live = λ g e. absurd (let z : _≡_ {A = ℕ} 0 1 = cc in omega arith);
     scopes-are = λ g e. absurd (let z : _≡_ {A = ℕ} 0 1 = cc in omega arith);
     gone-are = λ g e. absurd (let z : _≡_ {A = ℕ} 0 1 = cc in omega arith);

@@ -1,12 +1,12 @@
 -- The plan of a single kill (crate kill) tells whether it is live, where its scope stands, and how many records it takes away.
 use mathlib.Core.Path.{_≡_, refl, sym, ap, subst, _∙_}
 use mathlib.Core.Logic.{⊎-elim}
-use mathlib.Core.List.{[], _∷_}
+use mathlib.Core.List.{List, [], _∷_}
 use Prim.Native.Nat.{ℕ}
 use native.Mathlib.Omega.{arith}
 use types.Run.{OneOf, miss}
 use denote.Enum.Declared.{tagOf}
-use Rattle.cows.specs.Basics.{placeIf, Result, refuse, accept, _>>=_, _>>_, forbid}
+use Rattle.cows.specs.Basics.{placeIf, refuse, accept, _>>=_, _>>_, forbid}
 use Rattle.cows.specs.Terms.{Term, size, kills, below}
 use Rattle.cows.specs.Places.{wayTo, sub}
 use Rattle.cows.specs.Active.{wanted}
@@ -18,7 +18,7 @@ use Rattle.joint.specs.Listed.{LiveKill, HasScope}
 use Rattle.joint.proofs.Stops.{live-label}
 use Rattle.joint.proofs.Judging.{kill-wanted}
 use Rattle.joint.proofs.Pruning.{smaller-kill}
-use Rattle.joint.proofs.Listing.{live-or}
+use Rattle.joint.proofs.Listing.{not-both, live-or}
 use Rattle.ways.proofs.Starts.{scope-at}
 use Rattle.plans.specs.declared.Judgement.{Judgement}
 use Rattle.plans.specs.declared.Judgement.the-variants.{Allowed, Unread, Absent, Differs, Apart, Held, Looser, Unripe, Timeless, Stuck, Large}
@@ -29,22 +29,26 @@ use Rattle.plans.proofs.Planning.{within-limits}
 use Rattle.kill.specs.Killing.{killScope}
 use Rattle.kill.proofs.Left.{has-scope, scope-place}
 
-not-refused : {A : Type 0} {n p m : ℕ} → _≡_ {A = Result ℕ} (refuse n p) (accept m) → A
-not-refused e = absurd (let z : _≡_ {A = ℕ} 0 1 = cc in omega arith)
-
 -- what is allowed has a number of records
 accepted-allowed : (j : Judgement) (n : ℕ) → resultOf j ≡ accept n → j ≡ Allowed n
 accepted-allowed (Allowed m) n e = ap Allowed (same-accept e)
-accepted-allowed Unread n e = not-refused e
-accepted-allowed (Absent p) n e = not-refused e
-accepted-allowed (Differs p) n e = not-refused e
-accepted-allowed (Apart p) n e = not-refused e
-accepted-allowed (Held p) n e = not-refused e
-accepted-allowed (Looser p) n e = not-refused e
-accepted-allowed (Unripe p) n e = not-refused e
-accepted-allowed Timeless n e = not-refused e
-accepted-allowed (Stuck p) n e = not-refused e
-accepted-allowed Large n e = not-refused e
+accepted-allowed Unread n e = not-both e
+accepted-allowed (Absent p) n e = not-both e
+accepted-allowed (Differs p) n e = not-both e
+accepted-allowed (Apart p) n e = not-both e
+accepted-allowed (Held p) n e = not-both e
+accepted-allowed (Looser p) n e = not-both e
+accepted-allowed (Unripe p) n e = not-both e
+accepted-allowed Timeless n e = not-both e
+accepted-allowed (Stuck p) n e = not-both e
+accepted-allowed Large n e = not-both e
+
+-- a judgement that the code has told to be none that allows
+abbrev refusals : List ℕ
+refusals = 1 ∷ 2 ∷ 3 ∷ 4 ∷ 5 ∷ 6 ∷ 7 ∷ 8 ∷ 9 ∷ 10 ∷ []
+
+abbrev pub NotAllowed : Judgement → Type 0
+NotAllowed j = OneOf refusals (tagOf the-type j)
 
 module _ (t : Term) (w : Within t) (a : ℕ) where
   -- the single move
@@ -72,7 +76,7 @@ module _ (t : Term) (w : Within t) (a : ℕ) where
 
   module _ {r : Plan} (h : Planned (killAt t a) (killScope t a) r) where
     pub allowed-live : (left : ℕ) → r .judgement ≡ Allowed left → LiveKill t a
-    allowed-live left e = ⊎-elim (λ l. l) (λ d. not-refused (sym (limited-dead d) ∙ (sym (h .judged) ∙ ap resultOf e))) (live-or t a)
+    allowed-live left e = ⊎-elim (λ l. l) (λ d. not-both (sym (limited-dead d) ∙ (sym (h .judged) ∙ ap resultOf e))) (live-or t a)
 
     pub allowed-left : (left : ℕ) → r .judgement ≡ Allowed left → left ≡ size (afterKill (labelAt t a) t a)
     allowed-left left e = same-accept (sym (ap resultOf e) ∙ (h .judged ∙ limited-live (allowed-live left e)))
@@ -80,9 +84,6 @@ module _ (t : Term) (w : Within t) (a : ℕ) where
     pub allowed-from : (left : ℕ) → r .judgement ≡ Allowed left → r .from ≡ killScope t a
     allowed-from left e = h .place-is _ (fires (allowed-live left e))
 
-    pub else-dead : OneOf (1 ∷ 2 ∷ 3 ∷ 4 ∷ 5 ∷ 6 ∷ 7 ∷ 8 ∷ 9 ∷ 10 ∷ []) (tagOf the-type (r .judgement)) → wanted kills t a ≡ refuse 11 a
+    pub else-dead : NotAllowed (r .judgement) → wanted kills t a ≡ refuse 11 a
     else-dead k =
-        ⊎-elim
-        (λ l. let e = accepted-allowed (r .judgement) _ (h .judged ∙ limited-live l) in
-        absurd (miss (1 ∷ 2 ∷ 3 ∷ 4 ∷ 5 ∷ 6 ∷ 7 ∷ 8 ∷ 9 ∷ 10 ∷ []) 0 tt (subst (λ j. OneOf (1 ∷ 2 ∷ 3 ∷ 4 ∷ 5 ∷ 6 ∷ 7 ∷ 8 ∷ 9 ∷ 10 ∷ []) (tagOf the-type j)) e k)))
-        (λ d. d) (live-or t a)
+        ⊎-elim (λ l. absurd (miss refusals 0 tt (subst NotAllowed (accepted-allowed (r .judgement) _ (h .judged ∙ limited-live l)) k))) (λ d. d) (live-or t a)

@@ -4,6 +4,7 @@ use records::wide16;
 ghost use Prim.Native.Nat.{_≤_};
 ghost use lib.ListN.{length};
 ghost use Rattle.cows.specs.Terms.{Term};
+ghost use Rattle.joint.specs.Joint.{maxKills};
 ghost use Rattle.ways.specs.Known.{Table, Known};
 ghost use Rattle.stopper.specs.Gathering.{Gathers};
 
@@ -15,7 +16,7 @@ pub enum Gathered {
 
 // Each kill is judged as a single one; the place of its scope goes to the same index of `scopes`.
 pub fn gather(s: &[u8], ends: &[u16], kills: &[u16], scopes: &mut [u16]) -> Gathered
-    requires { ⌜ Known (now s) (now ends) × (length (now kills) ≤ 8) × (length (now kills) ≤ length (now scopes)) ⌝ }
+    requires { ⌜ Known (now s) (now ends) × (length (now kills) ≤ maxKills) × (length (now kills) ≤ length (now scopes)) ⌝ }
     ensures { λ r. ⌜ ((t : Term) → Table (now (s .entry)) (now (ends .entry)) t → Gathers t (now (kills .entry)) (now (scopes .exit)) r) ⌝ }
 {
     let mut gone = 0;
