@@ -159,10 +159,22 @@ pub fn image(t: Takes, x: Variable, other: Atom) -> Atom
     other
 }
 
-// Kinds 3 and up have a child, 5 and 6 one more.
+// How many children a kind has: one case for each, in the order of document 01's table (Records). Beside it stands its form in source document 001's syntax
+// (Table 1), whose s and g are the children. A kind from 10 on is unknown, and counts as in the definition (cows, specs/Kinds).
 pub fn children(kind: u8) -> usize
     ensures { λ r. ⌜ (r ≡ childrenOf kind) × (r ≤ 2) ⌝ }
 {
-    (kinds::RECEIVE <= kind) as usize
-        + ((kind == kinds::CHOICE) | (kind == kinds::PARALLEL)) as usize
+    match kind {
+        kinds::NIL => 0, // 0
+        kinds::KILL => 0, // kill(k)
+        kinds::INVOKE => 0, // u·u'!e
+        kinds::RECEIVE => 1, // p·o?w.s
+        kinds::WAIT => 1, // ⊖e.s
+        kinds::CHOICE => 2, // g + g
+        kinds::PARALLEL => 2, // s | s
+        kinds::PROTECTION => 1, // ⟦s⟧
+        kinds::DELIMITATION => 1, // [d]s
+        kinds::REPLICATION => 1, // *s
+        _ => 1,
+    }
 }
