@@ -1,24 +1,23 @@
 -- Communicate (specs/Moves, communicateAt) as it is judged (specs/Judging): the parties, each refusal in its order, and the plan of a meeting that is allowed.
 use mathlib.Core.Path.{_≡_, refl, sym, ap, _∙_}
-use mathlib.Core.Bool.{true, false, _&&_}
+use mathlib.Core.Bool.{true, false}
 use mathlib.Core.Option.{none, some}
 use mathlib.Core.List.{List}
 use Prim.Native.Nat.{ℕ, _+_, _-_, _/_, _<_}
 use native.Mathlib.Omega.{arith}
-use lib.Dec.{ltb, eqb}
 use lib.ListN.{length, getD}
 use Rattle.cows.specs.Basics.{every, placeIf, refuse, accept, _>>=_, _>>_, forbid}
 use Rattle.cows.specs.Terms.{Term, leaf, under, Action, size, prefixed, receives, invokes, below, receiveOf, invokeOf}
 use Rattle.cows.specs.Kinds.{root, kindOf}
 use Rattle.cows.specs.Places.{wayTo, sub, first}
 use Rattle.cows.specs.Format.{byte, layout, record16}
-use Rattle.cows.specs.Active.{live, wanted}
+use Rattle.cows.specs.Active.{wanted}
 use Rattle.cows.specs.Moves.{Substitution, Matching, binds, differs, closedAction, fit, mismatchNumber, matched, inScope, heldBack, tighter, silence, continue, bind, communicateAt}
 use Rattle.cows.proofs.Meeting.{fit-fits}
 use Rattle.cows.proofs.Stands.{looks, invokes-is, prefixed-is, live-wanted}
-use Rattle.ways.specs.Known.{Table, Known}
-use Rattle.ways.specs.Ways.{startOf, LiveAt, Walk}
-use Rattle.ways.proofs.KnownTables.{table-size, table-ended, live-inside, walk-known}
+use Rattle.ways.specs.Known.{Table}
+use Rattle.ways.specs.Ways.{startOf, liveThere, LiveAt}
+use Rattle.ways.proofs.KnownTables.{table-size, table-ended}
 use Rattle.matching.specs.declared.Difference.{Difference}
 use Rattle.matching.specs.declared.Fit.{Fit}
 use Rattle.matching.specs.declared.Fit.the-variants.{Binds, Differs}
@@ -43,30 +42,30 @@ kind-of-invoke : (s : Term) (m : Action) → invokes s ≡ some m → kindOf s �
 unfolding kindOf root record16 layout byte
 kind-of-invoke s m e = ap kindOf (invokes-is s m e)
 
-pub no-receive : (t : Term) (a b : ℕ) → (ltb a (size t) && live (wayTo t a) && eqb (kindOf (sub t a)) 3) ≡ false → communicateAt t a b ≡ refuse 11 a
+pub no-receive : (t : Term) (a b : ℕ) → liveThere t a 3 ≡ false → communicateAt t a b ≡ refuse 11 a
 unfolding communicateAt _>>=_
 no-receive t a b h = rw (absent (prefixed receives) 3 kind-of-receive t a h)
 
 -- The receive.
-module _ {s receiver : List ℕ} {t : Term} {a k : ℕ} (h : LiveAt s receiver a 3 t k) where
+module _ {s : List ℕ} {t : Term} {a : ℕ} (h : LiveAt s t a 3) where
   pub receiving : (q : Action) × (sub t a ≡ under (receiveOf q) (below (sub t a))) × ActionAt s a q
-  receiving = receive-here s t a (h .walks .holds) (h .walks .inside) (h .kind-is)
+  receiving = receive-here s t a (h .holds) (h .inside) (h .kind-is)
 
   receive-wanted : wanted (prefixed receives) t a ≡ accept (receiving .0)
   unfolding prefixed receives
-  receive-wanted = live-wanted (prefixed receives) t a _ _ refl (record { at = record { placed = h .walks .inside; stands = receiving .1 }; live = h .live })
+  receive-wanted = live-wanted (prefixed receives) t a _ _ refl (record { at = record { placed = h .inside; stands = receiving .1 }; live = h .live })
 
-  pub no-invoke : (b : ℕ) → (ltb b (size t) && live (wayTo t b) && eqb (kindOf (sub t b)) 2) ≡ false → communicateAt t a b ≡ refuse 11 b
+  pub no-invoke : (b : ℕ) → liveThere t b 2 ≡ false → communicateAt t a b ≡ refuse 11 b
   unfolding communicateAt _>>=_
   no-invoke b e = rw (receive-wanted, absent invokes 2 kind-of-invoke t b e)
 
 -- The receive q at place a and the invoke m at place b.
-module _ {s ends : List ℕ} {t : Term} {a b : ℕ} {receiver : List ℕ} {k : ℕ} {sender : List ℕ} {n : ℕ} (z : Table s ends t) (h : BothLive s a b receiver k sender n t) where
+module _ {s ends : List ℕ} {t : Term} {a b : ℕ} (z : Table s ends t) (h : BothLive s a b t) where
   abbrev receive : (q : Action) × (sub t a ≡ under (receiveOf q) (below (sub t a))) × ActionAt s a q
   receive = receiving (h .receive)
 
   pub invoke : (m : Action) × (sub t b ≡ leaf (invokeOf m)) × ActionAt s b m
-  invoke = invoke-here s t b (h .invoke .walks .holds) (h .invoke .walks .inside) (h .invoke .kind-is)
+  invoke = invoke-here s t b (h .invoke .holds) (h .invoke .inside) (h .invoke .kind-is)
 
   abbrev pub q : Action
   q = receive .0
@@ -76,7 +75,7 @@ module _ {s ends : List ℕ} {t : Term} {a b : ℕ} {receiver : List ℕ} {k : �
 
   invoke-wanted : wanted invokes t b ≡ accept m
   unfolding invokes
-  invoke-wanted = live-wanted invokes t b m _ refl (record { at = record { placed = h .invoke .walks .inside; stands = invoke .1 }; live = h .invoke .live })
+  invoke-wanted = live-wanted invokes t b m _ refl (record { at = record { placed = h .invoke .inside; stands = invoke .1 }; live = h .invoke .live })
 
   pub ends-b : ActionAt s b m
   ends-b = invoke .2
@@ -104,11 +103,8 @@ module _ {s ends : List ℕ} {t : Term} {a b : ℕ} {receiver : List ℕ} {k : �
     abbrev pub σ : Substitution
     σ = pairs .0
 
-    pub meets : scopes.MatchedParties s a b receiver k sender n t σ
+    pub meets : scopes.MatchedParties a b t σ
     meets = record {
-      within = z .within;
-      to-receiver = h .receive .walks;
-      to-sender = h .invoke .walks;
       receive = q;
       invoke = m;
       receives = receive .1;
@@ -142,28 +138,20 @@ module _ {s ends : List ℕ} {t : Term} {a b : ℕ} {receiver : List ℕ} {k : �
         pub may-meet : first (tighter m l) t ≡ none → Meetable t a b l
         may-meet v =
             let p : Matched t a b q m σ =
-            record { receiver = h .receive .walks .inside; receives = receive .1; sender = h .invoke .walks .inside; invokes = invoke .1; fits = pairs .1; scopes = y } in
+            record { receiver = h .receive .inside; receives = receive .1; sender = h .invoke .inside; invokes = invoke .1; fits = pairs .1; scopes = y } in
             record { after = bind σ (continue (silence t b) a); accepted = met v; count = omega (arith, left t a b q m σ (z .within) p .count, pairs .2) }
 
--- Both parties are in the table, and the ways to them may be walked.
-pub faces : {s ends : List ℕ} {a b : ℕ} {receiver : List ℕ} {k : ℕ} {sender : List ℕ} {n : ℕ} (q : Known s ends) → BothLive s a b receiver k sender n (q .term)
-    → length receiver ≡ 256 → length sender ≡ 256 → Known s ends × Walk s receiver k × Walk s sender n × (a < length s / 16) × (b < length s / 16)
-faces q h l m =
-    let x = h .receive in
-    let y = h .invoke in
-    (q, walk-known _ _ q _ _ _ l (x .walks), walk-known _ _ q _ _ _ m (y .walks), live-inside _ _ _ q _ _ _ x, live-inside _ _ _ q _ _ _ y)
-
 -- The plan of a meeting that is allowed.
-module _ {s ends : List ℕ} {t : Term} {receiver : List ℕ} {a k from : ℕ} (z : Table s ends t) (h : LiveAt s receiver a 3 t k) (f : from ≡ startOf a (wayTo t a)) where
+module _ {s ends : List ℕ} {t : Term} {a from : ℕ} (z : Table s ends t) (h : LiveAt s t a 3) (f : from ≡ startOf a (wayTo t a)) where
   pub receive-span : Span ends (length s / 16) a from
-  receive-span = let r = receiving h in span s ends t z a (receiveOf (r .0)) (h .walks .inside) (r .1) from f
+  receive-span = let r = receiving h in span s ends t z a (receiveOf (r .0)) (h .inside) (r .1) from f
 
   module _ {b l : ℕ} (m : Meetable t a b l) where
     pub records-left : length s / 16 - (getD ends from 0 - from) + (getD ends a 0 - a - 1) ≡ size (m .after) + l
     records-left =
         let w = table-size s ends t z in
         let i : from < size t = omega (arith, receive-span) in
-        omega (arith, m .count, ap (λ c. size (sub t c)) f, table-ended s ends t z a (h .walks .inside), table-ended s ends t z from i, receive-span)
+        omega (arith, m .count, ap (λ c. size (sub t c)) f, table-ended s ends t z a (h .inside), table-ended s ends t z from i, receive-span)
 
     pub meeting-planned : (r : Plan) (i j : ℕ) → r .judgement ≡ Allowed i → i ≡ j - l → j ≡ length s / 16 - (getD ends from 0 - from) + (getD ends a 0 - a - 1) → r .from ≡ from
         → Planned (communicateAt t a b) (startOf a (wayTo t a)) r

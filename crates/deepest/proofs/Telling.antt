@@ -19,7 +19,7 @@ use Rattle.cows.proofs.Format.{length-nodes}
 use Rattle.cows.proofs.Ways.{length-ahead, above-at}
 use Rattle.records.proofs.StandsIn.{holds-kind}
 use Rattle.ways.specs.Known.{Table, Known}
-use Rattle.ways.proofs.Climbing.{way-short}
+use Rattle.ways.proofs.KnownTables.{way-short}
 use Rattle.ways.proofs.KnownTables.{table-size, table-ended, table-inside}
 use Rattle.deepest.specs.Deepest.{Heights, sideOf, ParentBelow, TellsPlaces, Told, Telling}
 use Rattle.deepest.proofs.Heights.{known-standing, height-at, first-place, both-places}

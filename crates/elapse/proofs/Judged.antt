@@ -1,19 +1,17 @@
 -- Elapse (specs/Moves, elapseBy) as it is judged and written.
-use mathlib.Core.Path.{_≡_, sym, ap, _∙_}
+use mathlib.Core.Path.{_≡_, refl, sym, ap, ap₂, _∙_}
 use mathlib.Core.Logic.{_≢_}
-use mathlib.Core.List.{List}
-use Prim.Native.Nat.{ℕ, _/_}
+use mathlib.Core.List.{List, _++_}
+use Prim.Native.Nat.{ℕ, _+_, _*_, _/_, _≤_}
 use native.Mathlib.Omega.{arith}
-use lib.ListN.{length}
+use lib.ListN.{length, take, drop}
+use lib.Seq.{sets-eq, take-all, drop-at}
 use Rattle.cows.specs.Terms.{Term, size}
 use Rattle.cows.specs.Format.{encode}
 use Rattle.cows.specs.Moves.{elapse, elapseBy}
 use Rattle.cows.proofs.Format.{length-encode}
 use Rattle.cows.proofs.Recordwise.{of-size, of-depth, elapse-keeps, some-time, time-gives}
-use Rattle.records.specs.Rewrites.{put, StandsIn, Rewritable, Rewrites}
-use Rattle.records.proofs.StandsIn.{whole-stands}
-use Rattle.records.proofs.Rewrites.{ready}
-use Rattle.rewriting.specs.Aligned.{Aligned}
+use Rattle.records.specs.Rewrites.{put}
 use Rattle.ways.specs.Known.{Table}
 use Rattle.ways.proofs.KnownTables.{table-size}
 use Rattle.plans.specs.declared.Judgement.the-variants.{Allowed}
@@ -28,6 +26,11 @@ elapse-planned t d some s ends h r j q =
     (within-limits (elapse d t) (omega (arith, elapse-keeps of-size d t, h .within .small)) (omega (arith, elapse-keeps of-depth d t, h .within .shallow)))
     (table-size s ends t h ∙ sym (elapse-keeps of-size d t)) q
 
+-- bytes from the output's start on
+put-first : (out bs : List ℕ) → length bs ≤ length out → put out 0 bs ≡ bs ++ drop (length bs) out
+unfolding put
+put-first out bs h = sets-eq bs out 0 (omega arith) ∙ ap (λ n. bs ++ drop n out) (let z : 0 + length bs ≡ length bs = omega arith in z)
+
 -- what writing an allowed move asks and gives
 module _ (s ends : List ℕ) (d : ℕ) (out : List ℕ) (q : Asks (λ t. elapseBy t d) (λ t. 0) s ends 0 out) where
   abbrev t : Term
@@ -36,14 +39,22 @@ module _ (s ends : List ℕ) (d : ℕ) (out : List ℕ) (q : Asks (λ t. elapseB
   elapsed : elapse d t ≡ q .successor
   elapsed = time-gives t (q .successor) d (q .accepted) .1
 
-  root-stands : StandsIn s 0 t
-  root-stands = whole-stands t (q .known .table .holds .is)
+  as-long : length (encode (q .successor)) ≡ length s
+  as-long = omega (arith, length-encode (q .successor), ap size elapsed, elapse-keeps of-size d t, table-size s ends t (q .known .table), q .known .whole)
 
-  pub elapse-asks : Rewritable (elapse d) s 0 out 0 × Aligned s ends 0
-  elapse-asks = (
-    ready t root-stands (omega (arith, length-encode (elapse d t), ap size elapsed, q .room)),
-    record { from = q .known .table .end; whole = omega arith },
-  )
+  pub room : length s ≤ length out
+  room = omega (arith, as-long, length-encode (q .successor), q .room)
 
-  pub gives-elapsed : {after : List ℕ} {p r : ℕ} → Rewrites (elapse d) s 0 out 0 after p r → after ≡ put out 0 (encode (q .successor))
-  gives-elapsed w = w .done t root-stands .bytes ∙ ap (λ x. put out 0 (encode x)) elapsed
+  -- the table, copied
+  module _ {copied : List ℕ} (e : copied ≡ put out 0 (take (16 * (length s / 16)) (drop 0 s))) where
+    as-put : copied ≡ s ++ drop (length s) out
+    as-put = e ∙ (ap (put out 0) (take-all (16 * (length s / 16)) s (omega (arith, q .known .whole))) ∙ put-first out s room)
+
+    behind-kept : drop (length s) copied ≡ drop (length s) out
+    behind-kept = ap (drop (length s)) as-put ∙ drop-at s (drop (length s) out) (length s) refl
+
+    pub stands-copied : copied ≡ s ++ drop (length s) copied
+    stands-copied = as-put ∙ ap (λ x. s ++ x) (sym behind-kept)
+
+    pub gives-elapsed : {after : List ℕ} → after ≡ encode (elapse d t) ++ drop (length s) copied → after ≡ put out 0 (encode (q .successor))
+    gives-elapsed h = h ∙ (ap₂ _++_ (ap encode elapsed) (behind-kept ∙ ap (λ n. drop n out) (sym as-long)) ∙ sym (put-first out (encode (q .successor)) (omega (arith, as-long, room))))

@@ -2,9 +2,14 @@
 use plans::Judgement;
 use plans::Plan;
 use plans::refused;
-use rewriting::elapsing::elapse_at;
+use records::copying::copy;
+use records::copying::put_word;
+use records::kinds;
+use records::wide16;
+use records::word_at;
+ghost use mathlib.Core.Path.{_≡_};
 ghost use mathlib.Core.List.{List};
-ghost use Prim.Native.Nat.{ℕ};
+ghost use Prim.Native.Nat.{ℕ, _-_};
 ghost use Rattle.cows.specs.Terms.{Term};
 ghost use Rattle.cows.specs.Moves.{elapseBy};
 ghost use Rattle.ways.specs.Known.{Table};
@@ -23,10 +28,40 @@ pub fn judge(s: &[u8], d: u16) -> Plan
     }
 }
 
-// Its successor: the table with its live waits lowered.
+// An interval lowered by d, to 0 at least.
+fn lower(n: u16, d: u16) -> u16
+    ensures { λ r. ⌜ r ≡ n - d ⌝ }
+{
+    if n < d {
+        return 0;
+    }
+    n - d
+}
+
+// Its successor: the table as it is, and then each live wait lowered, in one walk. What stands behind a receive or a wait, or in a replication, is passed by.
 pub fn write(s: &[u8], ends: &[u16], d: u16, out: &mut [u8])
     requires { ⌜ Asks (λ t. elapseBy t d) (λ t. 0) (now s) (now ends) 0 (now out) ⌝ }
     ensures { λ _. ⌜ Gives (λ t. elapseBy t d) (now (s .entry)) (now (ends .entry)) (now (out .entry)) (now (out .exit)) ⌝ }
 {
-    elapse_at(s, ends, 0, d, out, 0);
+    let n = s.len() / 16;
+    copy(s, 0, 16 * n, out, 0);
+    let mut p = 0;
+    while p < n {
+        let kind = s[16 * p];
+        let next = wide16(ends[p]);
+        if kind < kinds::WAIT {
+            p = next;
+            continue;
+        }
+        if kind == kinds::WAIT {
+            put_word(lower(word_at(s, 16 * p + 14), d), out, 16 * p + 14);
+            p = next;
+            continue;
+        }
+        if kind == kinds::REPLICATION {
+            p = next;
+            continue;
+        }
+        p += 1;
+    }
 }

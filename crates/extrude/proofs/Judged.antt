@@ -1,7 +1,7 @@
 -- Extrude (specs/Moves, extrudeAt) as it is judged and written.
 use mathlib.Core.Path.{_≡_, refl, sym, ap, subst, _∙_}
 use mathlib.Core.Logic.{_≢_}
-use mathlib.Core.Bool.{true, false, not, _&&_, _||_}
+use mathlib.Core.Bool.{true, false, not, _||_}
 use mathlib.Core.Option.{some}
 use mathlib.Core.List.{List, [], _∷_, _++_, append-assoc}
 use Prim.Native.Nat.{ℕ, suc, _+_, _*_, _-_, _/_, _≤_, _<_, max}
@@ -15,7 +15,7 @@ use Rattle.cows.specs.Terms.{Prefix, receive, wait, protection, delimitation, r
 use Rattle.cows.specs.Kinds.{prefix, root, kindOf, floatsOver, open-kinds}
 use Rattle.cows.specs.Places.{Frame, inside, leftOf, rightOf, plug, Way, fill, wayTo, sub}
 use Rattle.cows.specs.Format.{byte, word, layout, record16, bytes, encode}
-use Rattle.cows.specs.Active.{live, wanted, onKind}
+use Rattle.cows.specs.Active.{wanted, onKind}
 use Rattle.cows.specs.Moves.{fitting, exchange, afterExtrude, extrudeAt}
 use Rattle.cows.specs.Step.{overLimits}
 use Rattle.cows.proofs.Rows.{length-record16, plug-kind}
@@ -29,7 +29,7 @@ use Rattle.cows.proofs.Ways.{length-ahead, take-ahead, drop-here, encode-plug, 
 use Rattle.records.specs.Rewrites.{StandsIn}
 use Rattle.records.proofs.StandsIn.{encode-under, holds-kind, holds-word, holds-stands}
 use Rattle.ways.specs.Known.{Table}
-use Rattle.ways.specs.Ways.{OnWay, LiveAt}
+use Rattle.ways.specs.Ways.{liveThere, LiveAt, parentOf}
 use Rattle.ways.specs.Depths.{Standing}
 use Rattle.ways.proofs.KnownTables.{table-size, table-ended}
 use Rattle.ways.proofs.Deep.{standing}
@@ -39,7 +39,7 @@ use Rattle.cows.proofs.Sets.{in-values, in-variables, in-labels, value-range, v
 use Rattle.records.specs.Atoms.{classOf}
 use Rattle.plans.specs.declared.Plan.{Plan}
 use Rattle.plans.specs.Plans.{resultOf, limited, Planned, Asks}
-use Rattle.extrude.specs.Extruding.{isLabel, besideOf, parentOf, liftAt, Lifting, Liftable, Lifts, lifted}
+use Rattle.extrude.specs.Extruding.{isLabel, besideOf, liftAt, Lifting, Liftable, Lifts, lifted}
 use Rattle.plans.proofs.Planning.{within-limits, absent}
 use Rattle.plans.proofs.Joining.{length-part}
 
@@ -76,20 +76,19 @@ pub record Sibling (t : Term) (q : ℕ) (f : Frame) : Type 0 where
 -- The delimitation and the record above it.
 module _ (s ends : List ℕ) (a p k : ℕ) (t : Term) (d : ℕ) (h : Lifting s ends a p k t d) where
   abbrev f : Frame
-  f = h .above .frame
+  f = h .frame
 
   abbrev w : Way
-  w = h .above .rest
+  w = h .rest
 
   abbrev body : Term
   body = below (sub t a)
 
   pub way-is : wayTo t a ≡ f ∷ w
-  way-is = h .above .way
+  way-is = h .way
 
   at : At t p w (plug f (sub t a))
-  unfolding fill
-  at = h .above .at
+  at = h .above
 
   place : length (ahead w) ≡ p
   place = ap (λ y. length (ahead y)) (sym (at .2)) ∙ length-ahead t p (at .0)
@@ -226,12 +225,16 @@ kind-of-delimitation : (s : Term) (d : ℕ) → prefixed delimits s ≡ some d �
 unfolding kindOf root
 kind-of-delimitation s d e = ap kindOf (prefixed-is delimits delimitation (λ u. looks u .delimiting) s d e)
 
-pub no-delimitation : (t : Term) (a : ℕ) → (ltb a (size t) && live (wayTo t a) && eqb (kindOf (sub t a)) 8) ≡ false → extrudeAt t a ≡ refuse 11 a
+pub no-delimitation : (t : Term) (a : ℕ) → liveThere t a 8 ≡ false → extrudeAt t a ≡ refuse 11 a
 unfolding extrudeAt _>>=_
 no-delimitation t a h = rw (absent (prefixed delimits) 8 kind-of-delimitation t a h)
 
+some-frame : (w : Way) → 0 < length w → (f : Frame) × (v : Way) × (w ≡ f ∷ v)
+some-frame [] l = absurd (omega arith)
+some-frame (f ∷ v) l = (f, v, refl)
+
 -- a live delimitation, and the move on it
-module _ (s way : List ℕ) (t : Term) (a k : ℕ) (h : LiveAt s way a 8 t k) where
+module _ (s : List ℕ) (t : Term) (a k : ℕ) (h : LiveAt s t a 8) (count : k ≡ length (wayTo t a)) where
   pub delimitation-at : (d : ℕ) × (sub t a ≡ under (delimitation d) (below (sub t a)))
   delimitation-at = kind-delimitation (sub t a) (h .kind-is)
 
@@ -240,23 +243,23 @@ module _ (s way : List ℕ) (t : Term) (a k : ℕ) (h : LiveAt s way a 8 t k) wh
 
   atom-read : word s (16 * a + 2) ≡ d
   atom-read =
-      holds-word s t a 2 (h .walks .holds) (h .walks .inside) (omega arith)
+      holds-word s t a 2 (h .holds) (h .inside) (omega arith)
       ∙ (ap (λ x. word (record16 (root x)) 2) (delimitation-at .1) ∙ first-delimitation d (below (sub t a)))
 
   delimitation-wanted : wanted (prefixed delimits) t a ≡ accept d
   unfolding prefixed delimits
   delimitation-wanted =
       live-wanted (prefixed delimits) t a d (under (delimitation d) (below (sub t a))) refl
-      (record { at = record { placed = h .walks .inside; stands = delimitation-at .1 }; live = h .live })
+      (record { at = record { placed = h .inside; stands = delimitation-at .1 }; live = h .live })
 
   is-atom : atom d ≡ true
-  is-atom = subst Right (delimitation-at .1) (right-at t a (h .walks .holds .right)) .0
+  is-atom = subst Right (delimitation-at .1) (right-at t a (h .holds .right)) .0
 
   label-read : isLabel (classOf (word s (16 * a + 2))) ≡ label d
   label-read = rw atom-read (class-label d is-atom)
 
   root-way : k ≡ 0 → wayTo t a ≡ []
-  root-way e = drop-of-length-le (wayTo t a) {i = 0} (omega (arith, h .walks .climbs .count))
+  root-way e = drop-of-length-le (wayTo t a) {i = 0} (omega (arith, count))
 
   pub stuck : (isLabel (classOf (word s (16 * a + 2))) || eqb k 0) ≡ true → extrudeAt t a ≡ refuse 18 a
   unfolding extrudeAt _>>=_ _>>_ forbid placeIf fitting
@@ -265,14 +268,22 @@ module _ (s way : List ℕ) (t : Term) (a k : ℕ) (h : LiveAt s way a 8 t k) wh
       (λ l. rw (delimitation-wanted, sym label-read ∙ l))
       (λ l. rw (delimitation-wanted, root-way (eqb-true k 0 l), or-right (label d) true refl))
 
-  module _ (ends : List ℕ) (z : Table s ends t) (p : ℕ) (at : p ≡ getD way 0 0) (e : (isLabel (classOf (word s (16 * a + 2))) || eqb k 0) ≡ false) where
+  module _ (ends : List ℕ) (z : Table s ends t) (p : ℕ) (at : p ≡ parentOf (wayTo t a)) (e : (isLabel (classOf (word s (16 * a + 2))) || eqb k 0) ≡ false) where
+    way-there : (f : Frame) × (w : Way) × (wayTo t a ≡ f ∷ w)
+    way-there = some-frame (wayTo t a) (omega (arith, count, eqb-false k 0 (or-false (isLabel (classOf (word s (16 * a + 2)))) (eqb k 0) e .1)))
+
     pub live-lifting : Lifting s ends a p k t d
+    unfolding parentOf
     live-lifting =
+        let (f, w, v) = way-there in
         record {
           table = z;
-          inside = h .walks .inside;
-          above = subst (OnWay t a 0) (sym at) (h .walks .climbs .step 0 (omega (arith, eqb-false k 0 (or-false (isLabel (classOf (word s (16 * a + 2)))) (eqb k 0) e .1))));
-          count = h .walks .climbs .count;
+          inside = h .inside;
+          frame = f;
+          rest = w;
+          way = v;
+          above = subst (λ n. At t n w (plug f (sub t a))) (sym (at ∙ ap parentOf v)) (above-at t a f w (sub t a) (h .inside, refl, v) .2);
+          count = count;
           stands = delimitation-at .1;
         }
 
@@ -281,8 +292,7 @@ module _ (s way : List ℕ) (t : Term) (a k : ℕ) (h : LiveAt s way a 8 t k) wh
     lift-is = rw (delimitation-wanted, sym label-read ∙ or-false (isLabel (classOf (word s (16 * a + 2)))) (eqb k 0) e .0)
 
     pub lift-planned : (r : Plan) → resultOf (r .judgement) ≡ limited (liftAt d t a) → r .from ≡ p → Planned (extrudeAt t a) (parentOf (wayTo t a)) r
-    unfolding parentOf
-    lift-planned r j f = record { judged = j ∙ ap limited (sym lift-is); place-is = λ u y. f ∙ (sym (place s ends a p k t d live-lifting) ∙ ap parentOf (sym (way-is s ends a p k t d live-lifting))) }
+    lift-planned r j f = record { judged = j ∙ ap limited (sym lift-is); place-is = λ u y. f ∙ at }
 
     pub live-below : length s / 16 + 1 < length ends → k < 256 → Liftable s ends a p k
     live-below m n = record {
@@ -290,7 +300,7 @@ module _ (s way : List ℕ) (t : Term) (a k : ℕ) (h : LiveAt s way a 8 t k) wh
       atom = d;
       lifting = live-lifting;
       before = lift-before s ends a p k t d live-lifting;
-      place = omega (arith, table-size s ends t z, h .walks .inside);
+      place = omega (arith, table-size s ends t z, h .inside);
       few = few s ends a p k t d live-lifting;
       room = omega arith;
       short = n;

@@ -1,18 +1,17 @@
 -- Extruding a delimitation: the record above it, and the bytes of the table with the two exchanged.
 use mathlib.Core.Path.{_≡_}
 use mathlib.Core.Bool.{Bool, true, false, cond, not}
-use mathlib.Core.List.{List, [], _∷_, _++_}
+use mathlib.Core.List.{List, _∷_, _++_}
 use Prim.Native.Nat.{ℕ, _+_, _*_, _-_, _/_, _≤_, _<_}
 use lib.Dec.{eqb}
 use lib.ListN.{length, take, drop}
 use Rattle.cows.specs.Limits.{maxDepth, maxRecords}
 use Rattle.cows.specs.Basics.{placeIf, Result, accept, _>>_, forbid}
 use Rattle.cows.specs.Terms.{delimitation, Term, under, size, below}
-use Rattle.cows.specs.Places.{Way, wayTo, sub}
+use Rattle.cows.specs.Places.{Frame, plug, Way, wayTo, sub}
 use Rattle.cows.specs.Moves.{fitting, afterExtrude}
-use Rattle.cows.specs.Records.{ahead}
+use Rattle.cows.specs.Records.{At}
 use Rattle.ways.specs.Known.{Table}
-use Rattle.ways.specs.Ways.{OnWay}
 use Rattle.records.specs.declared.Atom.{Atom}
 use Rattle.records.specs.declared.Atom.the-variants.{None, Value, Variable, Label}
 
@@ -22,11 +21,6 @@ isLabel None = false
 isLabel (Value v) = false
 isLabel (Variable x) = false
 isLabel (Label k) = true
-
--- where the record above stands, by the way to a place (0 at the root)
-unfoldable pub parentOf : Way → ℕ
-parentOf [] = 0
-parentOf (f ∷ w) = length (ahead w)
 
 -- where the other side of the parallel at place p begins, if one side is at place a and ends at `end`
 abbrev pub besideOf : ℕ → ℕ → ℕ → ℕ
@@ -42,7 +36,10 @@ liftAt d t a = do
 pub record Lifting (s ends : List ℕ) (a p k : ℕ) (t : Term) (d : ℕ) : Type 0 where
   pub table : Table s ends t
   pub inside : a < size t
-  pub above : OnWay t a 0 p
+  pub frame : Frame
+  pub rest : Way
+  pub way : wayTo t a ≡ frame ∷ rest
+  pub above : At t p rest (plug frame (sub t a))
   pub count : k ≡ length (wayTo t a)
   pub stands : sub t a ≡ under (delimitation d) (below (sub t a))
 

@@ -3,13 +3,13 @@ use plans::Judgement;
 use plans::Plan;
 use plans::refused;
 use records::Atom;
-use records::Found;
 use records::atom_at;
 use records::copying::copy;
 use records::kinds;
 use records::limits;
 use records::wide16;
 use ways::depths::depth_at;
+use ways::place_at;
 ghost use mathlib.Core.Path.{_≡_};
 ghost use Prim.Native.Nat.{ℕ, _<_};
 ghost use lib.ListN.{length};
@@ -20,8 +20,9 @@ ghost use Rattle.cows.specs.Kinds.{floatsOver};
 ghost use Rattle.cows.specs.Moves.{extrudeAt};
 ghost use Rattle.records.specs.Rewrites.{put};
 ghost use Rattle.ways.specs.Known.{Table, Known};
+ghost use Rattle.ways.specs.Ways.{parentOf};
 ghost use Rattle.plans.specs.Plans.{resultOf, limited, Planned, Asks, Gives};
-ghost use Rattle.extrude.specs.Extruding.{isLabel, parentOf, besideOf, liftAt, Lifting, Liftable, Lifts, lifted};
+ghost use Rattle.extrude.specs.Extruding.{isLabel, besideOf, liftAt, Lifting, Liftable, Lifts, lifted};
 
 fn is_label(a: Atom) -> bool
     ensures { λ r. ⌜ r ≡ isLabel a ⌝ }
@@ -73,17 +74,16 @@ pub fn judge(s: &[u8], ends: &[u16], a: usize) -> Plan
     requires { ⌜ Known (now s) (now ends) ⌝ }
     ensures { λ r. ⌜ ((t : Term) → Table (now (s .entry)) (now (ends .entry)) t → Planned (extrudeAt t a) (parentOf (wayTo t a)) r) ⌝ }
 {
-    let mut way = [0u16; limits::MAX_DEPTH];
-    let found = ways::live_at(s, ends, a, kinds::DELIMITATION, &mut way);
-    let Found::At(k) = found else {
+    let place = place_at(s, ends, a, kinds::DELIMITATION);
+    if !place.live {
         return refused(Judgement::Absent(a));
-    };
-    if is_label(atom_at(s, 16 * a + 2)) | (k == 0) {
+    }
+    if is_label(atom_at(s, 16 * a + 2)) | (place.above == 0) {
         return refused(Judgement::Stuck(a));
     }
-    let p = wide16(way[0]);
+    let p = place.parent;
     Plan {
-        judgement: judge_above(s, ends, a, p, k),
+        judgement: judge_above(s, ends, a, p, place.above),
         from: p,
     }
 }

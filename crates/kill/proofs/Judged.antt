@@ -1,11 +1,10 @@
 -- Kill (specs/Moves, killAt) as it is judged and written.
 use mathlib.Core.Path.{_≡_, refl, sym, ap, _∙_}
-use mathlib.Core.Bool.{false, _&&_}
+use mathlib.Core.Bool.{false}
 use mathlib.Core.Option.{some}
 use mathlib.Core.List.{List, _++_}
 use Prim.Native.Nat.{ℕ, _+_, _*_, _-_, _/_, _≤_, _<_}
 use native.Mathlib.Omega.{arith}
-use lib.Dec.{ltb, eqb}
 use lib.ListN.{length, take, drop, length-drop}
 use lib.Seq.{take-all, length-take-le}
 use Rattle.cows.specs.Basics.{refuse, accept, _>>=_}
@@ -13,7 +12,7 @@ use Rattle.cows.specs.Terms.{kill, Term, leaf, size, kills}
 use Rattle.cows.specs.Kinds.{root, kindOf}
 use Rattle.cows.specs.Places.{wayTo, sub}
 use Rattle.cows.specs.Format.{byte, word, layout, record16, encode}
-use Rattle.cows.specs.Active.{live, wanted}
+use Rattle.cows.specs.Active.{wanted}
 use Rattle.cows.specs.Allows.{StandsLive}
 use Rattle.cows.specs.Moves.{afterKill, killAt}
 use Rattle.cows.proofs.Basics.{bind-accept, same-accept}
@@ -37,7 +36,7 @@ use Rattle.rewriting.specs.Halting.{haltAside, placeIn, PlaceOf}
 use Rattle.rewriting.proofs.Aligned.{place-of}
 use Rattle.ways.specs.Known.{Table}
 use Rattle.kill.specs.Losses.{left}
-use Rattle.ways.specs.Ways.{scopeOf, LiveAt}
+use Rattle.ways.specs.Ways.{scopeOf, liveThere, LiveAt}
 use Rattle.ways.proofs.KnownTables.{table-size}
 use Rattle.plans.specs.declared.Judgement.the-variants.{Allowed}
 use Rattle.plans.specs.declared.Plan.{Plan}
@@ -50,12 +49,12 @@ kind-of-kill : (s : Term) (k : ℕ) → kills s ≡ some k → kindOf s ≡ 1
 unfolding kindOf root record16 layout byte
 kind-of-kill s k e = ap kindOf (kills-is s k e)
 
-pub no-kill : (t : Term) (a : ℕ) → (ltb a (size t) && live (wayTo t a) && eqb (kindOf (sub t a)) 1) ≡ false → killAt t a ≡ refuse 11 a
+pub no-kill : (t : Term) (a : ℕ) → liveThere t a 1 ≡ false → killAt t a ≡ refuse 11 a
 unfolding killAt _>>=_
 no-kill t a h = rw (absent kills 1 kind-of-kill t a h)
 
 -- a live kill, its label, and the move on it
-module _ (s way : List ℕ) (t : Term) (a n : ℕ) (h : LiveAt s way a 1 t n) where
+module _ (s : List ℕ) (t : Term) (a : ℕ) (h : LiveAt s t a 1) where
   kill-at : (k : ℕ) × (sub t a ≡ leaf (kill k))
   kill-at = kind-kill (sub t a) (h .kind-is)
 
@@ -63,11 +62,11 @@ module _ (s way : List ℕ) (t : Term) (a n : ℕ) (h : LiveAt s way a 1 t n) wh
   k = kill-at .0
 
   kill-live : StandsLive t a (leaf (kill k))
-  kill-live = record { at = record { placed = h .walks .inside; stands = kill-at .1 }; live = h .live }
+  kill-live = record { at = record { placed = h .inside; stands = kill-at .1 }; live = h .live }
 
   label-word : word s (16 * a + 2) ≡ k
   label-word =
-      holds-word s t a 2 (h .walks .holds) (h .walks .inside) (omega arith)
+      holds-word s t a 2 (h .holds) (h .inside) (omega arith)
       ∙ (ap (λ x. word (record16 (root x)) 2) (kill-at .1) ∙ first-kill k)
 
   -- no other atom is killed

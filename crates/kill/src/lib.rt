@@ -10,8 +10,8 @@ use records::Found;
 use records::atom_at;
 use records::copying::copy;
 use records::kinds;
-use records::limits;
 use rewriting::halting::aside_at;
+use ways::place_at;
 use ways::scope;
 ghost use Rattle.cows.specs.Terms.{Term};
 ghost use Rattle.cows.specs.Moves.{killAt};
@@ -24,16 +24,14 @@ pub fn judge(s: &[u8], ends: &[u16], a: usize) -> Plan
     requires { ⌜ Known (now s) (now ends) ⌝ }
     ensures { λ r. ⌜ ((t : Term) → Table (now (s .entry)) (now (ends .entry)) t → Planned (killAt t a) (killScope t a) r) ⌝ }
 {
-    let mut way = [0u16; limits::MAX_DEPTH];
-    let found = ways::live_at(s, ends, a, kinds::KILL, &mut way);
-    let Found::At(n) = found else {
+    if !place_at(s, ends, a, kinds::KILL).live {
         return refused(Judgement::Absent(a));
-    };
+    }
     let atom = atom_at(s, 16 * a + 2);
     let Atom::Label(k) = atom else {
         return refused(Judgement::Absent(a));
     };
-    let Found::At(from) = scope(s, &way, n, Atom::Label(k)) else {
+    let Found::At(from) = scope(s, ends, a, Atom::Label(k)) else {
         return refused(Judgement::Absent(a));
     };
     Plan {

@@ -2,11 +2,10 @@
 use Prim.Native.Nat.{ℕ}
 use Rattle.cows.specs.Terms.{Term}
 use Rattle.cows.specs.Places.{wayTo}
-use Rattle.ways.specs.Ways.{startOf}
+use Rattle.ways.specs.Ways.{startOf, parentOf}
 use Rattle.proposals.specs.declared.Move.{Move}
 use Rattle.proposals.specs.declared.Move.the-variants.{Kill, Communicate, Timeout, Elapse, Unfold, Extrude, None}
 use Rattle.kill.specs.Killing.{killScope}
-use Rattle.extrude.specs.Extruding.{parentOf}
 
 -- [k], the start of the whole choice, the root, the replication, the record above
 abbrev pub planPlace : Move → Term → ℕ

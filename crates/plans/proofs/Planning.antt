@@ -16,6 +16,7 @@ use Rattle.cows.specs.Active.{live, wanted}
 use Rattle.cows.specs.Step.{overLimits}
 use Rattle.cows.proofs.Basics.{clash, same-accept}
 use Rattle.records.specs.Rewrites.{put}
+use Rattle.ways.specs.Ways.{liveThere}
 use Rattle.ways.proofs.KnownTables.{one-table}
 use Rattle.plans.specs.declared.Plan.{Plan}
 use Rattle.plans.specs.declared.Judgement.the-variants.{Allowed, Large}
@@ -45,7 +46,7 @@ module _ {m : Result Term} {place : ℕ} (r : Plan) (s : Term) where
 
 -- 11: no live record of the kind
 pub absent : {A : Type 0} (look : Term → Option A) (kind : ℕ) → ((s : Term) (x : A) → look s ≡ some x → kindOf s ≡ kind)
-    → (t : Term) (a : ℕ) → (ltb a (size t) && live (wayTo t a) && eqb (kindOf (sub t a)) kind) ≡ false → wanted look t a ≡ refuse 11 a
+    → (t : Term) (a : ℕ) → liveThere t a kind ≡ false → wanted look t a ≡ refuse 11 a
 unfolding wanted need only
 absent look kind is t a h = go (ltb a (size t) && live (wayTo t a)) (look (sub t a)) refl h
   where

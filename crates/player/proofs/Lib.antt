@@ -1,3 +1,4 @@
+pub mod Lasting
 pub mod Loading
 pub mod Turning
 pub mod Writing

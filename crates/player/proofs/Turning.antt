@@ -19,7 +19,8 @@ use Rattle.cows.specs.Format.{encode}
 use Rattle.cows.specs.Active.{wanted}
 use Rattle.cows.specs.Within.{Within}
 use Rattle.cows.specs.Allows.{StandsLive}
-use Rattle.cows.specs.Moves.{Move, unfoldAt, successor}
+use Rattle.cows.specs.Moves.{Move, elapse, unfoldAt, successor}
+use Rattle.cows.specs.Moves as meaning
 use Rattle.cows.specs.Step.{stepTerm, replyTo, written}
 use Rattle.cows.specs.Load.{load, copies}
 use Rattle.cows.specs.Run.{noTally, sum, adds, RunState, judgement, enter, turn, kept}
@@ -29,6 +30,8 @@ use Rattle.cows.proofs.Stands.{looks, prefixed-is, wanted-live}
 use Rattle.cows.proofs.Step as steps
 use Rattle.cows.proofs.Bounds.{step-from-one}
 use Rattle.cows.proofs.Preserving.{step-within}
+use Rattle.cows.proofs.Recordwise.{time-gives}
+use Rattle.records.specs.Holds.{Holds}
 use Rattle.records.specs.Ends.{EndsFrom}
 use Rattle.ways.specs.Known.{Table, Known}
 use Rattle.ways.proofs.KnownTables.{one-table, table-size}
@@ -46,6 +49,7 @@ use Rattle.player.specs.declared.turns.Kept.{Kept}
 use Rattle.player.specs.declared.turns.Tried.{Tried}
 use Rattle.player.specs.Loads.{loadBetween}
 use Rattle.player.specs.Turns.{held, Accepted, Copied, CanTry, Judged, CanTurn, Turned, KeepsRun, Going, keptAfter, GoesOn}
+use Rattle.player.proofs.Lasting.{ends-last}
 use Rattle.player.proofs.Loading.{body-load}
 
 -- only an unfolding copies anything
@@ -181,6 +185,22 @@ module _ (q : RunState) (n : ℕ) (from ends : List ℕ) (m : Option Move) (to a
   pub turned-refused : Turned q n from m after ends (record { reply = record { answer = r .reply .answer; place = r .reply .place; records = n }; counts = r .counts })
   turned-refused = let (a, p, x) = answer-refused (judgement q m) (r .reply) (j .answers .replies) z in refused-is a p x
 
+-- a time among the moves that can be read, and what it leaves if it is accepted
+pub time-is : (m : code.Move) → OneOf (3 ∷ []) (tagOf kinds.the-type m) → (d : ℕ) × (moveOf m ≡ some (meaning.Elapse d))
+time-is (Kill a) h = absurd (miss (3 ∷ []) 0 tt h)
+time-is (Communicate a b) h = absurd (miss (3 ∷ []) 1 tt h)
+time-is (Timeout a) h = absurd (miss (3 ∷ []) 2 tt h)
+time-is (Elapse d) h = (d, refl)
+time-is (Unfold a) h = absurd (miss (3 ∷ []) 4 tt h)
+time-is (Extrude a) h = absurd (miss (3 ∷ []) 5 tt h)
+time-is None h = absurd (miss (3 ∷ []) 6 tt h)
+
+time-successor : (q : RunState) (m : Option Move) (d : ℕ) (u : Term) → m ≡ some (meaning.Elapse d) → judgement q m ≡ accept u → elapse d (q .table) ≡ u
+unfolding judgement successor
+time-successor q m d u is e =
+    let x = steps.step-accepted (q .table) u m 32768 e in
+    time-gives (q .table) u d (subst (λ v. successor (q .table) v ≡ accept u) (same-some (sym (x .reads) ∙ is)) (x .moves)) .1
+
 -- an accepted move: the successor u lies in the other buffer
 module _ (q : RunState) (m : Option Move) (to after : List ℕ) (r : Tried) (room : length to ≡ 32768) (w : Within (q .table)) (j : Judged q m to after r) where
   module _ (u : Term) (accepted : judgement q m ≡ accept u) where
@@ -205,18 +225,20 @@ module _ (q : RunState) (m : Option Move) (to after : List ℕ) (r : Tried) (roo
       ap length after-is ∙ (length-append (encode u) (drop (16 * size u) to) ∙ omega (arith, length-encode u, length-drop (16 * size u) to, next-within .small, room)),
     )
 
+    next-holds : Holds (take (16 * r .reply .records) after) u
+    next-holds = record { is = rw (records-are, after-is) (take-at (encode u) (drop (16 * size u) to) (16 * size u) (length-encode u)); right = next-within .right }
+
     turned : (n : ℕ) (from ends : List ℕ) → r .reply .answer ≡ 0 → EndsFrom (take (16 * r .reply .records) after) ends 0 → Turned q n from m after ends r
     unfolding kept
     turned n from ends z h =
         let (v, ev) = accepted-move q m u accepted in
-        let is : take (16 * r .reply .records) after ≡ encode u = rw (records-are, after-is) (take-at (encode u) (drop (16 * size u) to) (16 * size u) (length-encode u)) in
         record {
           replies = rw accepted reply-is;
           counted = j .counted;
           few = j .few;
           length-is = places .1;
           stays = λ g. absurd (g z);
-          goes = λ _. rw (turn-accepted q m u v accepted ev) (record { holds = record { is = is; right = next-within .right }; within = next-within; end = h });
+          goes = λ _. rw (turn-accepted q m u v accepted ev) (record { holds = next-holds; within = next-within; end = h });
         }
 
   pub successor-places : r .reply .answer ≡ 0 → (r .reply .records ≤ 2048) × (length after ≡ 32768)
@@ -224,6 +246,12 @@ module _ (q : RunState) (m : Option Move) (to after : List ℕ) (r : Tried) (roo
 
   pub turned-accepted : (n : ℕ) (from ends : List ℕ) → r .reply .answer ≡ 0 → EndsFrom (take (16 * r .reply .records) after) ends 0 → Turned q n from m after ends r
   turned-accepted n from ends z h = let (u, e) = judgement-accepted q m (r .reply) (j .answers .replies) z in turned u e n from ends z h
+
+  -- after a time the ends are those of the table before
+  pub time-ends : (d : ℕ) (s ends : List ℕ) → m ≡ some (meaning.Elapse d) → Table s ends (q .table) → r .reply .answer ≡ 0 → EndsFrom (take (16 * r .reply .records) after) ends 0
+  time-ends d s ends is h z =
+      let (u, e) = judgement-accepted q m (r .reply) (j .answers .replies) z in
+      ends-last s _ ends (q .table) d h (subst (Holds (take (16 * r .reply .records) after)) (sym (time-successor q m d u is e)) (next-holds u e))
 
 pub kept-records : (q : RunState) (m : Option Move) → kept q (judgement q m) .records ≡ size (turn q m .table)
 unfolding kept

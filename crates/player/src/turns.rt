@@ -58,8 +58,8 @@ fn judged(s: &[u8], ends: &[u16], m: Move, to: &mut [u8]) -> Tried
     }
 }
 
-// A move on the table of n records in `from`; its successor goes to `to`, and `ends` takes the ends of the table then kept. The reply's records are
-// those of that table.
+// A move on the table of n records in `from`; its successor goes to `to`, and `ends` takes the ends of the table then kept: after a time, which changes no
+// shape, they are those of the table before. The reply's records are those of the table then kept.
 fn turn(from: &[u8], n: usize, ends: &mut [u16], m: Move, to: &mut [u8]) -> Tried
     requires { ⌜ CanTurn n (now from) (now ends) (now to) ⌝ }
     ensures { λ r. ⌜ ((q : RunState) → Table (held n (now (from .entry))) (now (ends .entry)) (q .table) → Turned q n (now (from .entry)) (moveOf m) (now (to .exit)) (now (ends .exit)) r) ⌝ }
@@ -78,8 +78,11 @@ fn turn(from: &[u8], n: usize, ends: &mut [u16], m: Move, to: &mut [u8]) -> Trie
             counts,
         };
     }
-    let after = 16 * reply.records;
-    records::ends::ends(&to[..after], ends);
+    let Move::Elapse(_) = m else {
+        let after = 16 * reply.records;
+        records::ends::ends(&to[..after], ends);
+        return Tried { reply, counts };
+    };
     Tried { reply, counts }
 }
 

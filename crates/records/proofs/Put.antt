@@ -6,12 +6,19 @@ use native.Mathlib.Omega.{arith}
 use native.Mathlib.Nat.{add-zero}
 use native.Mathlib.Numerals.{add-one}
 use lib.ListN.{length, take, drop, getD, set, length-append, length-drop, List·getD-append}
-use lib.Seq.{sets, length-sets, drop-drop, drop-at, take-at, take-suc, getD-drop, length-take-le}
+use lib.Seq.{sets, sets-eq, length-sets, drop-length, drop-drop, drop-at, take-at, take-suc, getD-drop, length-take-le}
 use Rattle.records.specs.Rewrites.{put, Has}
 
 pub length-put : (d : List ℕ) (i : ℕ) (bs : List ℕ) → length (put d i bs) ≡ length d
 unfolding put
 length-put d i bs = length-sets d i bs
+
+-- what is written over all of d is read there again
+pub put-all : (d bs : List ℕ) (n : ℕ) {e : List ℕ} → length d ≡ n → length bs ≡ n → e ≡ put d 0 bs → take n (drop 0 e) ≡ bs
+unfolding put
+put-all d bs n l k h =
+    let z : 0 + length bs ≡ length d = omega arith in
+    rw (h, sets-eq bs d 0 (omega arith), z, drop-length d) (take-at bs [] n k)
 
 -- one write behind another is one write
 pub put-put : (d : List ℕ) (i j : ℕ) (a b : List ℕ) → j ≡ i + length a → put (put d i a) j b ≡ put d i (a ++ b)

@@ -22,6 +22,16 @@ pub fn copy(src: &[u8], from: usize, len: usize, dst: &mut [u8], to: usize)
     }
 }
 
+// Copies the record at byte `from` of src to byte `to` of dst. It is read whole before it is written, and so moved at once.
+pub fn copy_record(src: &[u8], from: usize, dst: &mut [u8], to: usize)
+    requires { ⌜ (from + 16 ≤ length (now src)) × (to + 16 ≤ length (now dst)) ⌝ }
+    ensures { λ _. ⌜ now (dst .exit) ≡ put (now (dst .entry)) to (take 16 (drop from (now (src .entry)))) ⌝ }
+{
+    let mut record = [0u8; 16];
+    copy(src, from, 16, &mut record, 0);
+    copy(&record, 0, 16, dst, to);
+}
+
 // Writes the 16-bit number w at byte `to`.
 pub fn put_word(w: u16, dst: &mut [u8], to: usize)
     requires { ⌜ to + 1 < length (now dst) ⌝ }

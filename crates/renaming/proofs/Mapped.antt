@@ -1,23 +1,23 @@
 -- Laws of records whose atoms change (specs/Mapped), for renamings and substitutions alike: mapping every atom of a term is mapping every field of its records.
 use mathlib.Core.Path.{_≡_, refl, sym, ap, ap₂, _∙_}
 use mathlib.Core.Bool.{true}
-use mathlib.Core.List.{List, [], _∷_, _++_, map, flatMap}
-use Prim.Native.Nat.{ℕ, _+_, _*_, _<_}
+use mathlib.Core.List.{List, [], _∷_, _++_, map, flatMap, append-assoc}
+use Prim.Native.Nat.{ℕ, suc, _+_, _*_, _/_, _%_, _<_}
 use native.Mathlib.Omega.{arith}
 use lib.Dec.{eqb}
-use lib.ListN.{length, getD, take, drop, length-append, length-drop, length-map, List·getD-map}
-use lib.Seq.{take-take, take-add, drop-at, drop-drop, length-take-le}
+use lib.ListN.{length, getD, take, drop, length-append, length-drop, length-map, List·getD-map, take-append-drop}
+use lib.Seq.{take-all, drop-cons, take-take, take-add, drop-at, drop-drop, length-take-le}
 use borrow.Author.Tests.{eq-eqb}
 use Rattle.cows.specs.Basics.{any, member}
 use Rattle.cows.specs.Terms.{Basic, nil, kill, invoke, Prefix, receive, wait, protection, delimitation, replication, choice, parallel, Term, leaf, under, both, size, delimits, usesBasic, usesPrefix, optional, atoms}
 use Rattle.cows.specs.Kinds.{Node, basic, prefix, join}
-use Rattle.cows.specs.Format.{bytes2, word, nodes, layout, record16, bytes, encode}
+use Rattle.cows.specs.Format.{byte, bytes2, word, nodes, layout, record16, bytes, encode}
 use Rattle.cows.specs.Moves.{mapBasic, mapPrefix, mapAtoms}
 use Rattle.cows.proofs.Basics.{or-left, or-right, member-append}
 use Rattle.cows.proofs.Fields.{layout-first, layout-second, layout-slot}
 use Rattle.records.specs.Rewrites.{put, StandsIn}
 use Rattle.records.proofs.Put.{and-then}
-use Rattle.records.proofs.Pieces.{word-piece}
+use Rattle.records.proofs.Pieces.{piece, byte-piece, word-piece}
 use Rattle.renaming.specs.Mapped.{mapNode, tupleBytes, withAtoms, mapRecord, mapped, named}
 use Rattle.renaming.proofs.Across.{across-term}
 
@@ -121,6 +121,9 @@ piece-back s k h =
     let l = drop k s in
     rw (take-add 14 2 l, drop-at (take 14 l) (take 2 (drop 14 l)) 14 (length-take-le 14 l (omega (arith, length-drop k s))), take-take 2 2 (drop 14 l) (omega arith), drop-drop 14 k s)
 
+pub length-piece : (s : List ℕ) (k : ℕ) → k + 15 < length s → length (piece s k) ≡ 16
+length-piece s k h = length-take-le 16 (drop k s) (omega (arith, length-drop k s))
+
 pub tuple-written : (at w x y z : ℕ) (d₀ : List ℕ) {d₁ d₂ d₃ d₄ : List ℕ} → d₁ ≡ put d₀ at (bytes2 w) → d₂ ≡ put d₁ (at + 2) (bytes2 x)
     → d₃ ≡ put d₂ (at + 4) (bytes2 y) → d₄ ≡ put d₃ (at + 6) (bytes2 z) → d₄ ≡ put d₀ at (tupleBytes w x y z)
 unfolding tupleBytes bytes2
@@ -143,6 +146,24 @@ pub record-read : (f : ℕ → ℕ) (s : List ℕ) (k : ℕ) {p o w x y z : ℕ}
 unfolding mapRecord
 record-read f s k p o w x y z =
     rw (word-piece s k 2 (omega arith), word-piece s k 4 (omega arith), word-piece s k 6 (omega arith), word-piece s k 8 (omega arith), word-piece s k 10 (omega arith), word-piece s k 12 (omega arith), p, o, w, x, y, z)
+
+-- two bytes are those of the number that they are
+pair-word : (b : List ℕ) (i : ℕ) → suc i < length b → getD b i 0 < 256 → bytes2 (word b i) ++ drop (suc (suc i)) b ≡ drop i b
+unfolding bytes2 word byte
+pair-word b i l h =
+    let low : (getD b i 0 + 256 * getD b (suc i) 0) % 256 ≡ getD b i 0 = omega arith in
+    let high : (getD b i 0 + 256 * getD b (suc i) 0) / 256 ≡ getD b (suc i) 0 = omega arith in
+    rw (low, high, drop-cons b i 0 (omega arith), drop-cons b (suc i) 0 l)
+
+-- so the record at byte k, if its atoms stay, is the same bytes
+pub record-same : (s : List ℕ) (k : ℕ) → k + 15 < length s → ((j : ℕ) → getD s j 0 < 256) → mapRecord (λ n. n) (piece s k) ≡ piece s k
+unfolding mapRecord withAtoms tupleBytes
+record-same s k l h =
+    let b = piece s k in
+    let n : length b ≡ 16 = length-piece s k l in
+    let w : (i : ℕ) → i < 15 → bytes2 (word b i) ++ drop (suc (suc i)) b ≡ drop i b = λ i q. pair-word b i (omega arith) (unfold byte in rw (byte-piece s k i (omega arith)) (h (k + i))) in
+    rw (take-all 2 (drop 14 b) (omega (arith, length-drop 14 b)))
+    (simp append-assoc (rw (w 12 (omega arith), w 10 (omega arith), w 8 (omega arith), w 6 (omega arith), w 4 (omega arith), w 2 (omega arith)) (take-append-drop 2 b)))
 
 pub length-mapRecord : (f : ℕ → ℕ) (s : List ℕ) (k : ℕ) → k + 15 < length s → length (mapRecord f (take 16 (drop k s))) ≡ 16
 unfolding mapRecord withAtoms tupleBytes bytes2

@@ -4,6 +4,7 @@ use records::Atom;
 use records::Takes;
 use records::atom_at;
 use records::closed;
+use records::copying::copy_record;
 use records::copying::put_nil;
 use records::image;
 use records::takes_variable;
@@ -85,21 +86,6 @@ fn put_images(
     put_record(s, i, p, o, w, x, y, z, dst, at);
 }
 
-// Writes the record at place i with its own atoms.
-fn put_same(s: &[u8], i: usize, dst: &mut [u8], at: usize)
-    requires { ⌜ (16 * i + 15 < length (now s)) × (at + 15 < length (now dst)) ⌝ }
-    ensures { λ _. ⌜ now (dst .exit) ≡ put (now (dst .entry)) at (mapRecord (λ n. n) (take 16 (drop (16 * i) (now (s .entry))))) ⌝ }
-{
-    let k = 16 * i;
-    let p = atom_at(s, k + 2);
-    let o = atom_at(s, k + 4);
-    let w = atom_at(s, k + 6);
-    let x = atom_at(s, k + 8);
-    let y = atom_at(s, k + 10);
-    let z = atom_at(s, k + 12);
-    put_record(s, i, p, o, w, x, y, z, dst, at);
-}
-
 // Writes what becomes of the record at place i, nil at place b, from byte `at` on; the answer is where writing goes on. A record that holds no variable stays.
 fn put_bound(
     s: &[u8],
@@ -120,7 +106,7 @@ fn put_bound(
         return at + 16;
     }
     if closed(s, 16 * i) {
-        put_same(s, i, dst, at);
+        copy_record(s, 16 * i, dst, at);
         return at + 16;
     }
     if delimits_taken(s, i, t0, t1, t2, t3) {

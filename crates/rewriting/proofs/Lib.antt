@@ -3,4 +3,3 @@ pub mod Children
 pub mod HaltSteps
 pub mod Asides
 pub mod Firing
-pub mod ElapseSteps

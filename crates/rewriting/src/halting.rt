@@ -2,7 +2,7 @@
 use crate::end_at;
 use records::children;
 use records::copying::Places;
-use records::copying::copy;
+use records::copying::copy_record;
 use records::copying::copy_term;
 use records::copying::nil_at;
 use records::kinds;
@@ -24,7 +24,7 @@ pub fn halt_at(s: &[u8], ends: &[u16], at: usize, dst: &mut [u8], to: usize) -> 
     if kind == kinds::PROTECTION {
         return copy_term(s, at, end_at(ends, at), dst, to);
     }
-    copy(s, at, 16, dst, to);
+    copy_record(s, at, dst, to);
     let first = halt_at(s, ends, at + 16, dst, to + 16);
     if children(kind) == 2 {
         let next = first.0;
@@ -43,7 +43,7 @@ pub fn aside_at(s: &[u8], ends: &[u16], at: usize, a: usize, dst: &mut [u8], to:
     if a == at {
         return nil_at(s, at, end_at(ends, at), dst, to);
     }
-    copy(s, at, 16, dst, to);
+    copy_record(s, at, dst, to);
     if a < end_at(ends, at + 16) {
         let first = aside_at(s, ends, at + 16, a, dst, to + 16);
         if children(s[at]) == 2 {

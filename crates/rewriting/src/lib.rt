@@ -1,5 +1,4 @@
-// Rewriting terms: the recursions of the moves. Each reads the term at a byte of one table and writes what becomes of it at a byte of another.
-pub mod elapsing;
+// Rewriting terms: the recursions of halting. Each reads the term at a byte of one table and writes what becomes of it at a byte of another.
 pub mod halting;
 
 use records::wide16;

@@ -10,7 +10,7 @@ use borrow.Author.Tests.{lt-ltb, le-ltb, eqb-true}
 use Rattle.cows.specs.Basics.{any, member, found}
 use Rattle.cows.specs.Terms.{Term, size, delimitsAt, below, uses, binders}
 use Rattle.cows.specs.Places.{wayTo, sub, first, enclosed}
-use Rattle.cows.specs.Within.{Bound, restricted}
+use Rattle.cows.specs.Within.{Within, Bound, restricted}
 use Rattle.cows.specs.Moves.{outside, inScope}
 use Rattle.cows.proofs.Basics.{never, clash, bool-case, lt-case, and-none, and-true, not-so, or-case, none-found, true-and}
 use Rattle.cows.proofs.Places.{size-pos}
@@ -31,13 +31,7 @@ bound-used K E [] v h m k = never m
 bound-used K E (a ∷ l) v h m k =
     or-case (E v ≡ true) (eqb v a) (any (eqb v) l) m (λ e. let z = eqb-true v a e in rw z (h .0 (rw z at k))) (λ e. bound-used K E l v (h .1) e k)
 
-module _ (s way-a : List ℕ) (k : ℕ) (way-b : List ℕ) (n v x : ℕ) (t : Term) (a b : ℕ) (h : Sends s way-a k way-b n v t a b) where
-  place-a : a < size t
-  place-a = h .left .inside
-
-  place-b : b < size t
-  place-b = h .right .inside
-
+module _ (v x : ℕ) (t : Term) (a b : ℕ) (w : Within t) (place-a : a < size t) (place-b : b < size t) (h : Sends v t b) where
   enclosed-at : (y c : ℕ) → enclosed y (wayTo t c) ≡ found (scopeOf y (wayTo t c))
   enclosed-at y c = scope-found y (wayTo t c)
 
@@ -61,13 +55,13 @@ module _ (s way-a : List ℕ) (k : ℕ) (way-b : List ℕ) (n v x : ℕ) (t : Te
     same-place : p ≡ q
     same-place =
         let l = scope-at t a (wayTo t a) (sub t a) x p (place-a, refl, refl) ea in
-        one-delimitation t (h .within .formed) x p q (l .inside) (around .inside) (is-delimitsAt x (sub t p) _ (l .stands)) (is-delimitsAt x (sub t q) _ (around .stands))
+        one-delimitation t (w .formed) x p q (l .inside) (around .inside) (is-delimitsAt x (sub t p) _ (l .stands)) (is-delimitsAt x (sub t q) _ (around .stands))
 
     pub not-delimited : scopeOf v (wayTo t b) ≡ none → true ≡ inScope t a b (x, v)
     unfolding found
     not-delimited e =
         let f : enclosed v (wayTo t b) ≡ false = enclosed-at v b ∙ ap found e in
-        let g : restricted t v ≡ false = not-so (λ y. clash (bound-used (restricted t) _ (uses (sub t b)) v (scoped-at (restricted t) t b (h .within .formed .private)) (h .used) y) f) in
+        let g : restricted t v ≡ false = not-so (λ y. clash (bound-used (restricted t) _ (uses (sub t b)) v (scoped-at (restricted t) t b (w .formed .private)) (h .used) y) f) in
         let m : member v (binders t) ≡ false = rw (h .sent) at g in
         sym (rest ∙ rw m)
 
@@ -84,7 +78,7 @@ module _ (s way-a : List ℕ) (k : ℕ) (way-b : List ℕ) (n v x : ℕ) (t : Te
           (λ l. rw (lt-ltb e q l) (reaches-enclosed t v q (around .inside) (e, l, is-delimitsAt v (sub t e) _ (inner .stands), omega (arith, around .before, inner .ends, size-pos (sub t b)))))
           (λ l. rw (le-ltb e q l) (not-so (λ y.
           let (i, j, d, m) = enclosed-reaches t v q (around .inside) y in
-          let z = one-delimitation t (h .within .formed) v i e (omega (arith, around .inside)) (inner .inside) d (is-delimitsAt v (sub t e) _ (inner .stands)) in
+          let z = one-delimitation t (w .formed) v i e (omega (arith, around .inside)) (inner .inside) d (is-delimitsAt v (sub t e) _ (inner .stands)) in
           omega arith)))
 
       outside-found : found (first (outside v x) t) ≡ not (ltb e q)
@@ -92,9 +86,9 @@ module _ (s way-a : List ℕ) (k : ℕ) (way-b : List ℕ) (n v x : ℕ) (t : Te
       outside-found =
           bool-case (found (first (outside v x) t) ≡ not (ltb e q)) (ltb e q)
           (λ y. rw y (none-found (first (outside v x) t) (fails-first (outside v x) t (λ i l z.
-          let (d, w) = and-true (delimitsAt x (sub t i)) (not (enclosed v (wayTo t i))) z in
-          let r = one-delimitation t (h .within .formed) x i q l (around .inside) d (is-delimitsAt x (sub t q) _ (around .stands)) in
-          let c : not (enclosed v (wayTo t q)) ≡ true = subst (λ j. not (enclosed v (wayTo t j)) ≡ true) r w in
+          let (d, o) = and-true (delimitsAt x (sub t i)) (not (enclosed v (wayTo t i))) z in
+          let r = one-delimitation t (w .formed) x i q l (around .inside) d (is-delimitsAt x (sub t q) _ (around .stands)) in
+          let c : not (enclosed v (wayTo t q)) ≡ true = subst (λ j. not (enclosed v (wayTo t j)) ≡ true) r o in
           never (rw (enclosed-q, y) at c)))))
           (λ y. rw y (first-found (outside v x) t q (sub t q) (record { placed = around .inside; stands = refl })
           (true-and (is-delimitsAt x (sub t q) _ (around .stands)) (rw (enclosed-q, y)))))

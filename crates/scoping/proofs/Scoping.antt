@@ -2,12 +2,12 @@
 use mathlib.Core.Path.{_≡_, refl, subst}
 use mathlib.Core.Bool.{true, false, _&&_}
 use mathlib.Core.List.{List}
-use Prim.Native.Nat.{ℕ, zero, suc, _+_, _*_}
+use Prim.Native.Nat.{ℕ, zero, suc, _+_, _*_, _<_}
 use lib.Dec.{eqb}
 use lib.ListN.{getD}
 use borrow.Author.Tests.{eq-eqb}
 use Rattle.cows.specs.Basics.{any, every, member}
-use Rattle.cows.specs.Terms.{Term, value, variable, datum, uses, usesBasic}
+use Rattle.cows.specs.Terms.{Term, size, value, variable, datum, uses, usesBasic}
 use Rattle.cows.specs.Format.{word}
 use Rattle.cows.specs.Within.{Right}
 use Rattle.cows.specs.Allows.{Matches, empty, takes, equals}
@@ -16,6 +16,7 @@ use Rattle.cows.proofs.Basics.{never, clash, and-true, or-left, or-right, or-fa
 use Rattle.cows.proofs.Sets.{datum-value}
 use Rattle.cows.proofs.Stands.{right-at}
 use Rattle.cows.proofs.Meeting.{Fits, fit-fits}
+use Rattle.records.specs.Holds.{Holds}
 use Rattle.matching.specs.Matching.{slotTest, ActionAt}
 use Rattle.matching.proofs.Matches.{matches-every}
 use Rattle.matching.proofs.Parties.{receive-ends, invoke-ends}
@@ -36,28 +37,25 @@ slot-sent (equals {v = v} {vs = vs} x m) d n (suc i) e =
     let (f, k) = slot-sent m (and-true (datum v) (every datum vs) d .1) (or-false (variable v) (any variable vs) n .1) i e in
     (f, or-right (eqb (getD vs i 0) v) _ k)
 
-module _ (s : List ℕ) (a b : ℕ) (receiver : List ℕ) (k : ℕ) (sender : List ℕ) (n : ℕ) (t : Term) (σ : Substitution) (h : MatchedParties s a b receiver k sender n t σ) where
+module _ (s : List ℕ) (a b : ℕ) (t : Term) (σ : Substitution) (holds : Holds s t) (place-a : a < size t) (place-b : b < size t) (h : MatchedParties a b t σ) where
   fitted : Fits (h .receive) (h .invoke) σ
   fitted = fit-fits (h .receive) (h .invoke) σ (h .fits)
 
   ends-a : ActionAt s a (h .receive)
-  ends-a = receive-ends s t a (h .to-receiver .holds) (h .to-receiver .inside) (h .receive) _ (h .receives)
+  ends-a = receive-ends s t a holds place-a (h .receive) _ (h .receives)
 
   ends-b : ActionAt s b (h .invoke)
-  ends-b = invoke-ends s t b (h .to-sender .holds) (h .to-sender .inside) (h .invoke) (h .invokes)
+  ends-b = invoke-ends s t b holds place-b (h .invoke) (h .invokes)
 
   -- a slot of the two tuples
-  slot : (i : ℕ) (w v : ℕ) → w ≡ getD (h .receive .tuple) i 0 → v ≡ getD (h .invoke .tuple) i 0 → SlotSends s receiver k sender n w v t a b
+  slot : (i : ℕ) (w v : ℕ) → w ≡ getD (h .receive .tuple) i 0 → v ≡ getD (h .invoke .tuple) i 0 → SlotSends w v t b
   unfolding any uses usesBasic member
   slot i w v ew ev e =
       let m = h .invoke in
-      let r = subst Right (h .invokes) (right-at t b (h .to-sender .holds .right)) in
+      let r = subst Right (h .invokes) (right-at t b (holds .right)) in
       let c = or-false (variable (m .operation)) _ (or-false (variable (m .partner)) _ (fitted .closed) .1) .1 in
       let (f, u) = slot-sent (fitted .matches) (r .2 .1) c i (rw ew at e) in
       record {
-        within = h .within;
-        left = h .to-receiver;
-        right = h .to-sender;
         sent = rw ev f;
         used = rw (ev, h .invokes) (or-right (eqb (getD (m .tuple) i 0) (m .partner)) _ (or-right (eqb (getD (m .tuple) i 0) (m .operation)) _ u));
       }
@@ -70,7 +68,7 @@ module _ (s : List ℕ) (a b : ℕ) (receiver : List ℕ) (k : ℕ) (sender : Li
       rw (ends-a .slot0, ends-a .slot1, ends-a .slot2, ends-a .slot3, ends-b .slot0, ends-b .slot1, ends-b .slot2, ends-b .slot3)
       (matches-every (inScope t a b) (fitted .matches) (ends-a .few))
 
-  pub slots : SlotSends s receiver k sender n (word s (16 * a + 6)) (word s (16 * b + 6)) t a b × SlotSends s receiver k sender n (word s (16 * a + 8)) (word s (16 * b + 8)) t a b
-      × SlotSends s receiver k sender n (word s (16 * a + 10)) (word s (16 * b + 10)) t a b × SlotSends s receiver k sender n (word s (16 * a + 12)) (word s (16 * b + 12)) t a b
+  pub slots : SlotSends (word s (16 * a + 6)) (word s (16 * b + 6)) t b × SlotSends (word s (16 * a + 8)) (word s (16 * b + 8)) t b
+      × SlotSends (word s (16 * a + 10)) (word s (16 * b + 10)) t b × SlotSends (word s (16 * a + 12)) (word s (16 * b + 12)) t b
   slots =
       (slot 0 _ _ (ends-a .slot0) (ends-b .slot0), slot 1 _ _ (ends-a .slot1) (ends-b .slot1), slot 2 _ _ (ends-a .slot2) (ends-b .slot2), slot 3 _ _ (ends-a .slot3) (ends-b .slot3))

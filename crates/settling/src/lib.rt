@@ -2,7 +2,7 @@
 // that holds no scope is copied whole.
 use records::children;
 use records::copying::Places;
-use records::copying::copy;
+use records::copying::copy_record;
 use records::copying::copy_term;
 use records::wide16;
 use rewriting::end_at;
@@ -63,7 +63,7 @@ pub fn settle_at(
     if !any_between(scopes, at / 16, end / 16) {
         return copy_term(s, at, end, dst, to);
     }
-    copy(s, at, 16, dst, to);
+    copy_record(s, at, dst, to);
     let i = index_of(scopes, at / 16);
     if i < scopes.len() {
         return aside_at(s, ends, at + 16, 16 * wide16(kills[i]), dst, to + 16);

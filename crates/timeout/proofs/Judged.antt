@@ -1,12 +1,11 @@
 -- Timeout (specs/Moves, timeoutAt) as it is judged and written.
 use mathlib.Core.Path.{_≡_, refl, sym, ap, _∙_}
 use mathlib.Core.Logic.{_≢_}
-use mathlib.Core.Bool.{false, _&&_}
+use mathlib.Core.Bool.{false}
 use mathlib.Core.Option.{some}
 use mathlib.Core.List.{List}
 use Prim.Native.Nat.{ℕ, _+_, _*_, _-_, _/_, _<_}
 use native.Mathlib.Omega.{arith}
-use lib.Dec.{ltb, eqb}
 use lib.ListN.{length, getD}
 use borrow.Author.Tests.{ne-eqb}
 use Rattle.cows.specs.Basics.{placeIf, refuse, accept, _>>=_, _>>_, forbid}
@@ -14,14 +13,14 @@ use Rattle.cows.specs.Terms.{wait, Term, under, size, prefixed, waits, below}
 use Rattle.cows.specs.Kinds.{root, kindOf}
 use Rattle.cows.specs.Places.{wayTo, sub}
 use Rattle.cows.specs.Format.{byte, word, layout, record16, encode}
-use Rattle.cows.specs.Active.{live, wanted}
+use Rattle.cows.specs.Active.{wanted}
 use Rattle.cows.specs.Moves.{continue, timeoutAt}
 use Rattle.cows.proofs.Basics.{bind-accept, forbid-accept, same-accept}
 use Rattle.cows.proofs.Fields.{kind-wait, interval-wait}
 use Rattle.cows.proofs.Stands.{looks, prefixed-is, wanted-is, wanted-live, live-wanted}
 use Rattle.records.proofs.StandsIn.{holds-word}
 use Rattle.ways.specs.Known.{Table}
-use Rattle.ways.specs.Ways.{startOf, LiveAt}
+use Rattle.ways.specs.Ways.{startOf, liveThere, LiveAt}
 use Rattle.plans.specs.declared.Judgement.the-variants.{Allowed}
 use Rattle.plans.specs.declared.Plan.{Plan}
 use Rattle.plans.specs.Plans.{Planned, Asks}
@@ -33,25 +32,25 @@ kind-of-wait : (s : Term) (n : ℕ) → prefixed waits s ≡ some n → kindOf s
 unfolding kindOf root record16 layout byte
 kind-of-wait s n e = ap kindOf (prefixed-is waits wait (λ u. looks u .waiting) s n e)
 
-pub no-wait : (t : Term) (a : ℕ) → (ltb a (size t) && live (wayTo t a) && eqb (kindOf (sub t a)) 4) ≡ false → timeoutAt t a ≡ refuse 11 a
+pub no-wait : (t : Term) (a : ℕ) → liveThere t a 4 ≡ false → timeoutAt t a ≡ refuse 11 a
 unfolding timeoutAt _>>=_
 no-wait t a h = rw (absent (prefixed waits) 4 kind-of-wait t a h)
 
 -- a live wait, its interval, and the move on it
-module _ (s way : List ℕ) (t : Term) (a k : ℕ) (h : LiveAt s way a 4 t k) where
+module _ (s : List ℕ) (t : Term) (a : ℕ) (h : LiveAt s t a 4) where
   wait-at : (n : ℕ) × (sub t a ≡ under (wait n) (below (sub t a)))
   wait-at = kind-wait (sub t a) (h .kind-is)
 
   interval : word s (16 * a + 14) ≡ wait-at .0
   interval =
-      holds-word s t a 14 (h .walks .holds) (h .walks .inside) (omega arith)
+      holds-word s t a 14 (h .holds) (h .inside) (omega arith)
       ∙ (ap (λ x. word (record16 (root x)) 14) (wait-at .1) ∙ interval-wait (wait-at .0) (below (sub t a)))
 
   wait-wanted : wanted (prefixed waits) t a ≡ accept (wait-at .0)
   unfolding prefixed waits
   wait-wanted =
       live-wanted (prefixed waits) t a (wait-at .0) (under (wait (wait-at .0)) (below (sub t a))) refl
-      (record { at = record { placed = h .walks .inside; stands = wait-at .1 }; live = h .live })
+      (record { at = record { placed = h .inside; stands = wait-at .1 }; live = h .live })
 
   pub unripe : word s (16 * a + 14) ≢ 0 → timeoutAt t a ≡ refuse 16 a
   unfolding timeoutAt _>>=_ _>>_ forbid placeIf
@@ -64,14 +63,14 @@ module _ (s way : List ℕ) (t : Term) (a k : ℕ) (h : LiveAt s way a 4 t k) wh
   -- what is cut out when it fires
   module _ (ends : List ℕ) (z : Table s ends t) (from : ℕ) (f : from ≡ startOf a (wayTo t a)) where
     pub ripe-span : Span ends (length s / 16) a from
-    ripe-span = span s ends t z a (wait (wait-at .0)) (h .walks .inside) (wait-at .1) from f
+    ripe-span = span s ends t z a (wait (wait-at .0)) (h .inside) (wait-at .1) from f
 
     pub ripe-planned : (r : Plan) (n : ℕ) → word s (16 * a + 14) ≡ 0 → r .judgement ≡ Allowed n → n ≡ length s / 16 - (getD ends from 0 - from) + (getD ends a 0 - a - 1)
         → r .from ≡ from → Planned (timeoutAt t a) (startOf a (wayTo t a)) r
     ripe-planned r n e j k q =
         let u = wait (wait-at .0) in
-        planned-allowed r (continue t a) n j (ripe e) (continue-limits t a u (h .walks .inside) (wait-at .1) (z .within))
-        (k ∙ sym (left-size s ends t z a u (h .walks .inside) (wait-at .1) from f)) (q ∙ f)
+        planned-allowed r (continue t a) n j (ripe e) (continue-limits t a u (h .inside) (wait-at .1) (z .within))
+        (k ∙ sym (left-size s ends t z a u (h .inside) (wait-at .1) from f)) (q ∙ f)
 
 -- what an allowed move had
 pub allowed-wait : (t : Term) (a : ℕ) (r : Term) → timeoutAt t a ≡ accept r → (i : ℕ) × (a < size t) × (sub t a ≡ under (wait i) (below (sub t a))) × (r ≡ continue t a)

@@ -4,10 +4,9 @@ use plans::Plan;
 use plans::cutting::cut;
 use plans::cutting::left;
 use plans::refused;
-use records::Found;
 use records::kinds;
-use records::limits;
 use records::word_at;
+use ways::place_at;
 ghost use Rattle.cows.specs.Terms.{Term};
 ghost use Rattle.cows.specs.Places.{wayTo};
 ghost use Rattle.cows.specs.Moves.{timeoutAt};
@@ -20,15 +19,14 @@ pub fn judge(s: &[u8], ends: &[u16], a: usize) -> Plan
     requires { ⌜ Known (now s) (now ends) ⌝ }
     ensures { λ r. ⌜ ((t : Term) → Table (now (s .entry)) (now (ends .entry)) t → Planned (timeoutAt t a) (startOf a (wayTo t a)) r) ⌝ }
 {
-    let mut way = [0u16; limits::MAX_DEPTH];
-    let found = ways::live_at(s, ends, a, kinds::WAIT, &mut way);
-    let Found::At(k) = found else {
+    let place = place_at(s, ends, a, kinds::WAIT);
+    if !place.live {
         return refused(Judgement::Absent(a));
-    };
+    }
     if word_at(s, 16 * a + 14) != 0 {
         return refused(Judgement::Unripe(a));
     }
-    let from = ways::choice_start(s, &way, k, a);
+    let from = place.start;
     Plan {
         judgement: Judgement::Allowed(left(ends, s.len() / 16, a, from)),
         from,

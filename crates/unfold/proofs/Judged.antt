@@ -1,12 +1,12 @@
 -- Unfold (specs/Moves, unfoldAt) as it is judged and written.
 use mathlib.Core.Path.{_≡_, refl, sym, ap, _∙_}
-use mathlib.Core.Bool.{true, false, _&&_, _||_}
+use mathlib.Core.Bool.{true, false, _||_}
 use mathlib.Core.Option.{some}
 use mathlib.Core.List.{List, _++_, append-assoc}
 use Prim.Native.Nat.{ℕ, suc, _+_, _*_, _-_, _/_, _≤_, _<_}
 use native.Mathlib.Omega.{arith}
 use native.Mathlib.Numerals.{add-one}
-use lib.Dec.{ltb, eqb}
+use lib.Dec.{ltb}
 use lib.ListN.{length, getD, take, drop, length-drop}
 use lib.Seq.{take-all, drop-at, drop-drop, length-take-le}
 use borrow.Author.Tests.{ltb-true, ltb-false, lt-ltb}
@@ -15,7 +15,7 @@ use Rattle.cows.specs.Terms.{replication, parallel, Term, under, both, size, de
 use Rattle.cows.specs.Kinds.{join, root, kindOf}
 use Rattle.cows.specs.Places.{wayTo, sub}
 use Rattle.cows.specs.Format.{byte, layout, record16, encode}
-use Rattle.cows.specs.Active.{live, wanted}
+use Rattle.cows.specs.Active.{wanted}
 use Rattle.cows.specs.Within.{Within}
 use Rattle.cows.specs.Moves.{copy, afterUnfold, unfoldAt, freshCopy}
 use Rattle.cows.specs.Step.{overLimits}
@@ -32,9 +32,9 @@ use Rattle.records.proofs.Put.{and-then}
 use Rattle.records.proofs.StandsIn.{encode-both, holds-stands}
 use Rattle.ways.specs.Known.{Table, Known}
 use Rattle.ways.specs.Depths.{Standing}
-use Rattle.ways.specs.Ways.{LiveAt}
+use Rattle.ways.specs.Ways.{liveThere, LiveAt}
 use Rattle.ways.proofs.KnownTables.{table-size, table-ended}
-use Rattle.ways.proofs.Climbing.{way-short}
+use Rattle.ways.proofs.KnownTables.{way-short}
 use Rattle.ways.proofs.Deep.{standing}
 use Rattle.renaming.specs.Names.{Body}
 use Rattle.renaming.proofs.Copies.{within-body}
@@ -99,7 +99,7 @@ kind-of-replication : (s : Term) (i : Unit {0}) → prefixed replicates s ≡ so
 unfolding kindOf root record16 layout byte
 kind-of-replication s i e = ap kindOf (prefixed-is replicates (λ j. replication) (λ u. looks u .replicating) s i e)
 
-pub no-replication : (t : Term) (a : ℕ) → (ltb a (size t) && live (wayTo t a) && eqb (kindOf (sub t a)) 9) ≡ false → unfoldAt t a ≡ refuse 11 a
+pub no-replication : (t : Term) (a : ℕ) → liveThere t a 9 ≡ false → unfoldAt t a ≡ refuse 11 a
 unfolding unfoldAt _>>=_
 no-replication t a h = rw (absent (prefixed replicates) 9 kind-of-replication t a h)
 
@@ -112,23 +112,23 @@ pub record Judges (s ends : List ℕ) (a k : ℕ) : Type 0 where
   pub short : k < 256
   pub standing : Standing s ends a
 
-pub judges : (s ends way : List ℕ) (a k : ℕ) (q : Known s ends) → LiveAt s way a 9 (q .term) k → Judges s ends a k
-judges s ends way a k q h =
+pub judges : (s ends : List ℕ) (a : ℕ) (q : Known s ends) → a < length s / 16 → Judges s ends a (length (wayTo (q .term) a))
+judges s ends a q i =
     let t = q .term in
-    let l = h .walks .inside in
     let n = table-size s ends t (q .table) in
+    let l : a < size t = omega arith in
     let e = table-ended s ends t (q .table) a l in
     record {
       few = q .few;
       listed = omega (arith, q .room);
       some = omega arith;
       fits = omega (arith, spot-fits t a l);
-      short = omega (arith, h .walks .climbs .count, way-short t a (q .table .within .shallow));
+      short = way-short t a (q .table .within .shallow);
       standing = standing (sub t a) (holds-stands s t a (q .table .holds) l) (q .table .end);
     }
 
 -- a live replication, and the move on it
-module _ (s way : List ℕ) (t : Term) (a k : ℕ) (h : LiveAt s way a 9 t k) where
+module _ (s : List ℕ) (t : Term) (a : ℕ) (h : LiveAt s t a 9) where
   replication-at : sub t a ≡ under replication (below (sub t a))
   replication-at = kind-is 9 (sub t a) (h .kind-is)
 
@@ -136,10 +136,10 @@ module _ (s way : List ℕ) (t : Term) (a k : ℕ) (h : LiveAt s way a 9 t k) wh
   unfolding unfoldAt _>>=_ prefixed replicates
   unfolds =
       rw (live-wanted (prefixed replicates) t a tt (under replication (below (sub t a))) refl
-      (record { at = record { placed = h .walks .inside; stands = replication-at }; live = h .live }))
+      (record { at = record { placed = h .inside; stands = replication-at }; live = h .live }))
 
   -- the replication ends at place `end`, and its depth is b
-  module _ (ends : List ℕ) (z : Table s ends t) (end b : ℕ) (e : end ≡ getD ends a 0) (f : ((u : Term) → StandsIn s (16 * a) u → b ≡ depth u)) where
+  module _ (ends : List ℕ) (z : Table s ends t) (end b k : ℕ) (e : end ≡ getD ends a 0) (c : k ≡ length (wayTo t a)) (f : ((u : Term) → StandsIn s (16 * a) u → b ≡ depth u)) where
     abbrev n : ℕ
     n = length s / 16 + (end - a)
 
@@ -147,16 +147,16 @@ module _ (s way : List ℕ) (t : Term) (a k : ℕ) (h : LiveAt s way a 9 t k) wh
     d = k + 1 + b
 
     size-is : n ≡ size (afterUnfold t a)
-    size-is = omega (arith, table-size s ends t z, table-ended s ends t z a (h .walks .inside), unfold-size t a (h .walks .inside) replication-at)
+    size-is = omega (arith, table-size s ends t z, table-ended s ends t z a (h .inside), unfold-size t a (h .inside) replication-at)
 
     depth-is : d ≡ length (wayTo t a) + 1 + depth (sub t a)
-    depth-is = omega (arith, h .walks .climbs .count, f (sub t a) (holds-stands s t a (h .walks .holds) (h .walks .inside)))
+    depth-is = omega (arith, f (sub t a) (holds-stands s t a (h .holds) (h .inside)))
 
     pub unfold-allowed : (r : Plan) → (ltb 2048 n || ltb 256 d) ≡ false → r .judgement ≡ Allowed n → r .from ≡ a → Planned (unfoldAt t a) a r
     unfold-allowed r o j p =
         let (x, y) = or-false (ltb 2048 n) (ltb 256 d) o in
         let small : size (afterUnfold t a) ≤ 2048 = omega (arith, size-is, ltb-false 2048 n x) in
-        let shallow = unfold-shallow t a (h .walks .inside) replication-at (z .within) (omega (arith, depth-is, ltb-false 256 d y)) in
+        let shallow = unfold-shallow t a (h .inside) replication-at (z .within) (omega (arith, depth-is, ltb-false 256 d y)) in
         planned-allowed r (afterUnfold t a) n j unfolds (within-limits (afterUnfold t a) small shallow) size-is p
 
     pub unfold-large : (r : Plan) → (ltb 2048 n || ltb 256 d) ≡ true → r .judgement ≡ Large → r .from ≡ a → Planned (unfoldAt t a) a r
@@ -164,7 +164,7 @@ module _ (s way : List ℕ) (t : Term) (a k : ℕ) (h : LiveAt s way a 9 t k) wh
     unfold-large r o j p =
         planned-large r (afterUnfold t a) j unfolds
         (or-both {a = ltb 2048 n} (λ x. lt-ltb 2048 (size (afterUnfold t a)) (omega (arith, size-is, ltb-true 2048 n x)))
-        (λ y. lt-ltb 256 (depth (afterUnfold t a)) (unfold-deep t a (h .walks .inside) replication-at (omega (arith, depth-is, ltb-true 256 d y)))) o) p
+        (λ y. lt-ltb 256 (depth (afterUnfold t a)) (unfold-deep t a (h .inside) replication-at (omega (arith, depth-is, ltb-true 256 d y)))) o) p
 
 -- what an allowed move had
 pub allowed-replication : (t : Term) (a : ℕ) (r : Term) → unfoldAt t a ≡ accept r → (a < size t) × (sub t a ≡ under replication (below (sub t a))) × (r ≡ afterUnfold t a)

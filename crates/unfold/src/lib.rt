@@ -2,11 +2,12 @@
 use plans::Judgement;
 use plans::Plan;
 use plans::refused;
-use records::Found;
 use records::copying::copy;
 use records::kinds;
 use records::limits;
 use records::wide16;
+use ways::depths::depth_at;
+use ways::place_at;
 ghost use mathlib.Core.Path.{_≡_};
 ghost use Prim.Native.Nat.{_+_, _<_};
 ghost use lib.ListN.{length};
@@ -18,18 +19,17 @@ ghost use Rattle.records.specs.Rewrites.{put};
 ghost use Rattle.ways.specs.Known.{Table, Known};
 ghost use Rattle.plans.specs.Plans.{Planned, Asks, Gives};
 
-// The move on the replication at place a, which is the place of its plan. The k records on the way to it and the parallel stand above it.
+// The move on the replication at place a, which is the place of its plan. The records on the way to it and the parallel stand above it.
 pub fn judge(s: &[u8], ends: &[u16], a: usize) -> Plan
     requires { ⌜ Known (now s) (now ends) ⌝ }
     ensures { λ r. ⌜ ((t : Term) → Table (now (s .entry)) (now (ends .entry)) t → Planned (unfoldAt t a) a r) ⌝ }
 {
-    let mut way = [0u16; limits::MAX_DEPTH];
-    let found = ways::live_at(s, ends, a, kinds::REPLICATION, &mut way);
-    let Found::At(k) = found else {
+    let place = place_at(s, ends, a, kinds::REPLICATION);
+    if !place.live {
         return refused(Judgement::Absent(a));
-    };
+    }
     let size = s.len() / 16 + (wide16(ends[a]) - a);
-    let depth = k + 1 + ways::depths::depth_at(s, ends, a);
+    let depth = place.above + 1 + depth_at(s, ends, a);
     if (limits::MAX_RECORDS < size) | (limits::MAX_DEPTH < depth) {
         return Plan {
             judgement: Judgement::Large,

@@ -1,7 +1,7 @@
-pub mod Climbing
 pub mod Frames
 pub mod KnownTables
 pub mod Starts
 pub mod Deep
 pub mod Seeking
 pub mod Once
+pub mod Descending

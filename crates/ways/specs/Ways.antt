@@ -1,58 +1,32 @@
--- The way from the root to a place, as the places of its records, the nearest first.
+-- The way from the root down to a place, a record at a time, and what it says of the place.
 use mathlib.Core.Path.{_≡_}
+use mathlib.Core.Bool.{Bool, true, cond, _&&_}
 use mathlib.Core.List.{List, [], _∷_}
-use mathlib.Core.Bool.{true, false, cond, _&&_}
 use mathlib.Core.Option.{Option, none, some}
-use Prim.Native.Nat.{ℕ, _/_, _≤_, _<_}
+use Prim.Native.Nat.{ℕ, _+_, _≤_, _<_}
 use lib.Dec.{ltb, eqb}
-use lib.ListN.{length, getD, take, drop}
-use Rattle.cows.specs.Limits.{maxDepth, maxRecords}
-use Rattle.cows.specs.Terms.{Term, size, depth}
+use lib.ListN.{length}
+use Rattle.cows.specs.Terms.{Term, size}
 use Rattle.cows.specs.Kinds.{kindOf}
-use Rattle.cows.specs.Places.{Frame, plug, Way, fill, wayTo, sub, frameDelimits, frameChooses}
+use Rattle.cows.specs.Places.{Frame, plug, Way, wayTo, sub, frameDelimits, frameChooses}
 use Rattle.cows.specs.Active.{live}
-use Rattle.cows.specs.Records as places
 use Rattle.cows.specs.Records.{ahead}
 use Rattle.records.specs.Holds.{Holds}
-use Rattle.records.specs.declared.Found.{Found}
-use Rattle.records.specs.declared.Found.the-variants.{At, Nothing}
-use Rattle.ways.specs.Known.{EndPlaces}
+use Rattle.ways.specs.declared.Place.{Place}
 
--- The record of the frame with number k on the way to place a stands at place p.
-pub record OnWay (t : Term) (a k p : ℕ) : Type 0 where
+-- The term at place p holds place a: p is a itself or a record on the way to it.
+pub record Over (t : Term) (p a : ℕ) : Type 0 where
+  pub inside : p < size t
+  pub low : p ≤ a
+  pub over : a < p + size (sub t p)
+
+-- From place p the way to place a goes on to place q, in a frame of the record at p.
+pub record Step (t : Term) (p a q : ℕ) : Type 0 where
   pub frame : Frame
-  pub rest : Way
-  pub way : drop k (wayTo t a) ≡ frame ∷ rest
-  pub at : places.At t p rest (plug frame (fill (take k (wayTo t a)) (sub t a)))
-
--- The first n numbers of `way` are the places on the way to place a.
-pub record Climbs (t : Term) (a : ℕ) (way : List ℕ) (n : ℕ) : Type 0 where
-  pub count : n ≡ length (wayTo t a)
-  pub step : (k : ℕ) → k < n → OnWay t a k (getD way k 0)
-
--- Place a is one of a term that is not too deep, whose ends are at hand.
-pub record Climbable (ends : List ℕ) (a : ℕ) : Type 0 where
-  pub term : Term
-  pub end : EndPlaces ends term
-  pub shallow : depth term ≤ maxDepth
-  pub inside : a < size term
-  pub room : a < length ends
-  pub few : a < maxRecords
-
--- The table s holds t, and the first n numbers of `way` are the places on the way to its place a.
-pub record Walks (s way : List ℕ) (n : ℕ) (t : Term) (a : ℕ) : Type 0 where
-  pub holds : Holds s t
-  pub inside : a < size t
-  pub climbs : Climbs t a way n
-
--- There are such a term and such a place. The other fields follow; they are here for `omega`.
-pub record Walk (s way : List ℕ) (n : ℕ) : Type 0 where
-  pub term : Term
-  pub place : ℕ
-  pub walks : Walks s way n term place
-  pub room : n ≤ length way
-  pub short : n < maxDepth
-  pub small : (k : ℕ) → k < n → getD way k 0 < length s / 16
+  pub way : wayTo t q ≡ frame ∷ wayTo t p
+  pub stands : sub t p ≡ plug frame (sub t q)
+  pub further : p < q
+  pub over : Over t q a
 
 -- where the whole choice around a place begins, and where the nearest delimitation of an atom on a way stands
 unfoldable pub startOf : ℕ → Way → ℕ
@@ -63,12 +37,25 @@ unfoldable pub scopeOf : ℕ → Way → Option ℕ
 scopeOf d [] = none
 scopeOf d (f ∷ w) = cond (frameDelimits d f) (some (length (ahead w))) (scopeOf d w)
 
--- A live record of the kind stands at place a, and the first k numbers of `way` are the places on the way to it; or there is none.
-pub record LiveAt (s way : List ℕ) (a kind : ℕ) (t : Term) (k : ℕ) : Type 0 where
-  pub walks : Walks s way k t a
+-- where the record above stands, by the way to a place (0 at the root)
+unfoldable pub parentOf : Way → ℕ
+parentOf [] = 0
+parentOf (f ∷ w) = length (ahead w)
+
+-- a live record of the kind stands at place a
+abbrev pub liveThere : Term → ℕ → ℕ → Bool
+liveThere t a kind = ltb a (size t) && live (wayTo t a) && eqb (kindOf (sub t a)) kind
+
+-- What is said of place a, if such a record stands there.
+pub record Placed (t : Term) (a kind : ℕ) (r : Place) : Type 0 where
+  pub told : r .live ≡ liveThere t a kind
+  pub above-is : r .live ≡ true → r .above ≡ length (wayTo t a)
+  pub parent-is : r .live ≡ true → r .parent ≡ parentOf (wayTo t a)
+  pub start-is : r .live ≡ true → r .start ≡ startOf a (wayTo t a)
+
+-- The table s holds t, and such a record stands there.
+pub record LiveAt (s : List ℕ) (t : Term) (a kind : ℕ) : Type 0 where
+  pub holds : Holds s t
+  pub inside : a < size t
   pub live : live (wayTo t a) ≡ true
   pub kind-is : kindOf (sub t a) ≡ kind
-
-pub record Lives (s way : List ℕ) (a kind : ℕ) (t : Term) (f : Found) : Type 0 where
-  pub found : (k : ℕ) → f ≡ At k → LiveAt s way a kind t k
-  pub none : f ≡ Nothing → (ltb a (size t) && live (wayTo t a) && eqb (kindOf (sub t a)) kind) ≡ false

@@ -1,4 +1,5 @@
-// Ways: the way from the root to a place of a known table, which records it passes, and what they say of the place; how deep a term is.
+// Ways: from the root of a known table down to a place, by the ends of terms. A way has as many steps as the place is deep, and is stored nowhere: one walk
+// tells what a move asks of a place, another the scope of an atom. How deep a term is: depths.
 pub mod depths;
 
 use records::Atom;
@@ -8,37 +9,25 @@ use records::equal;
 use records::kinds;
 use records::wide16;
 ghost use mathlib.Core.Path.{_≡_};
-ghost use Prim.Native.Nat.{ℕ, _+_, _*_, _≤_, _<_};
+ghost use mathlib.Core.Bool.{false};
+ghost use Prim.Native.Nat.{_+_, _*_, _/_, _<_};
 ghost use lib.ListN.{length};
-ghost use Rattle.cows.specs.Limits.{maxDepth};
 ghost use Rattle.cows.specs.Terms.{Term, size, delimitsAt};
 ghost use Rattle.cows.specs.Kinds.{liveKind};
 ghost use Rattle.cows.specs.Places.{wayTo, sub};
-ghost use Rattle.cows.specs.Active.{live};
 ghost use Rattle.records.specs.Atoms.{numberOf};
 ghost use Rattle.records.specs.Holds.{Holds};
 ghost use Rattle.records.specs.Answers.{foundOf};
 ghost use Rattle.ways.specs.Known.{Table, Known, EndPlaces};
-ghost use Rattle.ways.specs.Ways.{Climbs, Climbable, Walks, Walk, startOf, scopeOf, Lives};
+ghost use Rattle.ways.specs.Ways.{Over, Step, scopeOf, Placed};
 
-// The places of the records on the way to place a, the nearest first, and how many there are: those that begin before it and end behind it.
-pub fn climb(ends: &[u16], a: usize, out: &mut [u16]) -> usize
-    requires { ⌜ Climbable (now ends) a × (maxDepth ≤ length (now out)) ⌝ }
-    ensures { λ n. ⌜ ((t : Term) → EndPlaces (now (ends .entry)) t → a < size t → Climbs t a (now (out .exit)) n) ⌝ }
+// The next record on the way from the record at place p down to place a: its second child, if a lies behind the first.
+fn down(ends: &[u16], p: usize, a: usize) -> usize
+    requires { ⌜ p + 1 < length (now ends) ⌝ }
+    ensures { λ q. ⌜ ((t : Term) → EndPlaces (now (ends .entry)) t → Over t p a → p < a → Step t p a q) ⌝ }
 {
-    let mut n = 0;
-    let mut c = a;
-    let mut i = a;
-    while 0 < i {
-        i -= 1;
-        if wide16(ends[i]) <= c {
-            continue;
-        }
-        c = i;
-        out[n] = i as u16;
-        n += 1;
-    }
-    n
+    let end = wide16(ends[p + 1]);
+    if a < end { p + 1 } else { end }
 }
 
 // Whether the way to a live record may pass a record of this kind.
@@ -48,77 +37,81 @@ pub fn live_kind(kind: u8) -> bool
     (kinds::CHOICE <= kind) & (kind <= kinds::DELIMITATION)
 }
 
-// Whether the place is live, by the n records on the way to it.
-pub fn live(s: &[u8], way: &[u16], n: usize) -> bool
-    requires { ⌜ Walk (now s) (now way) n ⌝ }
-    ensures { λ r. ⌜ ((t : Term) (a : ℕ) → Walks (now (s .entry)) (now (way .entry)) n t a → r ≡ live (wayTo t a)) ⌝ }
-{
-    let mut k = 0;
-    while k < n {
-        if !live_kind(s[16 * wide16(way[k])]) {
-            return false;
-        }
-        k += 1;
-    }
-    true
+// What the way to a place says of it: whether a live record of the kind that is asked for stands there, and if so how many records are above it, the last of
+// them, and where the whole choice around it begins.
+pub struct Place {
+    pub live: bool,
+    pub above: usize,
+    pub parent: usize,
+    pub start: usize,
 }
 
-// Where the whole choice around place a begins.
-pub fn choice_start(s: &[u8], way: &[u16], n: usize, a: usize) -> usize
-    requires { ⌜ Walk (now s) (now way) n ⌝ }
-    ensures { λ r. ⌜ ((t : Term) → Walks (now (s .entry)) (now (way .entry)) n t a → r ≡ startOf a (wayTo t a)) ⌝ }
+// No such record.
+fn nowhere() -> Place
+    ensures { λ r. ⌜ r .live ≡ false ⌝ }
 {
-    let mut c = a;
-    let mut k = 0;
-    while k < n {
-        let p = wide16(way[k]);
-        if s[16 * p] != kinds::CHOICE {
-            return c;
-        }
-        c = p;
-        k += 1;
+    Place {
+        live: false,
+        above: 0,
+        parent: 0,
+        start: 0,
     }
-    c
+}
+
+// Place a, if a live record of the kind stands there.
+pub fn place_at(s: &[u8], ends: &[u16], a: usize, kind: u8) -> Place
+    requires { ⌜ Known (now s) (now ends) ⌝ }
+    ensures { λ r. ⌜ ((t : Term) → Table (now (s .entry)) (now (ends .entry)) t → Placed t a kind r) ⌝ }
+{
+    if s.len() / 16 <= a {
+        return nowhere();
+    }
+    if s[16 * a] != kind {
+        return nowhere();
+    }
+    let mut p = 0;
+    let mut above = 0;
+    let mut parent = 0;
+    let mut start = 0;
+    while p < a {
+        let here = s[16 * p];
+        if !live_kind(here) {
+            return nowhere();
+        }
+        parent = p;
+        p = down(ends, p, a);
+        above += 1;
+        if here != kinds::CHOICE {
+            start = p;
+        }
+    }
+    Place {
+        live: true,
+        above,
+        parent,
+        start,
+    }
 }
 
 // Whether the record at place p is a delimitation of the atom.
-pub fn delimits(s: &[u8], p: usize, atom: Atom) -> bool
+fn delimits(s: &[u8], p: usize, atom: Atom) -> bool
     requires { ⌜ 16 * p + 15 < length (now s) ⌝ }
     ensures { λ r. ⌜ ((t : Term) → Holds (now (s .entry)) t → p < size t → r ≡ delimitsAt (numberOf atom) (sub t p)) ⌝ }
 {
     (s[16 * p] == kinds::DELIMITATION) & equal(atom_at(s, 16 * p + 2), atom)
 }
 
-// The delimitation of an atom that encloses the place, by the n records on the way to it.
-pub fn scope(s: &[u8], way: &[u16], n: usize, atom: Atom) -> Found
-    requires { ⌜ Walk (now s) (now way) n ⌝ }
-    ensures { λ r. ⌜ ((t : Term) (a : ℕ) → Walks (now (s .entry)) (now (way .entry)) n t a → r ≡ foundOf (scopeOf (numberOf atom) (wayTo t a))) ⌝ }
+// The delimitation of an atom that encloses place a.
+pub fn scope(s: &[u8], ends: &[u16], a: usize, atom: Atom) -> Found
+    requires { ⌜ Known (now s) (now ends) × (a < length (now s) / 16) ⌝ }
+    ensures { λ r. ⌜ ((t : Term) → Table (now (s .entry)) (now (ends .entry)) t → r ≡ foundOf (scopeOf (numberOf atom) (wayTo t a))) ⌝ }
 {
-    let mut k = 0;
-    while k < n {
-        let p = wide16(way[k]);
+    let mut p = 0;
+    while p < a {
         if delimits(s, p, atom) {
             return Found::At(p);
         }
-        k += 1;
+        p = down(ends, p, a);
     }
     Found::Nothing
-}
-
-// Whether a live record of the kind stands at place a; if so, the records on the way to it are put down in `way`, and their number is the answer.
-pub fn live_at(s: &[u8], ends: &[u16], a: usize, kind: u8, way: &mut [u16]) -> Found
-    requires { ⌜ Known (now s) (now ends) × (length (now way) ≡ maxDepth) ⌝ }
-    ensures { λ r. ⌜ ((t : Term) → Table (now (s .entry)) (now (ends .entry)) t → Lives (now (s .entry)) (now (way .exit)) a kind t r) ⌝ }
-{
-    if s.len() / 16 <= a {
-        return Found::Nothing;
-    }
-    if s[16 * a] != kind {
-        return Found::Nothing;
-    }
-    let k = climb(ends, a, way);
-    if !live(s, way, k) {
-        return Found::Nothing;
-    }
-    Found::At(k)
 }

@@ -8,11 +8,6 @@ pub meeting-plan-spec : {M : Type 1} → statement M
 meeting-plan-spec =
     tie.close
     (tie.spec
-    (λ c κs. c .before .before .before .pre .way)
-    (λ c κs.
-    let p = c .before .before .before .before .pre in
-    receive-span (p .known .table) (p .live) (c .choice-start .ensures (p .known .term) (p .live .walks)))
-    (λ c.
-    let p = c .before .before .before .before .before .pre in
-    omega (arith, c .left .ensures, records-left (p .known .table) (p .live) (c .before .choice-start .ensures (p .known .term) (p .live .walks)) (p .meets)))
-    (λ c t b z h m. meeting-planned z h (c .before .choice-start .ensures t (h .walks)) m _ _ _ refl refl (c .left .ensures) refl))
+    (λ c κs. let p = c .before .before .pre in receive-span (p .known .table) (p .live) (p .start))
+    (λ c. let p = c .before .before .before .pre in omega (arith, c .left .ensures, records-left (p .known .table) (p .live) (p .start) (p .meets)))
+    (λ c t b z h f m. meeting-planned z h f m _ _ _ refl refl (c .left .ensures) refl))

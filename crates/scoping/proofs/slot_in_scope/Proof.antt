@@ -9,8 +9,8 @@ slot-in-scope-spec =
     tie.close
     (tie.spec
     (λ c κs. search needs) (λ c. search needs) (λ c. search needs)
-    (λ c t a b h. rw (takes-nothing _ _ (sym (c .enum-told .given .1) ∙ c .before .before .takes-at .ensures) (λ z. h z .sent)))
+    (λ c t z h. rw (takes-nothing _ _ (sym (c .enum-told .given .1) ∙ c .before .before .takes-at .ensures) (λ y. h y .sent)))
     (λ c κs. search needs)
-    (λ c t a b h.
+    (λ c t z h.
     let p = takes-pair _ _ _ _ (sym (c .before .before .x .given .1) ∙ c .before .before .before .before .takes-at .ensures) in
-    rw (p .2, ← p .0, ← p .1) (c .in-scope .ensures t a b (rw (← p .1) at (h (p .2))))))
+    rw (p .2, ← p .0, ← p .1) (c .in-scope .ensures t z (rw (← p .1) at (h (p .2))))))

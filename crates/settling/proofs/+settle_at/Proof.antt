@@ -11,7 +11,7 @@ use Rattle.settling.proofs.settle_at.Reads as settle-at
 use Rattle.settling.proofs.settle_at.Kinds as settle-at-kinds
 use Rattle.settling.proofs.+settle_at.Lts-settle_at as settle-at-lts
 use Rattle.records.proofs.children.Reads as children-reads
-use Rattle.records.proofs.copying.copy.Reads as copy-reads
+use Rattle.records.proofs.copying.copy_record.Reads as copy-record-reads
 use Rattle.records.proofs.copying.copy_term.Reads as copy-term-reads
 use Rattle.records.proofs.wide16.Reads as wide16-reads
 use Rattle.rewriting.proofs.end_at.Reads as end-at-reads
@@ -39,8 +39,8 @@ pub +settle-at-spec : {M : Type 1} → statement M
   any-between-reads.Learnt,
   copy-term-reads.Asked,
   copy-term-reads.Learnt,
-  copy-reads.Asked,
-  copy-reads.Learnt,
+  copy-record-reads.Asked,
+  copy-record-reads.Learnt,
   index-of-reads.Asked,
   index-of-reads.Learnt,
   wide16-reads.Asked,
@@ -74,7 +74,7 @@ pub +settle-at-spec : {M : Type 1} → statement M
     (λ c. search needs)
     (λ c. let i = c .before .before .before .before .before .before .before in
     let r = i .before .before .before .before .before .before .before .before .before .before .before .before .before .pre .1 in
-    scope-gives (r .0) (r .1 .0) (r .1 .1) (i .index-of .ensures) (search needs) (rw (c .before .before .before .before .wide16 .ensures .0) at (c .before .before .aside-at .ensures)) (search needs) (i .before .before .before .copy .ensures))
+    scope-gives (r .0) (r .1 .0) (r .1 .1) (i .index-of .ensures) (search needs) (rw (c .before .before .before .before .wide16 .ensures .0) at (c .before .before .aside-at .ensures)) (search needs) (i .before .before .before .copy-record .ensures))
     (λ c. search needs) (λ c. search needs)
     (λ c κs. let i = c .before .before in
     let j = i .before .before .before .before .before in
@@ -96,11 +96,11 @@ pub +settle-at-spec : {M : Type 1} → statement M
     two-on (r .0) (r .1 .0) (r .1 .1) (c .before .before .before .before .before .before .before .before .before .before .before .before .before .before .before .before .before .before .before .end-at .ensures)
     (c .before .before .before .before .before .before .before .before .before .before .before .before .before .before .before .before .before .before .any-between .ensures) (not-false _ (c .before .before .before .before .before .before .before .before .before .before .before .before .before .before .before .before .before .if1 .left))
     (c .before .before .before .before .before .before .before .before .before .before .before .before .index-of .ensures) (search needs) (c .before .before .before .before .before .before .before .before .before .settle-at .ensures) (search needs) (search needs)
-    (c .before .before .before .before .before .before .before .before .before .before .before .before .before .before .before .copy .ensures) (c .before .before .settle-at2 .ensures))
+    (c .before .before .before .before .before .before .before .before .before .before .before .before .before .before .before .copy-record .ensures) (c .before .before .settle-at2 .ensures))
     (λ c. search needs)
     (λ c. let f = c .before .before .before .before .before in
     let i = f .before .before .before in
     let j = i .before .before .before .before .before in
     let r = j .before .before .before .before .before .before .before .before .pre .1 in
     one-on (r .0) (r .1 .0) (r .1 .1) (j .before .before .end-at .ensures) (j .before .any-between .ensures) (not-false _ (j .if1 .left)) (i .index-of .ensures) (search needs)
-    (f .settle-at .ensures) (search needs) (search needs) (i .before .before .before .copy .ensures))
+    (f .settle-at .ensures) (search needs) (search needs) (i .before .before .before .copy-record .ensures))

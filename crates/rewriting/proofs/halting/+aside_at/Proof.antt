@@ -12,7 +12,7 @@ use Rattle.rewriting.proofs.halting.aside_at.Reads as aside-at
 use Rattle.rewriting.proofs.halting.aside_at.Kinds as aside-at-kinds
 use Rattle.rewriting.proofs.halting.+aside_at.Lts-aside_at as aside-at-lts
 use Rattle.records.proofs.children.Reads as children-reads
-use Rattle.records.proofs.copying.copy.Reads as copy-reads
+use Rattle.records.proofs.copying.copy_record.Reads as copy-record-reads
 use Rattle.records.proofs.copying.nil_at.Reads as nil-at-reads
 use Rattle.rewriting.proofs.end_at.Reads as end-at-reads
 use Rattle.rewriting.proofs.halting.halt_at.Reads as halt-at-reads
@@ -35,8 +35,8 @@ pub +aside-at-spec : {M : Type 1} → statement M
   end-at-reads.Learnt,
   nil-at-reads.Asked,
   nil-at-reads.Learnt,
-  copy-reads.Asked,
-  copy-reads.Learnt,
+  copy-record-reads.Asked,
+  copy-record-reads.Learnt,
   aside-at-below t,
   aside-at.Post,
   children-reads.Asked,
@@ -58,11 +58,11 @@ pub +aside-at-spec : {M : Type 1} → statement M
     (λ c. search needs)
     (λ c. let r = c .before .before .before .before .before .before .before .before .before .before .before .before .before .before .before .before .before .before .before .before .before .pre .1 in
     way-first-both (r .0) (r .1) (search needs) (search needs) (c .before .before .before .before .before .before .before .before .before .aside-at .ensures) (search needs) (search needs)
-    (c .before .before .before .before .before .before .before .before .before .before .before .before .before .before .before .copy .ensures) (c .before .before .halt-at .ensures))
+    (c .before .before .before .before .before .before .before .before .before .before .before .before .before .before .before .copy-record .ensures) (c .before .before .halt-at .ensures))
     (λ c. search needs)
     (λ c. let r = c .before .before .before .before .before .before .before .before .before .before .before .before .before .before .before .before .before .pre .1 in
     way-first-one (r .0) (r .1) (search needs) (search needs) (c .before .before .before .before .before .aside-at .ensures) (search needs) (search needs)
-    (c .before .before .before .before .before .before .before .before .before .before .before .copy .ensures))
+    (c .before .before .before .before .before .before .before .before .before .before .before .copy-record .ensures))
     (λ c. search needs) (λ c. search needs)
     (λ c κs. let r = c .before .before .before .before .before .before .before .before .before .before .before .pre .1 in halt-first-asks (r .0) (r .1) (search needs) (search needs) (search needs) (search needs))
     (λ c κs. let r = c .before .before .before .before .before .before .before .before .before .before .before .before .before .before .before .pre .1 in
@@ -70,4 +70,4 @@ pub +aside-at-spec : {M : Type 1} → statement M
     (λ c. search needs)
     (λ c. let r = c .before .before .before .before .before .before .before .before .before .before .before .before .before .before .before .before .before .before .pre .1 in
     way-second-both (r .0) (r .1) (search needs) (search needs) (c .before .before .before .before .before .before .halt-at2 .ensures) (search needs)
-    (c .before .before .before .before .before .before .before .before .before .before .before .before .copy .ensures) (c .before .before .aside-at2 .ensures))
+    (c .before .before .before .before .before .before .before .before .before .before .before .before .copy-record .ensures) (c .before .before .aside-at2 .ensures))

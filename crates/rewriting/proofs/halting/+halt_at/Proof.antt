@@ -15,7 +15,7 @@ use Rattle.rewriting.proofs.halting.halt_at.Reads as halt-at
 use Rattle.rewriting.proofs.halting.halt_at.Kinds as halt-at-kinds
 use Rattle.rewriting.proofs.halting.+halt_at.Lts-halt_at as halt-at-lts
 use Rattle.records.proofs.children.Reads as children-reads
-use Rattle.records.proofs.copying.copy.Reads as copy-reads
+use Rattle.records.proofs.copying.copy_record.Reads as copy-record-reads
 use Rattle.records.proofs.copying.copy_term.Reads as copy-term-reads
 use Rattle.records.proofs.copying.nil_at.Reads as nil-at-reads
 use Rattle.rewriting.proofs.end_at.Reads as end-at-reads
@@ -39,8 +39,8 @@ pub +halt-at-spec : {M : Type 1} → statement M
   nil-at-reads.Learnt,
   copy-term-reads.Asked,
   copy-term-reads.Learnt,
-  copy-reads.Asked,
-  copy-reads.Learnt,
+  copy-record-reads.Asked,
+  copy-record-reads.Learnt,
   halt-at-below t,
   halt-at.Post,
   children-reads.Asked,
@@ -69,8 +69,8 @@ pub +halt-at-spec : {M : Type 1} → statement M
     (λ c. search needs)
     (λ c. let r = c .before .before .before .before .before .before .before .before .before .before .before .before .before .before .before .before .before .before .before .before .pre .1 in
     two-children halt halt halt Through halt-step (r .0) (r .1) (through-at (search needs) (search needs)) (children-some _ (search needs)) (c .before .before .before .before .before .before .before .before .halt-at .ensures) (search needs)
-    (search needs) (c .before .before .before .before .before .before .before .before .before .before .before .before .copy .ensures) (c .before .before .halt-at2 .ensures))
+    (search needs) (c .before .before .before .before .before .before .before .before .before .before .before .before .copy-record .ensures) (c .before .before .halt-at2 .ensures))
     (λ c. search needs)
     (λ c. let r = c .before .before .before .before .before .before .before .before .before .before .before .before .before .before .before .before .pre .1 in
     one-child halt halt halt Through halt-step (r .0) (r .1) (through-at (search needs) (search needs)) (children-some _ (search needs)) (c .before .before .before .before .halt-at .ensures) (search needs) (search needs)
-    (c .before .before .before .before .before .before .before .before .copy .ensures))
+    (c .before .before .before .before .before .before .before .before .copy-record .ensures))

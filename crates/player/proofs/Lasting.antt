@@ -1,0 +1,58 @@
+-- Time changes no shape: the ends of a table's terms are those of its successor, and play keeps them.
+use mathlib.Core.Path.{_≡_, refl, sym, ap, _∙_}
+use mathlib.Core.List.{List, [], _∷_}
+use mathlib.Core.Option.{Option, some}
+use Prim.Native.Nat.{ℕ, zero, suc, _+_, _-_, _*_, _/_, _≤_, _<_}
+use native.Mathlib.Omega.{arith}
+use lib.Dec.{ltb}
+use borrow.Author.Tests.{ltb-true, ltb-false}
+use lib.ListN.{length, getD, drop}
+use Rattle.cows.specs.Terms.{Term, leaf, under, both, size}
+use Rattle.cows.specs.Kinds.{kind, prefix, liveKind}
+use Rattle.cows.specs.Places.{inside, leftOf, rightOf, Way, Spot, descend, spotAt, sub}
+use Rattle.cows.specs.Moves.{lower, elapse}
+use Rattle.cows.proofs.Basics.{bool-case, cond-case, cond-case₂}
+use Rattle.cows.proofs.Places.{descend-here}
+use Rattle.cows.proofs.Recordwise.{of-size, elapse-keeps}
+use Rattle.records.specs.Holds.{Holds}
+use Rattle.records.specs.Ends.{EndsFrom}
+use Rattle.records.proofs.StandsIn.{holds-size, holds-stands}
+use Rattle.records.proofs.Shapes.{end-over, end-stands}
+use Rattle.ways.specs.Known.{Table}
+use Rattle.ways.proofs.KnownTables.{table-size, table-ended}
+
+size-elapse : (d : ℕ) (v w : Way) (t : Term) (n : ℕ) → size (descend v (elapse d t) n .here) ≡ size (descend w t n .here)
+unfolding descend elapse
+size-elapse d v w (leaf x) n = refl
+size-elapse d v w (under u t) zero = elapse-keeps of-size d (under u t)
+size-elapse d v w (under u t) (suc n) =
+    cond-case (λ r. size (descend (inside (lower d u) ∷ v) r n .here) ≡ size (descend (inside u ∷ w) t n .here)) (liveKind (kind (prefix u)))
+    (λ e. size-elapse d (inside (lower d u) ∷ v) (inside u ∷ w) t n) (λ e. ap size (descend-here (inside (lower d u) ∷ v) (inside u ∷ w) t n))
+size-elapse d v w (both j s t) zero = elapse-keeps of-size d (both j s t)
+size-elapse d v w (both j s t) (suc n) =
+    rw (elapse-keeps of-size d s)
+    (cond-case₂ (λ (x y : Spot). size (x .here) ≡ size (y .here)) (ltb n (size s))
+    (λ e. size-elapse d (leftOf j (elapse d t) ∷ v) (leftOf j t ∷ w) s n) (λ e. size-elapse d (rightOf j (elapse d s) ∷ v) (rightOf j s ∷ w) t (n - size s)))
+
+-- the term at each place is as large as it was
+pub sub-elapse : (d : ℕ) (t : Term) (n : ℕ) → size (sub (elapse d t) n) ≡ size (sub t n)
+unfolding sub spotAt
+sub-elapse d t n = size-elapse d [] [] t n
+
+-- so the ends of its table are those of the table before
+pub ends-last : (s next ends : List ℕ) (t : Term) (d : ℕ) → Table s ends t → Holds next (elapse d t) → EndsFrom next ends 0
+ends-last s next ends t d h k =
+    let n = table-size s ends t h in
+    let n′ = holds-size next (elapse d t) k ∙ elapse-keeps of-size d t in
+    record {
+      few = omega (arith, n, n′, h .end .few);
+      room = omega (arith, n, n′, h .end .room);
+      end = λ m lo hi.
+          bool-case _ (ltb m (size t))
+          (λ e.
+          table-ended s ends t h m (ltb-true m (size t) e)
+          ∙ (ap (λ x. m + x) (sym (sub-elapse d t m)) ∙ sym (end-stands next (sub (elapse d t) m) m (holds-stands next (elapse d t) m k (omega (arith, ltb-true m (size t) e, elapse-keeps of-size d t))))))
+          (λ e.
+          h .end .end m (omega arith) (omega (arith, n, n′))
+          ∙ (end-over s m (omega (arith, n, ltb-false m (size t) e)) ∙ (ap (λ x. x + 1) (n ∙ sym n′) ∙ sym (end-over next m (omega (arith, n′, ltb-false m (size t) e))))));
+    }
