@@ -22,7 +22,7 @@ pub fn blocks(random: &mut Random) -> Vec<u8> {
     }
     let count = maker.random.pick(&[1, 2, 2, 3, 3, 4, 5, 6, 7, 8, 10, 10]);
     let all = (0..count).map(|_| maker.block(2)).collect();
-    maker.beside(all)
+    beside(maker.random, all)
 }
 
 /// Eight scopes or nine with about 2,048 records, or eight whose kills are about 256 deep.
@@ -35,6 +35,16 @@ pub fn large_blocks(random: &mut Random) -> Vec<u8> {
     }
 }
 
+/// Parts side by side, in their order.
+pub fn beside(random: &mut Random, mut parts: Vec<Vec<u8>>) -> Vec<u8> {
+    if parts.len() < 2 {
+        return parts.pop().unwrap_or_else(nil);
+    }
+    let right = parts.split_off(random.between(1, parts.len() - 1));
+    let left = beside(random, parts);
+    parallel(left, beside(random, right))
+}
+
 impl Maker<'_> {
     fn new(random: &mut Random) -> Maker<'_> {
         let mixture = random.pick(&MIXTURES);
@@ -44,16 +54,6 @@ impl Maker<'_> {
     fn new_atom(&mut self, low: u16) -> u16 {
         self.atoms += 1;
         low + self.atoms
-    }
-
-    /// Parts side by side, in their order.
-    fn beside(&mut self, mut parts: Vec<Vec<u8>>) -> Vec<u8> {
-        if parts.len() < 2 {
-            return parts.pop().unwrap_or_else(nil);
-        }
-        let right = parts.split_off(self.random.between(1, parts.len() - 1));
-        let left = self.beside(parts);
-        parallel(left, self.beside(right))
     }
 
     /// A scope, alone or inside something, or a leaf; scopes stand so many levels inside one another.
@@ -82,7 +82,7 @@ impl Maker<'_> {
         parts.extend((0..others).map(|_| self.part(levels)));
         self.open.pop();
         self.random.shuffle(&mut parts);
-        delimitation(k, self.beside(parts))
+        delimitation(k, beside(self.random, parts))
     }
 
     /// A kill, at times protected, replicated or dormant.
@@ -126,7 +126,7 @@ impl Maker<'_> {
         let records = self.random.pick(&[2_047, 2_048, 2_048, 2_048, 2_049]) - (scopes - 1);
         let share = |i: usize| records * (i + 1) / scopes - records * i / scopes;
         let all = (0..scopes).map(|i| self.filled_scope(share(i))).collect();
-        self.beside(all)
+        beside(self.random, all)
     }
 
     /// A scope of so many records.
