@@ -45,29 +45,24 @@ def answered(reply, **more):
     return {"answer": reply.number, "name": reply.name, "place": reply.place, **more}
 
 
-def refused_table(out, table, names, words):
-    """The answer to a table that is refused, or None."""
-    reply = calls.check(table)
-    if reply.accepted:
-        return None
-    why = explain.table(reply, table, names)
-    out.put(table=answered(reply, explanation=why))
-    out.line(f"table {reply.number} {reply.place}")
+def refused(out, words, key, line, reply, why):
+    """The answer to what is refused as a whole."""
+    out.put(**{key: answered(reply, explanation=why)})
+    out.line(f"{line} {reply.number} {reply.place}")
     if words:
         out.line(f"  {why}")
     return REFUSED
+
+
+def refused_table(out, table, names, words):
+    """The answer to a table that is refused, or None."""
+    reply = calls.check(table)
+    return None if reply.accepted else refused(out, words, "table", "table", reply, explain.table(reply, table, names))
 
 
 def refused_list(out, reply, table, listed, words):
     """The answer to a play that is refused as a whole, or None."""
-    if reply.accepted:
-        return None
-    why = explain.play(reply, table, listed)
-    out.put(list=answered(reply, explanation=why))
-    out.line(f"moves {reply.number} {reply.place}")
-    if words:
-        out.line(f"  {why}")
-    return REFUSED
+    return None if reply.accepted else refused(out, words, "list", "moves", reply, explain.play(reply, table, listed))
 
 
 def make(given, out):
@@ -95,9 +90,8 @@ def make_list(given, out):
     if given.names or given.save_names:
         raise Misuse("a list of moves has no names")
     made = files.list_of_moves(given.text)
-    refused = refused_list(out, calls.play(bytes(tables.LENGTH), made), b"", made, True)
-    if refused:
-        return refused
+    if answer := refused_list(out, calls.play(bytes(tables.LENGTH), made), b"", made, True):
+        return answer
     files.write(given.output, made, given)
     out.put(proposed=len(made) // moves.LENGTH)
     out.line(f"{len(made) // moves.LENGTH} moves")
@@ -107,9 +101,8 @@ def make_list(given, out):
 def show(given, out):
     """A table, a line a record, or its term."""
     table, names = files.table(given.table, files.names(given.names))
-    refused = refused_table(out, table, names, True)
-    if refused:
-        return refused
+    if answer := refused_table(out, table, names, True):
+        return answer
     whole = tables.Table(table)
     if out.as_json:
         rows = zip(whole.records, whole.depths, whole.live, whole.ready)
@@ -124,9 +117,8 @@ def show(given, out):
 def check(given, out):
     """Whether a table is well formed."""
     table, names = files.table(given.table, files.names(given.names))
-    refused = refused_table(out, table, names, given.explain)
-    if refused:
-        return refused
+    if answer := refused_table(out, table, names, given.explain):
+        return answer
     reply = calls.check(table)
     out.put(table=answered(reply, records=reply.records, load=calls.load(table).load))
     out.line(f"table 0 0 {reply.records}")
@@ -153,9 +145,8 @@ def step(given, out):
     """One move on a table."""
     move = proposed(given)
     table, names = files.table(given.table, files.names(given.names))
-    refused = refused_table(out, table, names, given.explain)
-    if refused:
-        return refused
+    if answer := refused_table(out, table, names, given.explain):
+        return answer
     reply = calls.step(table, move)
     records = reply.records or len(tables.records(table))
     why = explain.step(reply, table, move, names)
@@ -172,9 +163,8 @@ def step(given, out):
 def open_moves(given, out):
     """Every move that can be made now."""
     table, names = files.table(given.table, files.names(given.names))
-    refused = refused_table(out, table, names, given.explain)
-    if refused:
-        return refused
+    if answer := refused_table(out, table, names, given.explain):
+        return answer
     whole, found, told = tables.Table(table), calls.open_moves(table).moves, []
     for move in found:
         out.line(f"{move.kind} {move.a} {move.b}")
@@ -197,9 +187,8 @@ def play(given, out):
     table, names = files.table(given.table, files.names(given.names))
     listed = files.list_of_moves(given.moves)
     reply = calls.play(table, listed)
-    refused = refused_table(out, table, names, given.explain) or refused_list(out, reply, table, listed, given.explain)
-    if refused:
-        return refused
+    if answer := refused_table(out, table, names, given.explain) or refused_list(out, reply, table, listed, given.explain):
+        return answer
     whole, tail = moves.split(listed)
     files.write(given.output, reply.table, given)
     if given.save_names:
@@ -225,9 +214,8 @@ def report(given, out):
     table, names = files.table(given.table, files.names(given.names))
     listed = files.list_of_moves(given.moves)
     reply = calls.play(table, listed)
-    refused = refused_table(out, table, names, True) or refused_list(out, reply, table, listed, True)
-    if refused:
-        return refused
+    if answer := refused_table(out, table, names, True) or refused_list(out, reply, table, listed, True):
+        return answer
     told = night.tell(table, listed, names, night.progress(sys.stderr))
     files.write(given.output, page.html(told, given.table, given.moves), given)
     out.put(**told.summary())
