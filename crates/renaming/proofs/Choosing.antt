@@ -7,7 +7,7 @@ use mathlib.Core.List.{List, [], _∷_, _++_, flatMap}
 use Prim.Native.Nat.{ℕ, zero, suc, _+_, _-_, _*_, _≤_, _<_}
 use native.Mathlib.Omega.{arith}
 use lib.Dec.{eqb}
-use lib.ListN.{length, getD, set, length-set}
+use lib.ListN.{length, getD, length-set}
 use borrow.Author.Tests.{eq-eqb, ne-eqb}
 use Rattle.cows.specs.Basics.{any, every, member, foundWith, oneIf}
 use Rattle.cows.specs.Terms.{nil, kill, invoke, receive, wait, protection, delimitation, replication, choice, parallel, Term, leaf, under, both, atom, size, delimits, delimitsAtom, optional, binders}
@@ -21,12 +21,12 @@ use Rattle.cows.proofs.Atoms.{In, in-refl, counts-atoms, few-binders, binders-r
 use Rattle.cows.proofs.Renaming.{image-other, times, times-append}
 use Rattle.cows.proofs.Fields.{layout-first}
 use Rattle.cows.proofs.Cut.{flatMap-append}
-use Rattle.cows.proofs.Records.{small-atom}
 use Rattle.records.proofs.Pieces.{word-piece, first-piece}
-use Rattle.renaming.specs.Mapped.{across}
-use Rattle.renaming.specs.Names.{leastOf, Marks, Taking, Wanting, AtomWanted, NewAtom, Marking, Marked, Chosen}
+use Rattle.records.specs.Rewrites.{StandsIn}
+use Rattle.renaming.specs.Mapped.{across, slotOf, named}
+use Rattle.renaming.specs.Names.{delimited, store, leastOf, Marks, Taking, Wanting, AtomWanted, NewAtom, Marking, Marked, Chosen}
 use Rattle.renaming.proofs.Across.{across-next, across-end, across-term}
-use Rattle.renaming.proofs.Occurring.{after-store, not-zero}
+use Rattle.renaming.proofs.Occurring.{named-fits, after-store, not-zero}
 use Rattle.renaming.proofs.Fresh.{new-small, new-apart, taking-store}
 
 -- how often a list has an atom that is in it; a term's delimitations
@@ -50,12 +50,12 @@ times-binders a (both j s t) = omega (arith, times-append a (binders s) (binders
 pub record Choosing (known all names next left : List ℕ) : Type 0 where
   pub taken : List ℕ
   pub taking : Taking names next taken
-  pub few : length taken + length left < 16383
+  pub few : 4 * (length taken + length left) + 8 < length names
   pub keeps : In known taken
   pub among : In left known
   pub right : every atom left ≡ true
   pub once : (a : ℕ) → times a left ≤ 1
-  pub answer : (a : ℕ) → member a known ≡ true → image (renaming known all) a ≡ cond (member a left) (image (renaming taken left) a) (getD names a 0)
+  pub answer : (a : ℕ) → member a known ≡ true → image (renaming known all) a ≡ cond (member a left) (image (renaming taken left) a) (named names a)
 
 module _ (known all names next : List ℕ) where
   -- the next one
@@ -72,22 +72,27 @@ module _ (known all names next : List ℕ) where
     unfolding member any
     known-next = unfold member any in c .keeps d (c .among d (or-left (eqb d d) (any (eqb d) left) (eq-eqb d d refl)))
 
+    pub choosing-fits : slotOf d < length names
+    choosing-fits = named-fits names d (c .taking .used d known-next)
+
     abbrev new : ℕ
     new = fresh (c .taken) d
 
-    step-answer : (a : ℕ) → member a known ≡ true → getD (set (set names new new) d new) a 0 ≡ cond (eqb a d) new (getD names a 0)
-    step-answer a m =
-        let r = c .taking .room in
-        let n = new-small names next (c .taken) d choosing-wants in
-        after-store (set names new new) d new a (rw (length-set names new new) (omega (arith, small-atom d (choosing-wants .right))))
-        ∙ ap (cond (eqb a d) new) (after-store names new new a (omega arith) ∙ rw (ne-eqb a new (new-apart names next (c .taken) d choosing-wants a (c .keeps a m))))
+    next-taking : {next′ : List ℕ} → Taking (store names new new) next′ (new ∷ c .taken) → Taking (store (store names new new) d new) next′ (new ∷ c .taken)
+    unfolding member any
+    next-taking t = taking-store _ _ (new ∷ c .taken) d new t (unfold member any in or-right (eqb d new) _ known-next) (λ z. omega (arith, new-small names next (c .taken) d choosing-wants))
 
-    pub choosing-step : (next′ : List ℕ) → Taking (set names new new) next′ (new ∷ c .taken) → Choosing known all (set (set names new new) d new) next′ left
+    step-answer : (a : ℕ) → member a known ≡ true → named (store (store names new new) d new) a ≡ cond (eqb a d) new (named names a)
+    step-answer a m =
+        after-store (store names new new) d new a (rw (length-set names (slotOf new) new) choosing-fits)
+        ∙ ap (cond (eqb a d) new) (after-store names new new a (new-small names next (c .taken) d choosing-wants .2) ∙ rw (ne-eqb a new (new-apart names next (c .taken) d choosing-wants a (c .keeps a m))))
+
+    pub choosing-step : (next′ : List ℕ) → Taking (store names new new) next′ (new ∷ c .taken) → Choosing known all (store (store names new new) d new) next′ left
     unfolding every member any image renaming
     choosing-step next′ t = record {
       taken = new ∷ c .taken;
-      taking = taking-store _ next′ (new ∷ c .taken) d new t (small-atom d (choosing-wants .right)) (unfold member any in or-right (eqb d new) _ known-next) (λ z. omega (arith, new-small names next (c .taken) d choosing-wants));
-      few = omega (arith, c .few);
+      taking = next-taking t;
+      few = omega (arith, c .few, length-set names (slotOf new) new, length-set (store names new new) (slotOf d) new);
       keeps = λ a m. or-right (eqb a new) _ (c .keeps a m);
       among = λ a m. c .among a (or-right (eqb a d) _ m);
       right = and-true (atom d) (every atom left) (c .right) .1;
@@ -96,21 +101,18 @@ module _ (known all names next : List ℕ) where
     }
       where
         go : (a : ℕ) (p : Bool) → eqb a d ≡ p → (q : Bool) → member a left ≡ q
-            → cond (p || q) (cond p new (image (renaming (new ∷ c .taken) left) a)) (getD names a 0) ≡ cond q (image (renaming (new ∷ c .taken) left) a) (cond p new (getD names a 0))
+            → cond (p || q) (cond p new (image (renaming (new ∷ c .taken) left) a)) (named names a) ≡ cond q (image (renaming (new ∷ c .taken) left) a) (cond p new (named names a))
         go a true e true m = absurd (omega (arith, times-member a left m, c .once a, ap oneIf e))
         go a true e false m = refl
         go a false e true m = refl
         go a false e false m = refl
 
   -- none is left
-  pub choosing-end : Choosing known all names next [] → (a : ℕ) → member a known ≡ true → getD names a 0 ≡ image (renaming known all) a
+  pub choosing-end : Choosing known all names next [] → (a : ℕ) → member a known ≡ true → named names a ≡ image (renaming known all) a
   unfolding member any
   choosing-end c a m = sym (c .answer a m)
 
 -- The atoms that a term's records delimit, in record order: read off 16 bytes, and off a record.
-abbrev pub delimited : List ℕ → List ℕ
-delimited b = cond (eqb (byte b 0) 8) (word b 2 ∷ []) []
-
 binds : Node → List ℕ
 binds (basic x) = []
 binds (prefix u) = optional (delimits u)
@@ -139,6 +141,11 @@ nodes-binders (leaf x) = refl
 nodes-binders (under u t) = ap (λ l. optional (delimits u) ++ l) (nodes-binders t)
 nodes-binders (both j s t) = flatMap-append binds (nodes s) (nodes t) ∙ ap₂ _++_ (nodes-binders s) (nodes-binders t)
 
+pub part-binders : (s : List ℕ) (from to : ℕ) (body : Term) → StandsIn s (16 * from) body → to ≡ from + size body → across delimited s from (to - from) ≡ binders body
+part-binders s from to body h e =
+    let z : to - from ≡ size body = omega arith in
+    rw z (across-term delimited binds record-binds s from body h ∙ nodes-binders body)
+
 -- the record at place i delimits an atom, or not
 module _ (s : List ℕ) (i to : ℕ) (l : i < to) where
   next-delimited : getD s (16 * i) 0 ≡ 8 → across delimited s i (to - i) ≡ word s (16 * i + 2) ∷ across delimited s (i + 1) (to - (i + 1))
@@ -146,7 +153,7 @@ module _ (s : List ℕ) (i to : ℕ) (l : i < to) where
       across-next delimited s i to l
       ∙ rw (first-piece s (16 * i), e, word-piece s (16 * i) 2 (omega arith))
 
-  next-other : getD s (16 * i) 0 ≢ 8 → across delimited s i (to - i) ≡ across delimited s (i + 1) (to - (i + 1))
+  pub next-other : getD s (16 * i) 0 ≢ 8 → across delimited s i (to - i) ≡ across delimited s (i + 1) (to - (i + 1))
   next-other n = across-next delimited s i to l ∙ rw (first-piece s (16 * i), ne-eqb (getD s (16 * i) 0) 8 n)
 
 -- Before place i: what is left to rename, whatever body stands there and whatever is marked.
@@ -196,10 +203,7 @@ module _ (s : List ℕ) (from to : ℕ) (names₀ : List ℕ) where
   pub going-start : Marked s from to names₀ → Going s from to names₀ names₀ starts from
   going-start w = record {
     marked = w;
-    choosing = λ body taken m.
-        let z : to - from ≡ size body = omega (arith, m .end) in
-        let e : across delimited s from (to - from) ≡ binders body = rw z (across-term delimited binds record-binds s from body (m .stands) ∙ nodes-binders body) in
-        rw e (marked-choosing body taken m);
+    choosing = λ body taken m. rw (part-binders s from to body (m .stands) (m .end)) (marked-choosing body taken m);
   }
 
   module _ (names next : List ℕ) (i : ℕ) (g : Going s from to names₀ names next i) where
@@ -210,12 +214,16 @@ module _ (s : List ℕ) (from to : ℕ) (names₀ : List ℕ) where
       here : (body : Term) (taken : List ℕ) → Marking s from to names₀ body taken → Choosing taken (binders body) names next (d ∷ across delimited s (i + 1) (to - (i + 1)))
       here body taken m = rw (e, ← next-delimited s i to l k) (g .choosing body taken m)
 
-      pub going-wants : AtomWanted names next d
-      going-wants =
-          let c = here (g .marked .body) (g .marked .taken) (g .marked .marking) in
-          record { taken = c .taken; wanting = choosing-wants _ _ _ _ _ _ c }
+      now-here : Choosing (g .marked .taken) (binders (g .marked .body)) names next (d ∷ across delimited s (i + 1) (to - (i + 1)))
+      now-here = here (g .marked .body) (g .marked .taken) (g .marked .marking)
 
-      pub going-turn : (names′ next′ : List ℕ) {v : ℕ} → ((taken : List ℕ) → Wanting names next taken d → NewAtom names next d names′ next′ v taken) → {d′ : ℕ} → d′ ≡ d → Going s from to names₀ (set names′ d′ v) next′ (i + 1)
+      pub going-wants : AtomWanted names next d
+      going-wants = record { taken = now-here .taken; wanting = choosing-wants _ _ _ _ _ _ now-here }
+
+      pub going-fits : slotOf d < length names
+      going-fits = choosing-fits _ _ _ _ _ _ now-here
+
+      pub going-turn : (names′ next′ : List ℕ) {v : ℕ} → ((taken : List ℕ) → Wanting names next taken d → NewAtom names next d names′ next′ v taken) → {names″ : List ℕ} → names″ ≡ store names′ d v → Going s from to names₀ names″ next′ (i + 1)
       going-turn names′ next′ r q = record {
         marked = g .marked;
         choosing = λ body taken m.

@@ -1,6 +1,6 @@
 -- Records whose atoms change: f of every atom of a record, said of the record and of its 16 bytes. Kind, tuple count and interval stay.
 use mathlib.Core.List.{List, [], _++_}
-use Prim.Native.Nat.{ℕ, zero, suc, _*_}
+use Prim.Native.Nat.{ℕ, zero, suc, _+_, _*_, _/_, _%_}
 use lib.ListN.{getD, take, drop}
 use Rattle.cows.specs.Format.{bytes2, word}
 unfoldable pub use Rattle.cows.specs.Moves.{mapNode}
@@ -31,6 +31,10 @@ across g s i n = along (λ j. g) s i n
 abbrev pub mapped : (ℕ → ℕ) → List ℕ → ℕ → ℕ → List ℕ
 mapped f s i n = across (mapRecord f) s i n
 
--- the atom that stands for an atom in an array of them
+-- Names: an array with a number for each atom, or for the first atoms of each quarter of them. Where it has the atom a: the first of all four quarters, then the second of each, and so on. (No two numbers have one place: those from 65,536 on, which are no atoms, lie behind.)
+unfoldable pub slotOf : ℕ → ℕ
+slotOf a = 65536 * (a / 65536) + (4 * (a % 16384) + a / 16384 % 4)
+
+-- the atom that stands for an atom; 0 where the array has no place for it
 abbrev pub named : List ℕ → ℕ → ℕ
-named names a = getD names a 0
+named names a = getD names (slotOf a) 0

@@ -1,10 +1,10 @@
 // Records whose atoms change: kind, tuple count and interval are copied, the six fields for atoms are written anew.
+use crate::names::name_of;
 use records::Atom;
 use records::classify;
 use records::copying::copy;
 use records::copying::put_word;
 use records::number;
-use records::wide16;
 use records::word_at;
 ghost use mathlib.Core.Path.{_≡_};
 ghost use Prim.Native.Nat.{_+_, _-_, _*_, _<_, _≤_};
@@ -58,15 +58,15 @@ pub fn put_record(
 
 // The atom that stands for the one at byte k.
 fn named_at(s: &[u8], k: usize, names: &[u16]) -> Atom
-    requires { ⌜ (k + 1 < length (now s)) × (length (now names) ≡ 65536) ⌝ }
+    requires { ⌜ (k + 1 < length (now s)) ⌝ }
     ensures { λ r. ⌜ r ≡ classOf (named (now (names .entry)) (word (now (s .entry)) k)) ⌝ }
 {
-    classify(names[wide16(word_at(s, k))])
+    classify(name_of(names, word_at(s, k)))
 }
 
 // Writes the record at place i with the names of its atoms.
 fn put_named(s: &[u8], i: usize, names: &[u16], dst: &mut [u8], at: usize)
-    requires { ⌜ (16 * i + 15 < length (now s)) × (length (now names) ≡ 65536) × (at + 15 < length (now dst)) ⌝ }
+    requires { ⌜ (16 * i + 15 < length (now s)) × (at + 15 < length (now dst)) ⌝ }
     ensures { λ _. ⌜ now (dst .exit) ≡ put (now (dst .entry)) at (mapRecord (named (now (names .entry))) (take 16 (drop (16 * i) (now (s .entry))))) ⌝ }
 {
     let k = 16 * i;
@@ -81,7 +81,7 @@ fn put_named(s: &[u8], i: usize, names: &[u16], dst: &mut [u8], at: usize)
 
 // Writes the records at places `from` to `to` (not included) from byte `at` on, with the names of their atoms.
 pub fn copy_named(s: &[u8], from: usize, to: usize, names: &[u16], dst: &mut [u8], at: usize)
-    requires { ⌜ (from ≤ to) × (16 * to ≤ length (now s)) × (length (now names) ≡ 65536) × (at + 16 * (to - from) ≤ length (now dst)) ⌝ }
+    requires { ⌜ (from ≤ to) × (16 * to ≤ length (now s)) × (at + 16 * (to - from) ≤ length (now dst)) ⌝ }
     ensures { λ _. ⌜ now (dst .exit) ≡ put (now (dst .entry)) at (mapped (named (now (names .entry))) (now (s .entry)) from (to - from)) ⌝ }
 {
     let mut i = from;

@@ -2,8 +2,8 @@ use borrow.Author.Needs.{needs}
 use mathlib.Core.Path.{_≡_, refl, _∙_}
 use Prim.Native.Nat.{_-_, _≤_}
 use native.Mathlib.Omega.{arith}
-use lib.ListN.{length, length-set}
-use Rattle.renaming.proofs.Choosing.{Going, going-start, going-other, going-wants, going-turn, going-end}
+use lib.ListN.{length}
+use Rattle.renaming.proofs.Choosing.{Going, going-start, going-other, going-wants, going-fits, going-turn, going-end}
 use Rattle.renaming.proofs.names.choose.Statement.{statement}
 use Rattle.renaming.proofs.names.choose.Tie as tie
 
@@ -29,17 +29,20 @@ choose-spec =
     (λ c κs.
     let w = c .before .before in
     going-wants _ _ _ _ _ _ _ (w .before .before .before .before .loop .inv .3) (w .before .before .before .loop-test .taken) (w .before .if1 .left) (w .word-at .ensures))
-    (λ c κs. search needs) (λ c. search needs)
-    (λ c. omega (arith, c .before .before .before .before .new-atom .kept .1 .0))
+    (λ c κs.
+    let n = c .before .before .before .before in
+    let w = n .before .before .before in
+    omega (arith, n .new-atom .kept .1 .0, going-fits _ _ _ _ _ _ _ (w .before .before .before .before .loop .inv .3) (w .before .before .before .loop-test .taken) (w .before .if1 .left) (w .word-at .ensures)))
     (λ c. search needs) (λ c. omega arith)
     (λ c.
-    let n = c .before .before .before .before in
+    let e = c .before .before in
+    let n = e .before .before .before .before .before in
     let w = n .before .before .before in
     let v = w .before .before .before .before .loop .inv in (
       omega arith,
-      simp length-set (n .new-atom .kept .1 .0 ∙ v .1),
+      e .enter .kept .0 ∙ (n .new-atom .kept .1 .0 ∙ v .1),
       n .new-atom .kept .1 .1 .0 ∙ v .2,
-      going-turn _ _ _ _ _ _ _ (v .3) (w .before .before .before .loop-test .taken) (w .before .if1 .left) (w .word-at .ensures) _ _ (n .new-atom .ensures) (c .wide16 .ensures .0),
+      going-turn _ _ _ _ _ _ _ (v .3) (w .before .before .before .loop-test .taken) (w .before .if1 .left) (w .word-at .ensures) _ _ (n .new-atom .ensures) (e .enter .ensures),
     ))
     (λ c. c .before .loop .inv .1)
     (λ c. going-end _ _ _ _ _ _ _ (c .before .loop .inv .3) (c .loop-test .left)))

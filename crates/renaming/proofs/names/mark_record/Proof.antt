@@ -1,7 +1,7 @@
 use borrow.Author.Needs.{needs}
-use native.Mathlib.Omega.{arith}
-use lib.ListN.{length-set}
-use Rattle.renaming.proofs.Occurring.{record-entered}
+use mathlib.Core.Path.{sym, _∙_}
+use borrow.Author.Tests.{not-true, not-false, ltb-true}
+use Rattle.renaming.proofs.Occurring.{entering-none, entering-stop, entering-one, entering-all}
 use Rattle.renaming.proofs.names.mark_record.Statement.{statement}
 use Rattle.renaming.proofs.names.mark_record.Tie as tie
 
@@ -9,22 +9,26 @@ pub mark-record-spec : {M : Type 1} → statement M
 mark-record-spec =
     tie.close
     (tie.spec
-    (λ c. search needs) (λ c. search needs) (λ c κs. search needs) (λ c. search needs) (λ c κs. search needs) (λ c. search needs)
-    (λ c κs. search needs) (λ c. search needs) (λ c κs. search needs) (λ c. search needs) (λ c κs. search needs) (λ c. search needs)
-    (λ c κs. search needs) (λ c κs. search needs) (λ c. search needs) (λ c. search needs) (λ c κs. search needs) (λ c. search needs)
-    (λ c. simp length-set (omega arith))
-    (λ c κs. search needs) (λ c. search needs)
-    (λ c. simp length-set (omega arith))
-    (λ c κs. search needs) (λ c. search needs)
-    (λ c. simp length-set (omega arith))
-    (λ c κs. search needs) (λ c. search needs)
-    (λ c. simp length-set (omega arith))
-    (λ c κs. search needs) (λ c. search needs)
-    (λ c. simp length-set (omega arith))
-    (λ c. simp length-set)
+    (λ c. search needs) (λ c κs. search needs)
+    (λ c. entering-none _ _ _ (c .before .word-at .ensures) (c .if1 .taken))
+    (λ c κs. tt)
+    (λ c. search needs)
     (λ c.
-    let d = c .before .before .before in
-    let e = d .before .before .before in
+    let i = c .before .before .before in
+    entering-stop _ _ _ (i .before .word-at .ensures) (i .if1 .left) (sym (c .before .fits2 .ensures) ∙ not-true _ (c .if2 .taken)))
+    (λ c κs. ltb-true _ _ (sym (c .before .before .fits2 .ensures) ∙ not-false _ (c .before .if2 .left)))
+    (λ c. search needs) (λ c κs. search needs)
+    (λ c. search needs)
+    (λ c.
+    let e = c .before .before .before .before in
     let f = e .before .before .before in
-    rw (c .wide166 .ensures .0, c .before .wide165 .ensures .0, c .before .before .wide164 .ensures .0, d .wide163 .ensures .0, d .before .wide162 .ensures .0, d .before .before .wide16 .ensures .0)
-    (record-entered _ _ _ (f .before .before .word-at .ensures) (f .before .word-at2 .ensures) (f .word-at3 .ensures) (e .before .before .word-at4 .ensures) (e .before .word-at5 .ensures) (e .word-at6 .ensures))))
+    let i = f .before .before in
+    entering-one _ _ _ (i .before .word-at .ensures) (i .if1 .left) (sym (f .fits2 .ensures) ∙ not-false _ (e .before .before .if2 .left)) (e .enter .ensures) (c .before .word-at2 .ensures) (c .if3 .taken))
+    (λ c κs. (c .before .before .before .before .before .before .before .before .before .before .before .before .before .before .pre, c .before .before .word-at2 .ensures))
+    (λ c. search needs)
+    (λ c.
+    let o = c .before .before .before .before .before in
+    let e = o .before .before .before in
+    let f = e .before .before .before in
+    let i = f .before .before in
+    entering-all _ _ _ (i .before .word-at .ensures) (i .if1 .left) (sym (f .fits2 .ensures) ∙ not-false _ (e .before .before .if2 .left)) (e .enter .ensures) (o .word-at2 .ensures) (c .before .before .before .before .if3 .left) (c .before .before .mark-action .ensures)))

@@ -9,12 +9,20 @@ pub new-atom-spec : {M : Type 1} → statement M
 new-atom-spec =
     tie.close
     (tie.spec
-    (λ c κs. search needs) (λ c. search needs) (λ c. search needs) (λ c κs. search needs)
-    (λ c. let k = c .before .before .before in omega (arith, found-small _ _ _ _ _ (k .set-of .ensures .0) (c .next-free .ensures) (k .before .before .before .pre)))
-    (λ c. let k = c .before .before .before in omega (arith, found-small _ _ _ _ _ (k .set-of .ensures .0) (c .next-free .ensures) (k .before .before .before .pre)))
-    (λ c. let k = c .before .before .before in omega (arith, found-small _ _ _ _ _ (k .set-of .ensures .0) (c .next-free .ensures) (k .before .before .before .pre)))
-    (λ c. let k = c .before .before .before in omega (arith, found-small _ _ _ _ _ (k .set-of .ensures .0) (c .next-free .ensures) (k .before .before .before .pre)))
+    (λ c κs. tt)
     (λ c. search needs) (λ c. search needs)
+    (λ c κs. tt)
+    (λ c κs.
+    let f = c .before in
+    let k = f .before .before .before in
+    found-small _ _ _ _ _ (k .set-of .ensures .0) (f .next-free .ensures) (k .before .before .before .pre) .1)
+    (λ c.
+    let f = c .before .before .before .before in
+    let k = f .before .before .before in
+    omega (arith, found-small _ _ _ _ _ (k .set-of .ensures .0) (f .next-free .ensures) (k .before .before .before .pre) .0))
+    (λ c. search needs) (λ c. search needs)
+    (λ c. c .before .before .enter .kept .0)
     (λ c. simp length-set)
-    (λ c. simp length-set)
-    (λ c. found-taken _ _ _ _ _ (c .before .before .before .set-of .ensures .0) (c .next-free .ensures)))
+    (λ c.
+    let f = c .before .before .before .before in
+    rw (c .before .before .enter .ensures) (found-taken _ _ _ _ _ (f .before .before .before .set-of .ensures .0) (f .next-free .ensures))))
