@@ -9,22 +9,23 @@ use native.Mathlib.Omega.{arith}
 use lib.Dec.{ltb, eqb}
 use lib.ListN.{length, getD, set}
 use lib.Seq.{getD-set-same, getD-set-other}
-use borrow.Author.Tests.{eqb-true, eq-eqb}
+use borrow.Author.Tests.{eqb-true, eqb-false, eq-eqb}
 use Rattle.cows.specs.Basics.{foundWith, found}
 use Rattle.cows.specs.Terms.{nil, kill, invoke, receive, wait, protection, delimitation, replication, Term, leaf, under, both, size, label, kills, prefixed, delimits}
 use Rattle.cows.specs.Kinds.{root, kindOf, readyKind, open-kinds}
-use Rattle.cows.specs.Places.{spotAt, sub, first, encloses}
+use Rattle.cows.specs.Places.{spotAt, wayTo, sub, first, encloses}
 use Rattle.cows.specs.Format.{word, record16}
 use Rattle.cows.specs.Active.{ready}
 use Rattle.cows.specs.Moves.{readyKill, heldBack}
 use Rattle.cows.proofs.Basics.{clash, bool-case, not-so, and-none, none-found}
 use Rattle.cows.proofs.Fields.{kind-kill, kind-delimitation, first-kill, first-delimitation}
 use Rattle.cows.proofs.Sets.{in-labels, label-range}
+use Rattle.cows.proofs.Stands.{fails-first}
 use Rattle.records.specs.Holds.{Holds}
 use Rattle.records.proofs.StandsIn.{holds-kind, holds-word}
 use Rattle.ways.specs.Known.{Table}
 use Rattle.holding.specs.Holding.{Unmarked, KillsMarked, Parties, Sides}
-use Rattle.ways.proofs.KnownTables.{table-ended, table-inside}
+use Rattle.ways.proofs.KnownTables.{table-size, table-ended, table-inside}
 use Rattle.ways.proofs.Seeking.{Seeking, seeking-start, seeking-end, seeking-over}
 use Rattle.holding.proofs.HeldBack.{is-kill, kill-label, kills-labelled, held-none, held-delimitation}
 
@@ -149,6 +150,9 @@ module _ (s ends marks : List ℕ) (a b : ℕ) (d : Sides s ends marks a b) (n :
     held-not : found (first (readyKill k) t) ≡ false → heldBack a b n (spotAt t n) ≡ false
     held-not f = held-is ∙ rw f (and-none (encloses n (sub t n) a || encloses n (sub t n) b))
 
+    held-clear : Unmarked marks → heldBack a b n (spotAt t n) ≡ false
+    held-clear z = held-not (not-so (λ f. clash (h .marked k (kills-labelled t (h .table .within .right) k f) ∙ f) (ap (λ m. not (eqb m 0)) (z (k - 49152)))))
+
     pub held-no-label : k < 49152 → heldBack a b n (spotAt t n) ≡ false
     held-no-label u = held-not (not-so (λ f. let r = label-range k (kills-labelled t (h .table .within .right) k f) in omega arith))
 
@@ -163,3 +167,14 @@ module _ (s ends marks : List ℕ) (a b : ℕ) (d : Sides s ends marks a b) (n :
       unfolding encloses
       held-marked z end q =
           rw (held-is, sym mark-is ∙ z, q, table-ended s ends t (h .table) n known) (and-one _)
+
+-- without a mark nothing holds back
+module _ (s ends marks : List ℕ) (a b : ℕ) (d : Sides s ends marks a b) (t : Term) (h : Parties s ends marks a b t) (z : Unmarked marks) where
+  unheld : (n : ℕ) → n < length s / 16 → heldBack a b n (spotAt t n) ≡ false
+  unheld n l =
+      bool-case _ (eqb (getD s (16 * n) 0) 8) (λ e. held-clear s ends marks a b d n l t h (eqb-true _ _ e) _ refl z)
+      (λ e. held-other s ends marks a b d n l t h (eqb-false _ _ e))
+
+  pub none-held : first (heldBack a b) t ≡ none
+  unfolding wayTo sub
+  none-held = fails-first (heldBack a b) t (λ n l r. clash r (unheld n (omega (arith, table-size s ends t (h .table)))))

@@ -10,8 +10,9 @@ use records::kinds;
 use records::label_index;
 use records::wide16;
 ghost use mathlib.Core.Path.{_≡_};
-ghost use mathlib.Core.Bool.{true, not};
-ghost use Prim.Native.Nat.{_-_, _/_, _<_, _≤_};
+ghost use mathlib.Core.Bool.{true, false, not};
+ghost use mathlib.Core.List.{List};
+ghost use Prim.Native.Nat.{ℕ, _-_, _/_, _<_, _≤_};
 ghost use lib.Dec.{eqb};
 ghost use lib.ListN.{length, getD, set};
 ghost use Rattle.cows.specs.Limits.{firstLabel};
@@ -73,6 +74,27 @@ fn mark_kills(s: &[u8], ends: &[u16], marks: &mut [u8])
     }
 }
 
+// Whether a ready kill stands in the table. If none does, no mark is wanted.
+fn any_kill(s: &[u8], ends: &[u16]) -> bool
+    requires { ⌜ Known (now s) (now ends) ⌝ }
+    ensures { λ r. ⌜ (r ≡ false → (t : Term) (marks : List ℕ) → Table (now (s .entry)) (now (ends .entry)) t → Unmarked marks → KillsMarked marks t) ⌝ }
+{
+    let n = s.len() / 16;
+    let mut i = 0;
+    while i < n {
+        let kind = s[16 * i];
+        if kind == kinds::KILL {
+            return true;
+        }
+        if ready_kind(kind) {
+            i += 1;
+            continue;
+        }
+        i = wide16(ends[i]);
+    }
+    false
+}
+
 // Whether the record at place n delimits a marked label and encloses place a or place b.
 fn held(s: &[u8], ends: &[u16], a: usize, b: usize, marks: &[u8], n: usize) -> bool
     requires { ⌜ Sides (now s) (now ends) (now marks) a b × (n < length (now s) / 16) ⌝ }
@@ -113,6 +135,9 @@ pub fn first_held(s: &[u8], ends: &[u16], a: usize, b: usize) -> Found
     requires { ⌜ Known (now s) (now ends) × (a < length (now s) / 16) × (b < length (now s) / 16) ⌝ }
     ensures { λ r. ⌜ ((t : Term) → Table (now (s .entry)) (now (ends .entry)) t → live (wayTo t a) ≡ true → live (wayTo t b) ≡ true → r ≡ foundOf (first (heldBack a b) t)) ⌝ }
 {
+    if !any_kill(s, ends) {
+        return Found::Nothing;
+    }
     let mut marks = [0u8; 16384];
     mark_kills(s, ends, &mut marks);
     first_marked(s, ends, a, b, &marks)
