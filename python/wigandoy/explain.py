@@ -17,15 +17,11 @@ from .tables import Table
 SLOTS = ("one", "two", "three", "four")
 
 
-def _sentence(reply, words):
-    return f"{reply.number} at {reply.place}: {words}"
-
-
 def explained(function):
     """Makes a sentence of the words that a function finds for a refusal."""
     @functools.wraps(function)
     def sentence(reply, *given, **named):
-        return None if reply.accepted else _sentence(reply, function(reply, *given, **named))
+        return None if reply.accepted else f"{reply.number} at {reply.place}: {function(reply, *given, **named)}"
     return sentence
 
 

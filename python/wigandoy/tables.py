@@ -51,15 +51,13 @@ def records(table):
 
 
 class Nesting:
-    """Records in prefix order, by the number of children that each wants: the place above each and which child of it this is, where the
-    term at each ends, and at last the places that still want children, each with how many. What is over stands under nothing: None."""
+    """Records in prefix order, by the number of children that each wants: the place above each (-1 above the first; None above what is
+    over), where the term at each ends, and at last the places that still want children, each with how many."""
 
     def __init__(self, wanted):
-        self.above, self.which, self.ends, self.wanting = [], [], list(range(1, len(wanted) + 1)), []
+        self.above, self.ends, self.wanting = [], list(range(1, len(wanted) + 1)), []
         for place, children in enumerate(wanted):
-            above = self.wanting[-1] if self.wanting else (-1 if place == 0 else None, 0)
-            self.above.append(above[0])
-            self.which.append(wanted[above[0]] - above[1] if self.wanting else 0)
+            self.above.append(self.wanting[-1][0] if self.wanting else -1 if place == 0 else None)
             self.wanting.append([place, children])
             while self.wanting and self.wanting[-1][1] == 0:
                 self.ends[self.wanting.pop()[0]] = place + 1
