@@ -15,9 +15,9 @@ use Rattle.records.specs.Holds.{Holds}
 use Rattle.records.specs.Rewrites.{StandsIn}
 use Rattle.records.proofs.StandsIn.{long, stands-fits, holds-stands}
 use Rattle.ways.specs.Known.{Known}
-use Rattle.ways.specs.Depths.{Standing}
+use Rattle.depths.specs.Depths.{Standing}
 use Rattle.ways.proofs.KnownTables.{table-inside}
-use Rattle.ways.proofs.Deep.{standing, depth-few, first-standing, second-standing}
+use Rattle.depths.proofs.Deep.{standing, depth-few, first-standing, second-standing}
 use Rattle.deepest.specs.Deepest.{Heights}
 
 pub known-standing : (s ends : List ℕ) (i : ℕ) → Known s ends → i < length s / 16 → Standing s ends i
@@ -43,5 +43,5 @@ module _ (s ends heights : List ℕ) (i c : ℕ) (q : Standing s ends i) (k : c 
 
   pub both-places : (p : ℕ) → c ≢ 0 → c ≢ 1 → p ≡ getD ends (i + 1) 0 → (i < p) × (p < length s / 16) × (getD heights (i + 1) 0 ≤ maxRecords) × (getD heights p 0 ≤ maxRecords)
   both-places p e f at =
-      let (x, l) = second-standing s ends i c q k (getD heights (i + 1) 0) (h (i + 1) (omega arith)) e f p at in
+      let (x, l) = second-standing s ends i c q k e f p at in
       (l, x .inside, first-place e .1, depth-few x _ (h p (omega arith)))

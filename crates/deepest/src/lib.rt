@@ -11,7 +11,7 @@ ghost use lib.ListN.{length, getD};
 ghost use Rattle.cows.specs.Terms.{Term, size, depth};
 ghost use Rattle.records.specs.Rewrites.{StandsIn};
 ghost use Rattle.ways.specs.Known.{Table, Known};
-ghost use Rattle.ways.specs.Depths.{Standing};
+ghost use Rattle.depths.specs.Depths.{Standing};
 ghost use Rattle.roles.specs.Roles.{noRole, unfoldRole, extrudeRole, roleOf, Cast};
 ghost use Rattle.deepest.specs.Deepest.{Heights, Told, Telling};
 

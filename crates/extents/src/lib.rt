@@ -1,6 +1,6 @@
 // Extents: how large the translation of an Orc script is, before a byte of it is written (20 and 21).
+use depths::larger;
 use scripts::kinds;
-use ways::depths::larger;
 ghost use mathlib.Core.Path.{_≡_};
 ghost use Prim.Native.Nat.{_≤_};
 ghost use Rattle.extents.specs.Extents.{addedBy, deepenedBy, Measurable, Measured};

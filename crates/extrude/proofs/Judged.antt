@@ -30,9 +30,9 @@ use Rattle.records.specs.Rewrites.{StandsIn}
 use Rattle.records.proofs.StandsIn.{encode-under, holds-kind, holds-word, holds-stands}
 use Rattle.ways.specs.Known.{Table}
 use Rattle.ways.specs.Ways.{liveThere, LiveAt, parentOf}
-use Rattle.ways.specs.Depths.{Standing}
+use Rattle.depths.specs.Depths.{Standing}
 use Rattle.ways.proofs.KnownTables.{table-size, table-ended}
-use Rattle.ways.proofs.Deep.{standing}
+use Rattle.depths.proofs.Deep.{standing}
 use Rattle.plans.specs.declared.Judgement.the-variants.{Allowed, Stuck, Large}
 use Rattle.cows.specs.Within.{Right}
 use Rattle.cows.proofs.Sets.{in-values, in-variables, in-labels, value-range, variable-range, label-range, set-case}

@@ -1,4 +1,5 @@
 // Extrude (floating): a live delimitation of a value or a variable changes places with the record above it, a parallel, a protection or a delimitation.
+use depths::depth_at;
 use plans::Judgement;
 use plans::Plan;
 use plans::refused;
@@ -8,7 +9,6 @@ use records::copying::copy;
 use records::kinds;
 use records::limits;
 use records::wide16;
-use ways::depths::depth_at;
 use ways::place_at;
 ghost use mathlib.Core.Path.{_≡_};
 ghost use Prim.Native.Nat.{ℕ, _<_};

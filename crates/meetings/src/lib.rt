@@ -1,6 +1,7 @@
 // Meetings: the pairs of a receive and an invoke that may meet now, by a then b: 12, 13 and 15 of each pair on one class of endpoints.
 use chains::behind;
 use chains::class_at;
+use depths::larger;
 use entries::put_move;
 use matching::Fit;
 use matching::fits_closed;
@@ -9,7 +10,6 @@ use records::is_variable;
 use records::wide8;
 use records::wide16;
 use records::word_at;
-use ways::depths::larger;
 ghost use mathlib.Core.Path.{_≡_};
 ghost use mathlib.Core.List.{List};
 ghost use Prim.Native.Nat.{ℕ, _+_, _/_, _*_, _<_, _≤_, min, max};

@@ -31,11 +31,11 @@ use Rattle.records.specs.Rewrites.{put, StandsIn}
 use Rattle.records.proofs.Put.{and-then}
 use Rattle.records.proofs.StandsIn.{encode-both, holds-stands}
 use Rattle.ways.specs.Known.{Table, Known}
-use Rattle.ways.specs.Depths.{Standing}
+use Rattle.depths.specs.Depths.{Standing}
 use Rattle.ways.specs.Ways.{liveThere, LiveAt}
 use Rattle.ways.proofs.KnownTables.{table-size, table-ended}
 use Rattle.ways.proofs.KnownTables.{way-short}
-use Rattle.ways.proofs.Deep.{standing}
+use Rattle.depths.proofs.Deep.{standing}
 use Rattle.renaming.specs.Names.{Body}
 use Rattle.renaming.proofs.Copies.{within-body}
 use Rattle.plans.specs.declared.Judgement.the-variants.{Allowed, Large}

@@ -1,4 +1,5 @@
 // Unfold (unfolding): a live replication becomes a parallel of a copy of its body, whose delimited atoms are new ones, and itself.
+use depths::depth_at;
 use plans::Judgement;
 use plans::Plan;
 use plans::refused;
@@ -6,7 +7,6 @@ use records::copying::copy;
 use records::kinds;
 use records::limits;
 use records::wide16;
-use ways::depths::depth_at;
 use ways::place_at;
 ghost use mathlib.Core.Path.{_≡_};
 ghost use Prim.Native.Nat.{_+_, _<_};

@@ -1,7 +1,6 @@
 pub mod Frames
 pub mod KnownTables
 pub mod Starts
-pub mod Deep
 pub mod Seeking
 pub mod Once
 pub mod Descending

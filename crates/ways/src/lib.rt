@@ -1,7 +1,5 @@
 // Ways: from the root of a known table down to a place, by the ends of terms. A way has as many steps as the place is deep, and is stored nowhere: one walk
 // tells what a move asks of a place, another the scope of an atom. How deep a term is: depths.
-pub mod depths;
-
 use records::Atom;
 use records::Found;
 use records::atom_at;

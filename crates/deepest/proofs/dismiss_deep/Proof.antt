@@ -2,7 +2,7 @@
 use borrow.Author.Needs.{needs}
 use native.Mathlib.Omega.{arith}
 use Rattle.records.proofs.StandsIn.{whole-stands}
-use Rattle.ways.proofs.Deep.{depth-size}
+use Rattle.depths.proofs.Deep.{depth-size}
 use Rattle.ways.proofs.KnownTables.{table-size}
 use Rattle.deepest.proofs.Casting.{shallow-cast}
 use Rattle.deepest.proofs.dismiss_deep.Statement.{statement}

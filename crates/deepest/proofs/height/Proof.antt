@@ -1,7 +1,7 @@
 -- The children's depths are at hand: one more than the larger.
 use borrow.Author.Needs.{needs}
 use native.Mathlib.Omega.{arith}
-use Rattle.ways.proofs.Deep.{depth-none, depth-one, depth-two}
+use Rattle.depths.proofs.Deep.{depth-none, depth-one, depth-two}
 use Rattle.deepest.proofs.Heights.{first-place, both-places}
 use Rattle.deepest.proofs.height.Statement.{statement}
 use Rattle.deepest.proofs.height.Tie as tie

@@ -2,7 +2,7 @@ use borrow.Author.Needs.{needs}
 use borrow.Author.Tests.{not-true, not-false}
 use mathlib.Core.Path.{sym, _∙_}
 use native.Mathlib.Omega.{arith}
-use Rattle.ways.proofs.Deep.{depth-few}
+use Rattle.depths.proofs.Deep.{depth-few}
 use Rattle.extrude.proofs.Judged.{lift-stuck, lift-plain, beside-standing, lift-beside, lift-deep}
 use Rattle.extrude.proofs.judge_above.Statement.{statement}
 use Rattle.extrude.proofs.judge_above.Tie as tie

@@ -1,7 +1,7 @@
 use borrow.Author.Needs.{needs}
 use mathlib.Core.Path.{refl, ap}
 use native.Mathlib.Omega.{arith}
-use Rattle.ways.proofs.Deep.{depth-few}
+use Rattle.depths.proofs.Deep.{depth-few}
 use Rattle.ways.proofs.KnownTables.{none-live, found-live, found-inside, found-above}
 use Rattle.plans.specs.Plans.{resultOf}
 use Rattle.plans.proofs.Planning.{planned-refused}

@@ -4,15 +4,15 @@ use native.Mathlib.Omega.{arith}
 use borrow.Fn.Kinds.{In}
 use borrow.Fn.PlainCycle.{Measures, is, falls, and}
 use lib.ListN.{length}
-use Rattle.ways.proofs.Deep.{depth-few, depth-none, first-standing, depth-one, second-standing, depth-two}
-use Rattle.ways.proofs.depths.depth_at.Reads as depth-at
-use Rattle.ways.proofs.depths.depth_at.Kinds as depth-at-kinds
-use Rattle.ways.proofs.depths.+depth_at.Lts-depth_at as depth-at-lts
-use Rattle.ways.proofs.depths.larger.Reads as larger-reads
+use Rattle.depths.proofs.Deep.{depth-few, depth-none, first-standing, depth-one, second-standing, depth-two}
+use Rattle.depths.proofs.depth_at.Reads as depth-at
+use Rattle.depths.proofs.depth_at.Kinds as depth-at-kinds
+use Rattle.depths.proofs.+depth_at.Lts-depth_at as depth-at-lts
+use Rattle.depths.proofs.larger.Reads as larger-reads
 use Rattle.records.proofs.children.Reads as children-reads
 use Rattle.records.proofs.wide16.Reads as wide16-reads
-use Rattle.ways.proofs.depths.+depth_at.{statement}
-use Rattle.ways.proofs.depths.+depth_at.Tie.{close}
+use Rattle.depths.proofs.+depth_at.{statement}
+use Rattle.depths.proofs.+depth_at.Tie.{close}
 
 abbrev μ-depth-at : Measures 2 depth-at-kinds.ps ℕ
 μ-depth-at κs a = length (a .0 .now) / 16 - a .1 .1 .0
@@ -45,14 +45,14 @@ pub +depth-at-spec : {M : Type 1} → statement M
     (λ c κs. tt)
     (λ c κs.
     let c₁ = c .before .before in let c₂ = c₁ .before in let c₃ = c₂ .before in let c₄ = c₃ .before in
-    let (q, l) = second-standing _ _ _ _ (c₄ .before .before .before .before .pre .1) (c₄ .children .ensures .0) _ (c₂ .depth-at .ensures) (c₃ .if1 .left) (c₁ .if2 .left) _ (c .wide16 .ensures .0) in
+    let (q, l) = second-standing _ _ _ _ (c₄ .before .before .before .before .pre .1) (c₄ .children .ensures .0) (c₃ .if1 .left) (c₁ .if2 .left) _ (c .wide16 .ensures .0) in
     (omega (arith, q .inside), q))
     (λ c κs. tt)
     (λ c.
     let q = c .before .before .before .before .before .before .before .before .before .before .before .pre .1 in
     let k = c .before .before .before .before .before .before .before .children .ensures .0 in
     let d = c .before .before .before .before .before .depth-at .ensures in
-    let r = second-standing _ _ _ _ q k _ d (c .before .before .before .before .before .before .if1 .left) (c .before .before .before .before .if2 .left) _ (c .before .before .wide16 .ensures .0) .0 in
+    let r = second-standing _ _ _ _ q k (c .before .before .before .before .before .before .if1 .left) (c .before .before .before .before .if2 .left) _ (c .before .before .wide16 .ensures .0) .0 in
     omega (arith, c .larger .ensures, depth-few (first-standing _ _ _ _ q k (c .before .before .before .before .before .before .if1 .left)) _ d, depth-few r _ (c .before .depth-at2 .ensures)))
     (λ c u h.
     let c₁ = c .before in let c₂ = c₁ .before in let c₃ = c₂ .before .before in let c₄ = c₃ .before in let c₅ = c₄ .before in let c₆ = c₅ .before in

@@ -12,7 +12,7 @@ use Rattle.records.specs.Ends.{EndsFrom}
 use Rattle.records.specs.Rewrites.{StandsIn}
 use Rattle.records.proofs.StandsIn.{long, stands-children, stands-fits, stands-under, stands-left, stands-right}
 use Rattle.records.proofs.Shapes.{end-stands}
-use Rattle.ways.specs.Depths.{Standing}
+use Rattle.depths.specs.Depths.{Standing}
 
 pub depth-size : (t : Term) → depth t ≤ size t
 unfolding depth size
@@ -29,7 +29,7 @@ depth-few q d f = omega (arith, f (q .term) (q .stands), depth-size (q .term), l
 
 -- The record at place i has c children.
 module _ (s ends : List ℕ) (i c : ℕ) (q : Standing s ends i) (k : c ≡ childrenOf (getD s (16 * i) 0)) where
-  first : (t : Term) → StandsIn s (16 * i + 16) t → StandsIn s (16 * (i + 1)) t
+  pub first : (t : Term) → StandsIn s (16 * i + 16) t → StandsIn s (16 * (i + 1)) t
   first t h = subst (λ k. StandsIn s k t) (omega arith) h
 
   pub depth-none : c ≡ 0 → (t : Term) → StandsIn s (16 * i) t → 1 ≡ depth t
@@ -46,6 +46,21 @@ module _ (s ends : List ℕ) (i c : ℕ) (q : Standing s ends i) (k : c ≡ chil
       go (under u t) h = standing t (first t (stands-under u t h)) (q .end)
       go (both o l r) h = standing l (first l (stands-left o l r h)) (q .end)
 
+  -- it has two, and the second stands at place p
+  module _ (no : c ≢ 0) (not : c ≢ 1) (p : ℕ) (at : p ≡ getD ends (i + 1) 0) where
+    pub second : (o : Join) (l r : Term) → StandsIn s (16 * i) (both o l r) → (p ≡ i + 1 + size l) × StandsIn s (16 * p) r
+    second o l r h =
+        let z : p ≡ i + 1 + size l = at ∙ (q .end .end (i + 1) (omega arith) (omega (arith, q .inside)) ∙ end-stands s l (i + 1) (first l (stands-left o l r h))) in
+        (z, stands-right o l r (16 * p) (omega (arith, length-encode l)) h)
+
+    pub second-standing : Standing s ends p × (i < p)
+    second-standing = go (q .term) (q .stands)
+      where
+        go : (t : Term) → StandsIn s (16 * i) t → Standing s ends p × (i < p)
+        go (leaf x) h = absurd (no (k ∙ stands-children (leaf x) h))
+        go (under u t) h = absurd (not (k ∙ stands-children (under u t) h))
+        go (both o l r) h = let (z, y) = second o l r h in (standing r y (q .end), omega arith)
+
   module _ (d : ℕ) (f : (t : Term) → StandsIn s (16 * (i + 1)) t → d ≡ depth t) where
     pub depth-one : c ≡ 1 → (t : Term) → StandsIn s (16 * i) t → 1 + d ≡ depth t
     unfolding depth
@@ -53,22 +68,9 @@ module _ (s ends : List ℕ) (i c : ℕ) (q : Standing s ends i) (k : c ≡ chil
     depth-one e (under u t) h = omega (arith, f t (first t (stands-under u t h)))
     depth-one e (both o l r) h = absurd (omega (arith, stands-children (both o l r) h))
 
-    module _ (no : c ≢ 0) (not : c ≢ 1) (p : ℕ) (at : p ≡ getD ends (i + 1) 0) where
-      second : (o : Join) (l r : Term) → StandsIn s (16 * i) (both o l r) → (p ≡ i + 1 + size l) × StandsIn s (16 * p) r
-      second o l r h =
-          let z : p ≡ i + 1 + size l = at ∙ (q .end .end (i + 1) (omega arith) (omega (arith, q .inside)) ∙ end-stands s l (i + 1) (first l (stands-left o l r h))) in
-          (z, stands-right o l r (16 * p) (omega (arith, length-encode l)) h)
-
-      pub second-standing : Standing s ends p × (i < p)
-      second-standing = go (q .term) (q .stands)
-        where
-          go : (t : Term) → StandsIn s (16 * i) t → Standing s ends p × (i < p)
-          go (leaf x) h = absurd (no (k ∙ stands-children (leaf x) h))
-          go (under u t) h = absurd (not (k ∙ stands-children (under u t) h))
-          go (both o l r) h = let (z, y) = second o l r h in (standing r y (q .end), omega arith)
-
-      pub depth-two : (g : ℕ) → ((t : Term) → StandsIn s (16 * p) t → g ≡ depth t) → (t : Term) → StandsIn s (16 * i) t → 1 + max d g ≡ depth t
-      unfolding depth
-      depth-two g e (leaf x) h = absurd (no (k ∙ stands-children (leaf x) h))
-      depth-two g e (under u t) h = absurd (not (k ∙ stands-children (under u t) h))
-      depth-two g e (both o l r) h = let (z, y) = second o l r h in rw (f l (first l (stands-left o l r h)), e r y) (omega arith)
+    pub depth-two : c ≢ 0 → c ≢ 1 → (p : ℕ) → p ≡ getD ends (i + 1) 0 → (g : ℕ) → ((t : Term) → StandsIn s (16 * p) t → g ≡ depth t) → (t : Term) → StandsIn s (16 * i) t
+        → 1 + max d g ≡ depth t
+    unfolding depth
+    depth-two has more p at g e (leaf x) h = absurd (has (k ∙ stands-children (leaf x) h))
+    depth-two has more p at g e (under u t) h = absurd (more (k ∙ stands-children (under u t) h))
+    depth-two has more p at g e (both o l r) h = let (z, y) = second has more p at o l r h in rw (f l (first l (stands-left o l r h)), e r y) (omega arith)

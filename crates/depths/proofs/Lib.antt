@@ -1,0 +1,3 @@
+pub mod Deep
+pub mod Searches
+pub mod TooDeep
