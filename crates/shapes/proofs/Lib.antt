@@ -1,0 +1,4 @@
+pub mod Picking
+pub mod Stacks
+pub mod Backwards
+pub mod Passing
