@@ -1,18 +1,20 @@
 -- Lists that are made from the last place to the first: of ends, and of places of some kinds.
-use mathlib.Core.Path.{_≡_, refl, sym, ap, _∙_}
+use mathlib.Core.Path.{_≡_, sym, ap, _∙_}
 use mathlib.Core.Bool.{Bool, true, _&&_}
 use mathlib.Core.List.{List}
 use Prim.Native.Nat.{ℕ, suc, _+_, _*_, _/_, _≤_, _<_}
 use native.Mathlib.Omega.{arith}
-use lib.Dec.{leb}
+use lib.Dec.{leb, eqb}
 use lib.ListN.{length, getD, set, length-set}
 use lib.Seq.{getD-set-same, getD-set-other}
 use mir.Val.{boolByte}
-use Rattle.cows.proofs.Basics.{bool-case, eq-case}
+use borrow.Author.Tests.{leb-true, le-leb, eq-eqb, ne-eqb}
+use Rattle.cows.proofs.Basics.{bool-case, eq-case, and-true, true-and, not-so}
 use Rattle.records.specs.Ends.{endAt, EndsFrom}
 use Rattle.ranges.specs.Lists.{Listed}
 use Rattle.ranges.proofs.Lists.{test-number}
 
+-- the end at one more place
 pub ends-turn : (s ends : List ℕ) (j r : ℕ) → EndsFrom s ends (suc j) → j ≤ length s / 16 → r ≡ endAt s j → EndsFrom s (set ends j r) j
 ends-turn s ends j r h l e = record {
   few = h .few;
@@ -21,6 +23,12 @@ ends-turn s ends j r h l e = record {
       eq-case _ m j (λ z. rw z (getD-set-same ends j r 0 (omega (arith, h .room)) ∙ e))
       (λ z. getD-set-other ends j m r 0 z ∙ h .end m (omega arith) hi);
 }
+
+-- a kind told by itself, as a range
+pub one-kind : (k x : ℕ) → eqb k x ≡ (leb x k && leb k x)
+one-kind k x =
+    eq-case _ k x (λ e. eq-eqb k x e ∙ sym (true-and (le-leb x k (omega arith)) (le-leb k x (omega arith))))
+    (λ e. ne-eqb k x e ∙ sym (not-so (λ t. let (a, b) = and-true (leb x k) (leb k x) t in e (omega (arith, leb-true x k a, leb-true k x b)))))
 
 -- The first m numbers of the list are the places from i on of the records of kinds x to y.
 pub record ListedFrom (s : List ℕ) (x y : ℕ) (list : List ℕ) (i m : ℕ) : Type 0 where

@@ -1,8 +1,8 @@
 -- The pass over a table: what is known from place i on, a turn, and the end of the pass.
-use mathlib.Core.Path.{_≡_, refl, sym, ap, _∙_}
+use mathlib.Core.Path.{_≡_, refl, sym, _∙_}
 use mathlib.Core.Bool.{false, not, _&&_, _||_}
 use mathlib.Core.List.{List}
-use Prim.Native.Nat.{ℕ, zero, suc, _+_, _*_, _-_, _/_, _%_, _≤_, _<_}
+use Prim.Native.Nat.{ℕ, suc, _+_, _*_, _-_, _/_, _%_, _≤_, _<_}
 use native.Mathlib.Omega.{arith}
 use lib.Dec.{leb, ltb, eqb}
 use lib.ListN.{length, getD, set}
@@ -15,7 +15,7 @@ use Rattle.records.proofs.StandsIn.{whole-stands}
 use Rattle.records.proofs.Shapes.{ends-start}
 use Rattle.shapes.specs.Shaped.{pickHeight, Shaped}
 use Rattle.shapes.proofs.Stacks.{Entry, Stacked, stack-turn, stacked-first}
-use Rattle.shapes.proofs.Backwards.{ListedFrom, ends-turn, back-none, back-turn, back-all}
+use Rattle.shapes.proofs.Backwards.{ListedFrom, ends-turn, one-kind, back-none, back-turn, back-all}
 
 -- From place i on: k terms on the stack, the first of which ends at e and has height h; the ends; m delimitations and u users. `end` and `high` are here for `omega`.
 pub record Passed (s ends stack marks users : List ℕ) (k e h m u i : ℕ) : Type 0 where
@@ -47,7 +47,7 @@ pass-start s ends stack marks users few room =
 pub pass-turn : (s ends stack marks users : List ℕ) (k e h m u j : ℕ) → Passed s ends stack marks users k e h m u (suc j) → k + 1 < length stack → m < length marks → u < length users
     → (c n a b : ℕ) → c ≡ childrenOf (getD s (16 * j) 0) → c ≤ 2 → n + c ≡ k + 2 → 2 ≤ n → n ≤ 257 → a ≡ pickEnd c (j + 1) e (getD stack k 0 % 65536) → b ≡ pickHeight c h (getD stack k 0 / 65536)
     → Passed s (set ends j a) (set stack (k + 1) (e + 65536 * h)) (set marks m j) (set users u j) (n - 1) a b
-    (m + boolByte (leb 8 (getD s (16 * j) 0) && leb (getD s (16 * j) 0) 8)) (u + boolByte (leb 1 (getD s (16 * j) 0) && leb (getD s (16 * j) 0) 3)) j
+    (m + boolByte (eqb (getD s (16 * j) 0) 8)) (u + boolByte (leb 1 (getD s (16 * j) 0) && leb (getD s (16 * j) 0) 3)) j
 pass-turn s ends stack marks users k e h m u j p roomy more most c n a b kind two count lo hi ea eb =
     record {
       few = omega (arith, p .few);
@@ -56,7 +56,7 @@ pass-turn s ends stack marks users k e h m u j p roomy more most c n a b kind tw
       high = omega (arith, top .small, top .inside, p .known .few);
       stacked = turned;
       known = ends-turn s ends j a (p .known) (omega (arith, p .few)) (top .end);
-      mark = back-turn s 8 8 marks j m more _ refl (p .mark);
+      mark = back-turn s 8 8 marks j m more _ (one-kind (getD s (16 * j) 0) 8) (p .mark);
       user = back-turn s 1 3 users j u most _ refl (p .user);
     }
   where

@@ -1,7 +1,7 @@
 -- One of three by flags: the flags of a kind, and what multiplications by 0 and 1 pick.
 use mathlib.Core.Path.{_≡_, refl}
 use mathlib.Core.List.{List, [], _∷_}
-use Prim.Native.Nat.{ℕ, zero, suc, _+_, _*_, _≤_, _<_, max}
+use Prim.Native.Nat.{ℕ, zero, suc, _+_, _*_, _-_, _≤_, _<_, max}
 use native.Mathlib.Omega.{arith}
 use lib.ListN.{getD}
 use Rattle.cows.specs.Kinds.{childrenOf, open-kinds}
@@ -38,15 +38,17 @@ flag-cases P p q r (suc none) one two e =
 flag-cases P p q r zero (suc one) two e = let b : one ≡ 0 = omega arith in let c : two ≡ 0 = omega arith in rw (b, c) q
 flag-cases P p q r zero zero two e = let c : two ≡ 1 = omega arith in rw c r
 
-module _ (none one two : ℕ) (f : none + one + two ≡ 1) (a b : ℕ) where
-  pub end-picked : (x : ℕ) → (none * x ≤ x) × (one * a ≤ a) × (two * b ≤ b) × (none * x + one * a + two * b ≡ pickEnd (one + 2 * two) x a b)
-  unfolding pickEnd
-  end-picked x =
-      flag-cases (λ none one two. (none * x ≤ x) × (one * a ≤ a) × (two * b ≤ b) × (none * x + one * a + two * b ≡ pickEnd (one + 2 * two) x a b))
-      (omega arith) (omega arith) (omega arith) none one two f
+-- the end and the height that are picked; the bounds are for `omega`
+pub end-picked : (x a b none one two : ℕ) → none + one + two ≡ 1
+    → (none * x ≤ x) × (one * a ≤ a) × (two * b ≤ b) × (none * x + one * a + two * b ≡ pickEnd (one + 2 * two) x a b)
+unfolding pickEnd
+end-picked x a b =
+    flag-cases (λ none one two. (none * x ≤ x) × (one * a ≤ a) × (two * b ≤ b) × (none * x + one * a + two * b ≡ pickEnd (one + 2 * two) x a b))
+    (omega arith) (omega arith) (omega arith)
 
-  pub height-picked : ((one + two) * a ≤ a) × (two * b ≤ b) × (1 + max ((one + two) * a) (two * b) ≡ pickHeight (one + 2 * two) a b)
-  unfolding pickHeight
-  height-picked =
-      flag-cases (λ none one two. ((one + two) * a ≤ a) × (two * b ≤ b) × (1 + max ((one + two) * a) (two * b) ≡ pickHeight (one + 2 * two) a b))
-      (omega arith) (omega arith) (omega arith) none one two f
+pub height-picked : (a b one two : ℕ) → one + two ≤ 1
+    → ((one + two) * a ≤ a) × (two * b ≤ b) × (1 + max ((one + two) * a) (two * b) ≡ pickHeight (one + 2 * two) a b)
+unfolding pickHeight
+height-picked a b one two l =
+    flag-cases (λ none one two. ((one + two) * a ≤ a) × (two * b ≤ b) × (1 + max ((one + two) * a) (two * b) ≡ pickHeight (one + 2 * two) a b))
+    (omega arith) (omega arith) (omega arith) (1 - (one + two)) one two (omega arith)

@@ -1,11 +1,11 @@
 -- The stack of a backward pass: the terms that wait for a parent, each with its end and its height.
 use mathlib.Core.Path.{_≡_, refl, sym, ap, subst, _∙_}
 use mathlib.Core.List.{List}
-use Prim.Native.Nat.{ℕ, zero, suc, _+_, _*_, _-_, _/_, _%_, _≤_, _<_, max}
+use Prim.Native.Nat.{ℕ, zero, suc, _+_, _*_, _-_, _/_, _%_, _≤_, _<_}
 use native.Mathlib.Omega.{arith}
 use lib.ListN.{length, getD, set}
 use lib.Seq.{getD-set-same, getD-set-other}
-use Rattle.cows.specs.Terms.{Term, leaf, under, both, size, depth}
+use Rattle.cows.specs.Terms.{Term, leaf, under, both, depth}
 use Rattle.cows.specs.Kinds.{childrenOf}
 use Rattle.cows.proofs.Format.{length-encode}
 use Rattle.records.specs.Ends.{endAt, pickEnd}

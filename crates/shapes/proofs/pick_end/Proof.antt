@@ -1,15 +1,18 @@
+use mathlib.Core.Path.{_≡_}
+use Prim.Native.Nat.{_+_, _*_, _≤_}
 use native.Mathlib.Omega.{arith}
+use Rattle.records.specs.Ends.{pickEnd}
 use Rattle.shapes.proofs.Picking.{end-picked}
 use Rattle.shapes.proofs.pick_end.Statement.{statement}
 use Rattle.shapes.proofs.pick_end.Tie as tie
+
+picked : (c : tie.Start) → let a = c .args in
+    (a .none * a .x ≤ a .x) × (a .one * a .a ≤ a .a) × (a .two * a .b ≤ a .b) × (a .none * a .x + a .one * a .a + a .two * a .b ≡ pickEnd (a .one + 2 * a .two) (a .x) (a .a) (a .b))
+picked c = let a = c .args in end-picked (a .x) (a .a) (a .b) (a .none) (a .one) (a .two) (c .pre .0)
 
 pub pick-end-spec : {M : Type 1} → statement M
 pick-end-spec =
     tie.close
     (tie.spec
-    (λ c. let a = c .args in omega (arith, end-picked (a .none) (a .one) (a .two) (c .pre .0) (a .a) (a .b) (a .x)))
-    (λ c. let a = c .args in omega (arith, end-picked (a .none) (a .one) (a .two) (c .pre .0) (a .a) (a .b) (a .x)))
-    (λ c. let a = c .args in omega (arith, end-picked (a .none) (a .one) (a .two) (c .pre .0) (a .a) (a .b) (a .x)))
-    (λ c. let a = c .args in omega (arith, end-picked (a .none) (a .one) (a .two) (c .pre .0) (a .a) (a .b) (a .x)))
-    (λ c. let a = c .args in omega (arith, end-picked (a .none) (a .one) (a .two) (c .pre .0) (a .a) (a .b) (a .x)))
-    (λ c. let a = c .args in end-picked (a .none) (a .one) (a .two) (c .pre .0) (a .a) (a .b) (a .x) .3))
+    (λ c. omega (arith, picked c)) (λ c. omega (arith, picked c)) (λ c. omega (arith, picked c)) (λ c. omega (arith, picked c)) (λ c. omega (arith, picked c))
+    (λ c. picked c .3))

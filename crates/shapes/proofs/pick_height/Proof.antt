@@ -10,10 +10,10 @@ pick-height-spec =
     tie.close
     (tie.spec
     (λ c. omega arith)
-    (λ c. let a = c .args in omega (arith, height-picked (a .none) (a .one) (a .two) (c .pre .0) (a .a) (a .b)))
-    (λ c. let a = c .args in omega (arith, height-picked (a .none) (a .one) (a .two) (c .pre .0) (a .a) (a .b)))
+    (λ c. let a = c .args in omega (arith, height-picked (a .a) (a .b) (a .one) (a .two) (c .pre .0)))
+    (λ c. let a = c .args in omega (arith, height-picked (a .a) (a .b) (a .one) (a .two) (c .pre .0)))
     (λ c κs. tt)
-    (λ c. let a = c .before .args in omega (arith, c .greater .ensures, height-picked (a .none) (a .one) (a .two) (c .before .pre .0) (a .a) (a .b)))
+    (λ c. let a = c .before .args in omega (arith, c .greater .ensures, height-picked (a .a) (a .b) (a .one) (a .two) (c .before .pre .0)))
     (λ c.
     let a = c .before .args in
-    ap (λ h. 1 + h) (c .greater .ensures) ∙ height-picked (a .none) (a .one) (a .two) (c .before .pre .0) (a .a) (a .b) .2))
+    ap (λ h. 1 + h) (c .greater .ensures) ∙ height-picked (a .a) (a .b) (a .one) (a .two) (c .before .pre .0) .2))
