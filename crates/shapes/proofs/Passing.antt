@@ -45,7 +45,8 @@ pass-start s ends stack marks users few room =
 
 -- The record at place j has c children; a is its end and b its height, and n more than the terms that are then on the stack by one.
 pub pass-turn : (s ends stack marks users : List ℕ) (k e h m u j : ℕ) → Passed s ends stack marks users k e h m u (suc j) → k + 1 < length stack → m < length marks → u < length users
-    → (c n a b : ℕ) → c ≡ childrenOf (getD s (16 * j) 0) → c ≤ 2 → n + c ≡ k + 2 → 2 ≤ n → n ≤ 257 → a ≡ pickEnd c (j + 1) e (getD stack k 0 % 65536) → b ≡ pickHeight c h (getD stack k 0 / 65536)
+    → (c n a b : ℕ) → c ≡ childrenOf (getD s (16 * j) 0) → c ≤ 2 → n + c ≡ k + 2 → 2 ≤ n → n ≤ 257
+    → a ≡ pickEnd c (j + 1) e (getD stack k 0 % 65536) → b ≡ pickHeight c h (getD stack k 0 / 65536)
     → Passed s (set ends j a) (set stack (k + 1) (e + 65536 * h)) (set marks m j) (set users u j) (n - 1) a b
     (m + boolByte (eqb (getD s (16 * j) 0) 8)) (u + boolByte (leb 1 (getD s (16 * j) 0) && leb (getD s (16 * j) 0) 3)) j
 pass-turn s ends stack marks users k e h m u j p roomy more most c n a b kind two count lo hi ea eb =

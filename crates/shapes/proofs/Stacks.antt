@@ -90,16 +90,24 @@ stack-turn s stack k e h j c m q l kind few n two room small = go k c q kind few
         let z : m - 1 ≡ suc k = omega arith in
         let f : (e + 65536 * h) % 65536 ≡ e = omega arith in
         let g : (e + 65536 * h) / 65536 ≡ h = omega arith in
-        rw z
-        (entry-more s j 0 e h (getD stack k 0 % 65536) (getD stack k 0 / 65536) kind (λ x. absurd (omega arith)) (λ x. absurd (omega arith)) l few, rw (getD-set-same stack (suc k) (e + 65536 * h) 0 room, f, g) (stacked-keep s stack (suc k) (e + 65536 * h) k e h (suc j) (omega arith) q))
+        rw z (
+          entry-more s j 0 e h (getD stack k 0 % 65536) (getD stack k 0 / 65536) kind (λ x. absurd (omega arith)) (λ x. absurd (omega arith)) l few,
+          rw (getD-set-same stack (suc k) (e + 65536 * h) 0 room, f, g) (stacked-keep s stack (suc k) (e + 65536 * h) k e h (suc j) (omega arith) q),
+        )
     go zero (suc c) q kind few n room = absurd (omega arith)
     go (suc k) (suc zero) q kind few n room =
         let z : m - 1 ≡ suc k = omega arith in
-        rw z (entry-more s j 1 e h (getD stack (suc k) 0 % 65536) (getD stack (suc k) 0 / 65536) kind (λ x. q .0) (λ x. absurd (omega arith)) l few, stacked-keep s stack (suc (suc k)) (e + 65536 * h) (suc k) e h (suc j) (omega arith) q .1)
+        rw z (
+          entry-more s j 1 e h (getD stack (suc k) 0 % 65536) (getD stack (suc k) 0 / 65536) kind (λ x. q .0) (λ x. absurd (omega arith)) l few,
+          stacked-keep s stack (suc (suc k)) (e + 65536 * h) (suc k) e h (suc j) (omega arith) q .1,
+        )
     go (suc zero) (suc (suc c)) q kind few n room = absurd (omega arith)
     go (suc (suc k)) (suc (suc zero)) q kind few n room =
         let z : m - 1 ≡ suc k = omega arith in
-        rw z (entry-more s j 2 e h (getD stack (suc (suc k)) 0 % 65536) (getD stack (suc (suc k)) 0 / 65536) kind (λ x. q .0) (λ x. q .1 .0) l few, stacked-keep s stack (suc (suc (suc k))) (e + 65536 * h) (suc k) (getD stack (suc (suc k)) 0 % 65536) (getD stack (suc (suc k)) 0 / 65536) e (omega arith) (q .1) .1)
+        rw z (
+          entry-more s j 2 e h (getD stack (suc (suc k)) 0 % 65536) (getD stack (suc (suc k)) 0 / 65536) kind (λ x. q .0) (λ x. q .1 .0) l few,
+          stacked-keep s stack (suc (suc (suc k))) (e + 65536 * h) (suc k) (getD stack (suc (suc k)) 0 % 65536) (getD stack (suc (suc k)) 0 / 65536) e (omega arith) (q .1) .1,
+        )
     go (suc (suc k)) (suc (suc (suc c))) q kind few n room = absurd (omega arith)
 
 pub stacked-first : (s stack : List ℕ) (k e h i : ℕ) → Stacked s stack k e h i → 0 < k → Entry s i e h
