@@ -1,140 +1,256 @@
--- Laws of the ranges of a record's fields: a record whose fields are within the ranges of its kind and of its count keeps the rules.
+-- Laws of the ranges of a record's fields: a record whose fields are within the ranges of a row keeps the rules, and what the code gathers tells that they are.
 use mathlib.Core.Path.{_≡_, refl, sym, ap, _∙_}
-use mathlib.Core.Bool.{Bool, true, false, _&&_}
+use mathlib.Core.Bool.{Bool, true, false, _&&_, _||_}
 use mathlib.Core.List.{List, [], _∷_, map}
-use Prim.Native.Nat.{ℕ, zero, suc, _+_, _*_, _%_, _≤_, _<_}
+use mathlib.Core.Option.{none}
+use Prim.Native.Nat.{ℕ, zero, suc, _+_, _*_, _/_, _%_, _≤_, _<_}
 use native.Mathlib.Omega.{arith}
 use native.Mathlib.Numerals.{add-one}
-use lib.Dec.{leb, ltb}
-use lib.ListN.{getD}
+use lib.Bits.{bitOr, and-le-l, and-le-r, or-add-and}
+use lib.Dec.{leb, ltb, eqb}
+use lib.ListN.{length, getD, set, List·getD-map}
+use lib.Seq.{getD-set-same, getD-set-other}
 use borrow.Author.Count.{below-more}
-use borrow.Author.Tests.{leb-true, ltb-true, le-leb, lt-ltb, eq-eqb}
-use Rattle.cows.specs.Basics.{every}
+use borrow.Author.Tests.{leb-true, ltb-true, le-leb, lt-ltb, eqb-true}
+use Rattle.cows.specs.Basics.{any, every, All}
 use Rattle.cows.specs.Terms.{label, datum, atom}
 use Rattle.cows.specs.Kinds.{unused, interval, distinct, empty4, kinds, rowOf, may}
-use Rattle.cows.specs.Format.{byte, word, rightContents, rightRecord}
-use Rattle.cows.proofs.Basics.{and-true, true-and}
-use Rattle.rows.specs.Rows.{inRange, slotRight, tupleContents}
+use Rattle.cows.specs.Format.{byte, word, rightContents, rightRecord, records}
+use Rattle.cows.specs.Tables.{firstWrong}
+use Rattle.cows.proofs.Basics.{never, and-true, true-and, bool-case, eq-case}
+use Rattle.cows.proofs.Cut.{all-passing}
+use Rattle.rows.specs.Rows.{slotRight, tupleContents}
 use Rattle.rows.proofs.Checks.{datum-range, atom-range, invoke-code, receive-code}
 use Rattle.records.proofs.Pieces.{piece, byte-piece, word-piece, first-piece}
 use Rattle.rows.proofs.Tested.{tuple-piece, slots-piece}
-use Rattle.ranges.specs.Ranges.{zeroOnly, anyNumber, plainRanges, tupleRanges, kindRanges, countRanges, lowest, greatest, fieldsWithin, ranged, patternRight}
+use Rattle.ranges.specs.Ranges.{zeroOnly, range, plainRow, tupleRow, fieldRows, within, fieldsWithin, ranged, Gathers, patternRight}
 
--- a number within a range; the eight fields of the record at byte k within theirs
-abbrev Within : ℕ → ℕ × ℕ → Type 0
-Within a r = (r .0 ≤ a) × (a ≤ r .1)
+infixr 10 _and_
+-- a fact and more
+_and_ : {A B : Type 0} → A → B → A × B
+a and b = (a, b)
 
-abbrev Row : List ℕ → ℕ → List ℕ → List ℕ → Type 0
-Row s k low top = (j : ℕ) → ltb j 8 ≡ true → Within (word s (k + 2 * j)) (getD low j 0, getD top j 0)
+-- The eight fields of the record at byte k are within the ranges of a row: by a test, and one by one.
+abbrev Row : List ℕ → ℕ → List (ℕ × ℕ) → Type 0
+Row s k r = (j : ℕ) → ltb j 8 ≡ true → within (word s (k + 2 * j)) (getD r j zeroOnly) ≡ true
 
-row-within : (s : List ℕ) (k : ℕ) (low top : List ℕ) → fieldsWithin s k low top 8 ≡ true → Row s k low top
+row-within : (s : List ℕ) (k : ℕ) (r : List (ℕ × ℕ)) → fieldsWithin s k r 8 ≡ true → Row s k r
 unfolding fieldsWithin
-row-within s k low top e j l = go 8 e j (ltb-true j 8 l)
+row-within s k r e j l = go 8 e j (ltb-true j 8 l)
   where
-    go : (n : ℕ) → fieldsWithin s k low top n ≡ true → (i : ℕ) → i < n → Within (word s (k + 2 * i)) (getD low i 0, getD top i 0)
+    go : (n : ℕ) → fieldsWithin s k r n ≡ true → (i : ℕ) → i < n → within (word s (k + 2 * i)) (getD r i zeroOnly) ≡ true
     go zero f i m = absurd (omega arith)
-    go (suc n) f i m =
-        let (g, h) = and-true _ _ f in
-        let (u, v) = and-true _ _ h in
-        below-more _ n (go n g) (leb-true _ _ u, leb-true _ _ v) i (omega arith)
+    go (suc n) f i m = let (g, h) = and-true _ _ f in below-more _ n (go n g) h i (omega arith)
 
--- a turn of the code's test: one more field
-pub field-turn : (s : List ℕ) (k : ℕ) (low top : List ℕ) (j a : ℕ) (above below : Bool) → a ≡ word s (k + 2 * j) → (above && below) ≡ fieldsWithin s k low top j
-    → ((above && leb (getD low j 0) a) && (below && leb a (getD top j 0))) ≡ fieldsWithin s k low top (j + 1)
+within-row : (s : List ℕ) (k : ℕ) (r : List (ℕ × ℕ)) (n : ℕ) → ((j : ℕ) → j < n → within (word s (k + 2 * j)) (getD r j zeroOnly) ≡ true) → fieldsWithin s k r n ≡ true
 unfolding fieldsWithin
-field-turn s k low top j a above below e h = rw (add-one j, e) (apart above below _ _ ∙ rw h)
-  where
-    apart : (a b c d : Bool) → ((a && c) && (b && d)) ≡ ((a && b) && (c && d))
-    apart false b c d = refl
-    apart true false true d = refl
-    apart true false false d = refl
-    apart true true c d = refl
+within-row s k r zero f = refl
+within-row s k r (suc n) f = true-and (within-row s k r n (λ j l. f j (omega arith))) (f n (omega arith))
 
--- what a range says of an atom
-range-in : (low top a : ℕ) → Within a (low, top) → inRange low (suc top) a ≡ true
-range-in low top a h = true-and (le-leb low a (h .0)) (lt-ltb a (suc top) (omega arith))
+-- what a range says of a number
+bounds : (a : ℕ) (r : ℕ × ℕ) → within a r ≡ true → (r .0 ≤ a) × (a ≤ r .0 + r .1)
+bounds a r h = let (u, v) = and-true (leb (r .0) a) _ h in (leb-true _ _ u, omega (arith, ltb-true a _ v))
 
-none-in : (a : ℕ) → Within a zeroOnly → unused a ≡ true
+none-in : (a : ℕ) → within a zeroOnly ≡ true → unused a ≡ true
 unfolding unused
-none-in a h = eq-eqb a 0 (omega arith)
+none-in a h = let b = bounds a zeroOnly h in rw (let z : a ≡ 0 = omega arith in z)
 
-datum-in : (a : ℕ) → Within a (1, 49151) → datum a ≡ true
-datum-in a h = datum-range a ∙ range-in 1 49151 a h
+datum-in : (a : ℕ) → within a (range 1 49152) ≡ true → datum a ≡ true
+datum-in a h = datum-range a ∙ h
 
-atom-in : (a : ℕ) → Within a (1, 65535) → atom a ≡ true
-atom-in a h = atom-range a ∙ range-in 1 65535 a h
+atom-in : (a : ℕ) → within a (range 1 65536) ≡ true → atom a ≡ true
+atom-in a h = atom-range a ∙ h
 
-label-in : (a : ℕ) → Within a (49152, 65535) → label a ≡ true
+label-in : (a : ℕ) → within a (range 49152 65536) ≡ true → label a ≡ true
 unfolding label
-label-in a h = range-in 49152 65535 a h
+label-in a h = h
 
-interval-in : (a : ℕ) → Within a anyNumber → interval a ≡ true
+interval-in : (a : ℕ) → within a (range 0 65536) ≡ true → interval a ≡ true
 unfolding interval
-interval-in a h = lt-ltb a 65536 (omega arith)
+interval-in a h = lt-ltb a 65536 (omega (arith, bounds a (range 0 65536) h))
 
-module _ (s : List ℕ) (k : ℕ) where
-  -- the ranges of a row, and those by the count
-  abbrev Ranges : List (ℕ × ℕ) → Type 0
-  Ranges r = Row s k (map (λ p. p .0) r) (map (λ p. p .1) r)
+first-word : (s : List ℕ) (k : ℕ) → word s (k + 0) ≡ getD s k 0 + 256 * getD s (k + 1) 0
+unfolding word byte
+first-word s k = let z : k + 0 ≡ k = omega arith in rw (z, add-one k)
 
-  abbrev Counted : ℕ → Type 0
-  Counted n = Row s k (getD (lowest countRanges) (n % 8) []) (getD (greatest countRanges) (n % 8) [])
-
-  first-word : word s (k + 0) ≡ getD s k 0 + 256 * getD s (k + 1) 0
-  unfolding word byte
-  first-word = let z : k + 0 ≡ k = omega arith in rw (z, add-one k)
-
-  slots-in : (n : ℕ) → n ≤ 4 → Counted n → (slotRight n 0 (word s (k + 6)) ≡ true) × (slotRight n 1 (word s (k + 8)) ≡ true) × (slotRight n 2 (word s (k + 10)) ≡ true) × (slotRight n 3 (word s (k + 12)) ≡ true)
-  unfolding slotRight countRanges
-  slots-in zero l r = (none-in _ (r 3 refl), none-in _ (r 4 refl), none-in _ (r 5 refl), none-in _ (r 6 refl))
-  slots-in (suc zero) l r = (datum-in _ (r 3 refl), none-in _ (r 4 refl), none-in _ (r 5 refl), none-in _ (r 6 refl))
-  slots-in (suc (suc zero)) l r = (datum-in _ (r 3 refl), datum-in _ (r 4 refl), none-in _ (r 5 refl), none-in _ (r 6 refl))
-  slots-in (suc (suc (suc zero))) l r = (datum-in _ (r 3 refl), datum-in _ (r 4 refl), datum-in _ (r 5 refl), none-in _ (r 6 refl))
-  slots-in (suc (suc (suc (suc zero)))) l r = (datum-in _ (r 3 refl), datum-in _ (r 4 refl), datum-in _ (r 5 refl), datum-in _ (r 6 refl))
-  slots-in (suc (suc (suc (suc (suc n))))) l r = absurd (omega arith)
+module _ (s : List ℕ) (k : ℕ) (known : getD s k 0 < 10) where
+  -- the kind and the count, by the first field
+  first-in : (x n m : ℕ) → x < 10 → m ≡ x + 256 * n → within (word s (k + 0)) (m, 0) ≡ true → (getD s k 0 ≡ x) × (getD s (k + 1) 0 ≡ n)
+  first-in x n m l e h = let b = bounds (word s (k + 0)) (m, 0) h in omega (arith, first-word s k)
 
   -- a kind x without a tuple, whose row has p for the first atom, in range a, and q for the interval, in range i
-  plain-in : (x : ℕ) (p q : ℕ → Bool) {a i : ℕ × ℕ} → getD s k 0 ≡ x → x < 10 → rowOf x .holds ≡ may p unused empty4 q → Ranges (plainRanges x a i)
-      → ((n : ℕ) → Within n a → p n ≡ true) → ((n : ℕ) → Within n i → q n ≡ true) → Counted (getD s (k + 1) 0) → rightRecord (piece s k) ≡ true
-  unfolding rightRecord kinds rightContents empty4 every byte slotRight unused
-  plain-in x p q e l h r hp hq c =
-      let w : Within (word s (k + 0)) (x, x) = r 0 refl in
-      let n : getD s (k + 1) 0 ≡ 0 = omega (arith, first-word) in
-      let (a₀, a₁, a₂, a₃) = slots-in 0 (omega arith) (rw n at c) in
+  plain-in : (x : ℕ) (p q : ℕ → Bool) (a i : ℕ × ℕ) → x < 10 → rowOf x .holds ≡ may p unused empty4 q → ((n : ℕ) → within n a ≡ true → p n ≡ true) → ((n : ℕ) → within n i ≡ true → q n ≡ true)
+      → fieldsWithin s k (plainRow x a i) 8 ≡ true → rightRecord (piece s k) ≡ true
+  unfolding rightRecord kinds rightContents empty4 every byte unused
+  plain-in x p q a i l h hp hq f =
+      let r = row-within s k (plainRow x a i) f in
+      let (e, n) = first-in x 0 x l (omega arith) (r 0 refl) in
       rw (first-piece s k, e, lt-ltb x 10 l, h, word-piece s k 2 (omega arith), hp _ (r 1 refl), word-piece s k 4 (omega arith), none-in _ (r 2 refl))
-      (rw (byte-piece s k 1 (omega arith), n, slots-piece s k, a₀, a₁, a₂, a₃, word-piece s k 14 (omega arith)) (hq _ (r 7 refl)))
+      (rw (byte-piece s k 1 (omega arith), n, slots-piece s k, none-in _ (r 3 refl), none-in _ (r 4 refl), none-in _ (r 5 refl), none-in _ (r 6 refl), word-piece s k 14 (omega arith)) (hq _ (r 7 refl)))
 
-  -- a kind with a tuple, whose endpoint's atoms are at most top
-  tuple-in : (x top : ℕ) → getD s k 0 ≡ x → Ranges (tupleRanges x top) → Counted (getD s (k + 1) 0) → rightContents (tupleContents (suc top)) (piece s k) ≡ true
-  unfolding unused
-  tuple-in x top e r c =
-      let w : Within (word s (k + 0)) (x, x + 1024) = r 0 refl in
-      let n : getD s (k + 1) 0 ≤ 4 = omega (arith, first-word) in
-      let (a₀, a₁, a₂, a₃) = slots-in (getD s (k + 1) 0) n c in
-      sym (tuple-piece s k (suc top)) ∙ rw (range-in 1 top _ (r 1 refl), range-in 1 top _ (r 2 refl), le-leb _ 4 n, a₀, a₁, a₂, a₃, none-in _ (r 7 refl))
+  -- a kind x with n slots in use, whose endpoint's atoms are below top
+  module _ (x top : ℕ) where
+    slots-in : (n : ℕ) → n ≤ 4 → Row s k (tupleRow x top n)
+        → (slotRight n 0 (word s (k + 6)) ≡ true) × (slotRight n 1 (word s (k + 8)) ≡ true) × (slotRight n 2 (word s (k + 10)) ≡ true) × (slotRight n 3 (word s (k + 12)) ≡ true) × (unused (word s (k + 14)) ≡ true)
+    unfolding slotRight
+    slots-in zero l r = (none-in _ (r 3 refl), none-in _ (r 4 refl), none-in _ (r 5 refl), none-in _ (r 6 refl), none-in _ (r 7 refl))
+    slots-in (suc zero) l r = (datum-in _ (r 3 refl), none-in _ (r 4 refl), none-in _ (r 5 refl), none-in _ (r 6 refl), none-in _ (r 7 refl))
+    slots-in (suc (suc zero)) l r = (datum-in _ (r 3 refl), datum-in _ (r 4 refl), none-in _ (r 5 refl), none-in _ (r 6 refl), none-in _ (r 7 refl))
+    slots-in (suc (suc (suc zero))) l r = (datum-in _ (r 3 refl), datum-in _ (r 4 refl), datum-in _ (r 5 refl), none-in _ (r 6 refl), none-in _ (r 7 refl))
+    slots-in (suc (suc (suc (suc zero)))) l r = (datum-in _ (r 3 refl), datum-in _ (r 4 refl), datum-in _ (r 5 refl), datum-in _ (r 6 refl), none-in _ (r 7 refl))
+    slots-in (suc (suc (suc (suc (suc n))))) l r = absurd (omega arith)
 
-  kind-in : (x : ℕ) → getD s k 0 ≡ x → x < 10 → Row s k (getD (lowest kindRanges) (x % 16) []) (getD (greatest kindRanges) (x % 16) []) → Counted (getD s (k + 1) 0)
-      → (x ≡ 3 → patternRight s k ≡ true) → rightRecord (piece s k) ≡ true
-  unfolding kindRanges rowOf kinds patternRight
-  kind-in zero e l r c d = plain-in 0 unused unused e l refl r none-in none-in c
-  kind-in (suc zero) e l r c d = plain-in 1 label unused e l refl r label-in none-in c
-  kind-in (suc (suc zero)) e l r c d = sym (invoke-code (piece s k) (first-piece s k ∙ e)) ∙ tuple-in 2 49151 e r c
-  kind-in (suc (suc (suc zero))) e l r c d =
-      sym (receive-code (piece s k) (first-piece s k ∙ e)) ∙ true-and (tuple-in 3 32767 e r c) (ap distinct (slots-piece s k) ∙ d refl)
-  kind-in (suc (suc (suc (suc zero)))) e l r c d = plain-in 4 unused interval e l refl r none-in interval-in c
-  kind-in (suc (suc (suc (suc (suc zero))))) e l r c d = plain-in 5 unused unused e l refl r none-in none-in c
-  kind-in (suc (suc (suc (suc (suc (suc zero)))))) e l r c d = plain-in 6 unused unused e l refl r none-in none-in c
-  kind-in (suc (suc (suc (suc (suc (suc (suc zero))))))) e l r c d = plain-in 7 unused unused e l refl r none-in none-in c
-  kind-in (suc (suc (suc (suc (suc (suc (suc (suc zero)))))))) e l r c d = plain-in 8 atom unused e l refl r atom-in none-in c
-  kind-in (suc (suc (suc (suc (suc (suc (suc (suc (suc zero))))))))) e l r c d = plain-in 9 unused unused e l refl r none-in none-in c
-  kind-in (suc (suc (suc (suc (suc (suc (suc (suc (suc (suc x)))))))))) e l r c d = absurd (omega arith)
+    tuple-in : (n : ℕ) → x < 10 → n ≤ 4 → 2 ≤ top → fieldsWithin s k (tupleRow x top n) 8 ≡ true → (getD s k 0 ≡ x) × (rightContents (tupleContents top) (piece s k) ≡ true)
+    unfolding unused
+    tuple-in n l m t f =
+        let r = row-within s k (tupleRow x top n) f in
+        let (e, c) = first-in x n _ l refl (r 0 refl) in
+        let (a₀, a₁, a₂, a₃, a₄) = slots-in n m r in
+        let y : suc (range 1 top .0 + range 1 top .1) ≡ top = omega arith in
+        (e, sym (tuple-piece s k top) ∙ rw (c, rw y at (r 1 refl), rw y at (r 2 refl), le-leb _ 4 m, a₀, a₁, a₂, a₃) a₄)
 
-  pub ranged-right : ranged s k ≡ true → (getD s k 0 ≡ 3 → patternRight s k ≡ true) → rightRecord (piece s k) ≡ true
+  invoke-in : (n : ℕ) → n ≤ 4 → fieldsWithin s k (tupleRow 2 49152 n) 8 ≡ true → rightRecord (piece s k) ≡ true
+  invoke-in n m f = let (e, c) = tuple-in 2 49152 n (omega arith) m (omega arith) f in sym (invoke-code (piece s k) (first-piece s k ∙ e)) ∙ c
+
+  receive-in : (getD s k 0 ≡ 3 → patternRight s k ≡ true) → (n : ℕ) → n ≤ 4 → fieldsWithin s k (tupleRow 3 32768 n) 8 ≡ true → rightRecord (piece s k) ≡ true
+  unfolding patternRight
+  receive-in d n m f =
+      let (e, c) = tuple-in 3 32768 n (omega arith) m (omega arith) f in
+      sym (receive-code (piece s k) (first-piece s k ∙ e)) ∙ true-and c (ap distinct (slots-piece s k) ∙ d e)
+
+  rows-right : (getD s k 0 ≡ 3 → patternRight s k ≡ true) → All (λ r. fieldsWithin s k r 8 ≡ true → rightRecord (piece s k) ≡ true) fieldRows
+  unfolding fieldRows rowOf kinds
+  rows-right d =
+      let bare : (x : ℕ) → x < 10 → rowOf x .holds ≡ may unused unused empty4 unused → fieldsWithin s k (plainRow x zeroOnly zeroOnly) 8 ≡ true → rightRecord (piece s k) ≡ true =
+      λ x l e. plain-in x unused unused zeroOnly zeroOnly l e none-in none-in in
+      bare 0 (omega arith) refl
+      and plain-in 1 label unused (range 49152 65536) zeroOnly (omega arith) refl label-in none-in
+      and plain-in 4 unused interval zeroOnly (range 0 65536) (omega arith) refl none-in interval-in
+      and bare 5 (omega arith) refl
+      and bare 6 (omega arith) refl
+      and bare 7 (omega arith) refl
+      and plain-in 8 atom unused (range 1 65536) zeroOnly (omega arith) refl atom-in none-in
+      and bare 9 (omega arith) refl
+      and invoke-in 0 (omega arith)
+      and receive-in d 0 (omega arith)
+      and invoke-in 1 (omega arith)
+      and receive-in d 1 (omega arith)
+      and invoke-in 2 (omega arith)
+      and receive-in d 2 (omega arith)
+      and invoke-in 3 (omega arith)
+      and receive-in d 3 (omega arith)
+      and invoke-in 4 (omega arith)
+      and receive-in d 4 (omega arith)
+      and tt
+
+-- a statement that follows of each element that passes holds if some element passes; an element that passes
+any-all : {A : Type 0} (Q : Type 0) (f : A → Bool) (xs : List A) → All (λ x. f x ≡ true → Q) xs → any f xs ≡ true → Q
+unfolding any
+any-all Q f [] h e = never e
+any-all Q f (x ∷ xs) h e = bool-case Q (f x) (h .0) (λ z. any-all Q f xs (h .1) (rw z at e))
+
+any-at : {A : Type 0} (f : A → Bool) (xs : List A) (d : A) (i : ℕ) → i < length xs → f (getD xs i d) ≡ true → any f xs ≡ true
+unfolding any
+any-at f [] d i l h = absurd (omega arith)
+any-at f (x ∷ xs) d zero l h = rw h
+any-at f (x ∷ xs) d (suc i) l h = go (f x) (any-at f xs d i (omega arith) h)
+  where
+    go : (b : Bool) → any f xs ≡ true → (b || any f xs) ≡ true
+    go true e = refl
+    go false e = e
+
+-- what every element and the default pass, each read passes
+every-read : {A : Type 0} (f : A → Bool) (xs : List A) (d : A) → f d ≡ true → every f xs ≡ true → (i : ℕ) → f (getD xs i d) ≡ true
+unfolding every
+every-read f [] d e h i = e
+every-read f (x ∷ xs) d e h zero = and-true (f x) _ h .0
+every-read f (x ∷ xs) d e h (suc i) = every-read f xs d e (and-true (f x) _ h .1) i
+
+-- A ranged record has a known kind, and is right if it holds no variable twice where it is a pattern; so the table has no wrong record.
+pub ranged-kind : (s : List ℕ) (k : ℕ) → ranged s k ≡ true → getD s k 0 < 10
+unfolding ranged
+ranged-kind s k h = ltb-true (getD s k 0) 10 (and-true _ _ h .0)
+
+pub ranged-right : (s : List ℕ) (k : ℕ) → ranged s k ≡ true → (getD s k 0 ≡ 3 → patternRight s k ≡ true) → rightRecord (piece s k) ≡ true
+unfolding ranged
+ranged-right s k h d = any-all _ (λ r. fieldsWithin s k r 8) fieldRows (rows-right s k (ranged-kind s k h) d) (and-true (ltb (getD s k 0) 10) _ h .1)
+
+pub none-wrong : (s : List ℕ) → ((i : ℕ) → i < length s / 16 → ranged s (16 * i) ≡ true) → ((i : ℕ) → i < length s / 16 → getD s (16 * i) 0 ≡ 3 → patternRight s (16 * i) ≡ true) → firstWrong 0 (records s) ≡ none
+none-wrong s f g = all-passing 16 rightRecord s (λ i l. ranged-right s (16 * i) (f i l) (g i l))
+
+-- Gathering. A number that lies x above the lowest, counted round, is within the range if x is within its span.
+pub round-within : (w low span x : ℕ) → (x + low) % 65536 ≡ w → x ≤ span → low + span < 65536 → within w (low, span) ≡ true
+round-within w low span x e l h = true-and (le-leb low w (omega arith)) (lt-ltb w _ (omega arith))
+
+-- nothing comes of two numbers only if neither is anything
+pub or-nothing : (a b : ℕ) → bitOr a b ≡ 0 → (a ≡ 0) × (b ≡ 0)
+or-nothing a b h = omega (arith, or-add-and a b, and-le-l a b, and-le-r a b)
+
+-- a turn: field j, of which b is outside
+pub gather-turn : (s : List ℕ) (k : ℕ) (low span before after : List ℕ) (j b : ℕ) → j < length after
+    → (b ≡ 0 → getD low j 0 + getD span j 0 < 65536 → within (word s (k + 2 * j)) (getD low j 0, getD span j 0) ≡ true)
+    → Gathers s k low span before after j → ((q : ℕ) → j ≤ q → getD after q 0 ≡ getD before q 0)
+    → Gathers s k low span before (set after j (bitOr (getD after j 0) b)) (j + 1) × ((q : ℕ) → j + 1 ≤ q → getD (set after j (bitOr (getD after j 0) b)) q 0 ≡ getD before q 0)
+gather-turn s k low span before after j b l here done rest = (
+  λ q m z.
+      eq-case _ q j
+      (λ e. let (u, v) = or-nothing (getD after j 0) b (sym (getD-set-same after j _ 0 l) ∙ (rw e at z)) in rw e (sym (rest j (omega arith)) ∙ u, here v))
+      (λ e. done q (omega arith) (sym (getD-set-other after j q _ 0 e) ∙ z)),
+  λ q m. getD-set-other after j q _ 0 (λ e. omega arith) ∙ rest q (omega arith),
+)
+
+-- The rows of the code. In each the first field has one number, of a known kind, and no range ends beyond 65535.
+record Sound (r : List (ℕ × ℕ)) : Type 0 where
+  kind : getD r 0 zeroOnly .0 % 256 < 10
+  one : getD r 0 zeroOnly .1 ≡ 0
+  ends : (j : ℕ) → getD r j zeroOnly .0 + getD r j zeroOnly .1 < 65536
+
+sound : List (ℕ × ℕ) → Bool
+sound r = ltb (getD r 0 zeroOnly .0 % 256) 10 && eqb (getD r 0 zeroOnly .1) 0 && every (λ p. ltb (p .0 + p .1) 65536) r
+
+sound-tells : (r : List (ℕ × ℕ)) → sound r ≡ true → Sound r
+unfolding sound
+sound-tells r h =
+    let (u, v) = and-true (ltb (getD r 0 zeroOnly .0 % 256) 10 && eqb (getD r 0 zeroOnly .1) 0) _ h in
+    let (a, b) = and-true (ltb (getD r 0 zeroOnly .0 % 256) 10) _ u in
+    record { kind = ltb-true _ 10 a; one = eqb-true _ 0 b; ends = λ j. ltb-true _ 65536 (every-read (λ p. ltb (p .0 + p .1) 65536) r zeroOnly refl v j) }
+
+row-sound : (e : ℕ) → Sound (getD fieldRows e [])
+unfolding every fieldRows sound
+row-sound e = sound-tells _ (every-read sound fieldRows [] refl refl e)
+
+-- the code's tables: the rows, where the rows of a kind start, and how far on that of a count stands
+pub record Tables (lowest spans : List (List ℕ)) (row on : List ℕ) : Type 0 where
+  pub same-lowest : lowest ≡ map (map (λ p. p .0)) fieldRows
+  pub same-spans : spans ≡ map (map (λ p. p .1)) fieldRows
+  pub starts : every (λ a. leb a 9) row ≡ true
+  pub steps : every (λ a. leb a 8) on ≡ true
+
+cell : (f : ℕ × ℕ → ℕ) (rows : List (List (ℕ × ℕ))) (e j : ℕ) → getD (getD (map (map f) rows) e []) j (f zeroOnly) ≡ f (getD (getD rows e []) j zeroOnly)
+cell f rows e j = rw (List·getD-map (map f) rows e []) (List·getD-map f (getD rows e []) j zeroOnly)
+
+module _ {lowest spans : List (List ℕ)} {row on : List ℕ} (t : Tables lowest spans row on) where
+  pub row-below : (x y : ℕ) → getD row x 0 + getD on y 0 < 18
+  row-below x y =
+      let u = leb-true (getD row x 0) 9 (every-read (λ a. leb a 9) row 0 refl (t .starts) x) in
+      let v = leb-true (getD on y 0) 8 (every-read (λ a. leb a 8) on 0 refl (t .steps) y) in
+      omega arith
+
+  -- what is gathered by row e tells that the record is ranged
+  pub gathered-ranged : (s : List ℕ) (k e : ℕ) → e < 18 → getD s k 0 < 256
+      → ((j : ℕ) → j < 8 → getD (getD lowest e []) j 0 + getD (getD spans e []) j 0 < 65536 → within (word s (k + 2 * j)) (getD (getD lowest e []) j 0, getD (getD spans e []) j 0) ≡ true)
+      → ranged s k ≡ true
   unfolding ranged
-  ranged-right h d =
-      let (u, c) = and-true _ _ h in
-      let (l, r) = and-true _ _ u in
-      kind-in (getD s k 0) refl (ltb-true (getD s k 0) 10 l) (row-within s k _ _ r) (row-within s k _ _ c) d
+  gathered-ranged s k e l small h =
+      let r = getD fieldRows e [] in
+      let sound = row-sound e in
+      let low : (j : ℕ) → getD (getD lowest e []) j 0 ≡ getD r j zeroOnly .0 = λ j. rw (t .same-lowest) (cell (λ p. p .0) fieldRows e j) in
+      let span : (j : ℕ) → getD (getD spans e []) j 0 ≡ getD r j zeroOnly .1 = λ j. rw (t .same-spans) (cell (λ p. p .1) fieldRows e j) in
+      let fits : (j : ℕ) → j < 8 → within (word s (k + 2 * j)) (getD r j zeroOnly) ≡ true =
+      λ j m. rw (low j, span j) at (h j m (rw (low j, span j) (sound .ends j))) in
+      let b = bounds (word s (k + 0)) (getD r 0 zeroOnly) (fits 0 (omega arith)) in
+      true-and (lt-ltb (getD s k 0) 10 (omega (arith, first-word s k, sound .kind, sound .one)))
+      (any-at (λ q. fieldsWithin s k q 8) fieldRows [] e (unfold fieldRows in l) (within-row s k r 8 fits))
 
 -- the code's test of a pattern
 pub pattern-here : (s : List ℕ) (k a b c d : ℕ) (r : Bool) → a ≡ word s (k + 6) → b ≡ word s (k + 8) → c ≡ word s (k + 10) → d ≡ word s (k + 12) → r ≡ distinct (a ∷ b ∷ c ∷ d ∷ []) → r ≡ true

@@ -1,61 +1,70 @@
--- Ranges of the eight 16-bit fields of a record: kind and count, first atom, second atom, four slots, interval. A range is the lowest and the greatest number.
+-- Ranges of the eight 16-bit fields of a record: kind and count, first atom, second atom, four slots, interval. A range is its lowest number, and how far above
+-- it a field may lie. A row has the ranges of a kind and a count.
+use mathlib.Core.Path.{_≡_}
 use mathlib.Core.Bool.{Bool, true, _&&_}
 use mathlib.Core.List.{List, [], _∷_, _++_, map}
-use Prim.Native.Nat.{ℕ, zero, suc, _+_, _*_, _-_, _%_}
-use lib.Dec.{leb, ltb}
+use Prim.Native.Nat.{ℕ, zero, suc, _+_, _*_, _-_, _<_}
+use lib.Dec.{ltb}
 use lib.ListN.{getD, replicate}
-use Rattle.cows.specs.Limits.{firstVariable, firstLabel, maxSlots}
+use Rattle.cows.specs.Limits.{firstVariable, firstLabel, noAtom, noInterval, maxSlots}
+use Rattle.cows.specs.Basics.{any}
 use Rattle.cows.specs.Kinds.{distinct}
 use Rattle.cows.specs.Format.{word}
+use Rattle.rows.specs.Rows.{inRange}
 
--- an unused field; any number
+-- one number only; an unused field; the numbers from low on, and below high
+abbrev pub exactly : ℕ → ℕ × ℕ
+exactly n = (n, 0)
+
 abbrev pub zeroOnly : ℕ × ℕ
-zeroOnly = (0, 0)
+zeroOnly = exactly 0
 
-abbrev pub anyNumber : ℕ × ℕ
-anyNumber = (0, 65535)
+abbrev pub range : ℕ → ℕ → ℕ × ℕ
+range low high = (low, high - suc low)
 
--- Kind x without a tuple, by its first atom and its interval; kind x with a tuple, whose endpoint's atoms are at most top. Of the slots the count tells.
-abbrev pub plainRanges : ℕ → ℕ × ℕ → ℕ × ℕ → List (ℕ × ℕ)
-plainRanges x a i = (x, x) ∷ a ∷ zeroOnly ∷ anyNumber ∷ anyNumber ∷ anyNumber ∷ anyNumber ∷ i ∷ []
+-- Kind x without a tuple, by its first atom and its interval; kind x with n slots in use, whose endpoint's atoms are below top.
+abbrev pub plainRow : ℕ → ℕ × ℕ → ℕ × ℕ → List (ℕ × ℕ)
+plainRow x a i = exactly x ∷ a ∷ zeroOnly ∷ replicate maxSlots zeroOnly ++ (i ∷ [])
 
-abbrev pub tupleRanges : ℕ → ℕ → List (ℕ × ℕ)
-tupleRanges x top = (x, x + 256 * maxSlots) ∷ (1, top) ∷ (1, top) ∷ anyNumber ∷ anyNumber ∷ anyNumber ∷ anyNumber ∷ zeroOnly ∷ []
+abbrev pub tupleRow : ℕ → ℕ → ℕ → List (ℕ × ℕ)
+tupleRow x top n =
+    exactly (x + 256 * n) ∷ range 1 top ∷ range 1 top ∷ replicate n (range 1 firstLabel) ++ replicate (maxSlots - n) zeroOnly ++ (zeroOnly ∷ [])
 
--- the ranges by the kind (those from 10 on are told apart by themselves) ..
-unfoldable pub kindRanges : List (List (ℕ × ℕ))
-kindRanges =
-    plainRanges 0 zeroOnly zeroOnly
-    ∷ plainRanges 1 (firstLabel, 65535) zeroOnly
-    ∷ tupleRanges 2 (firstLabel - 1)
-    ∷ tupleRanges 3 (firstVariable - 1)
-    ∷ plainRanges 4 zeroOnly anyNumber
-    ∷ plainRanges 5 zeroOnly zeroOnly
-    ∷ plainRanges 6 zeroOnly zeroOnly
-    ∷ plainRanges 7 zeroOnly zeroOnly
-    ∷ plainRanges 8 (1, 65535) zeroOnly
-    ∷ map (λ x. plainRanges x zeroOnly zeroOnly) (9 ∷ 10 ∷ 11 ∷ 12 ∷ 13 ∷ 14 ∷ 15 ∷ [])
+-- invoke and receive with n slots in use
+abbrev pub tupleRows : ℕ → List (List (ℕ × ℕ))
+tupleRows n = tupleRow 2 firstLabel n ∷ tupleRow 3 firstVariable n ∷ []
 
--- .. and by the count, which tells of the slots only
-unfoldable pub countRanges : List (List (ℕ × ℕ))
-countRanges = map (λ n. anyNumber ∷ anyNumber ∷ anyNumber ∷ replicate n (1, firstLabel - 1) ++ replicate (maxSlots - n) zeroOnly ++ (anyNumber ∷ [])) (0 ∷ 1 ∷ 2 ∷ 3 ∷ 4 ∷ 4 ∷ 4 ∷ 4 ∷ [])
+-- the rows of all kinds and counts that can be
+unfoldable pub fieldRows : List (List (ℕ × ℕ))
+fieldRows =
+    plainRow 0 zeroOnly zeroOnly
+    ∷ plainRow 1 (range firstLabel noAtom) zeroOnly
+    ∷ plainRow 4 zeroOnly (range 0 noInterval)
+    ∷ plainRow 5 zeroOnly zeroOnly
+    ∷ plainRow 6 zeroOnly zeroOnly
+    ∷ plainRow 7 zeroOnly zeroOnly
+    ∷ plainRow 8 (range 1 noAtom) zeroOnly
+    ∷ plainRow 9 zeroOnly zeroOnly
+    ∷ tupleRows 0 ++ tupleRows 1 ++ tupleRows 2 ++ tupleRows 3 ++ tupleRows 4
 
-abbrev pub lowest : List (List (ℕ × ℕ)) → List (List ℕ)
-lowest rows = map (λ r. map (λ p. p .0) r) rows
+-- the number w is within a range; the first n fields of the record at byte k are within the ranges of a row
+abbrev pub within : ℕ → ℕ × ℕ → Bool
+within w r = inRange (r .0) (suc (r .0 + r .1)) w
 
-abbrev pub greatest : List (List (ℕ × ℕ)) → List (List ℕ)
-greatest rows = map (λ r. map (λ p. p .1) r) rows
+unfoldable pub fieldsWithin : List ℕ → ℕ → List (ℕ × ℕ) → ℕ → Bool
+fieldsWithin s k row zero = true
+fieldsWithin s k row (suc j) = fieldsWithin s k row j && within (word s (k + 2 * j)) (getD row j zeroOnly)
 
--- the first n fields of the record at byte k are no less than those of one row, and no greater than those of the other
-unfoldable pub fieldsWithin : List ℕ → ℕ → List ℕ → List ℕ → ℕ → Bool
-fieldsWithin s k low top zero = true
-fieldsWithin s k low top (suc j) = fieldsWithin s k low top j && (leb (getD low j 0) (word s (k + 2 * j)) && leb (word s (k + 2 * j)) (getD top j 0))
-
--- the record at byte k has a known kind, and its fields are within the ranges of its kind and of its count
+-- the record at byte k has a known kind, and its fields are within the ranges of a row
 unfoldable pub ranged : List ℕ → ℕ → Bool
-ranged s k =
-    let within : List (List (ℕ × ℕ)) → ℕ → Bool = λ rows x. fieldsWithin s k (getD (lowest rows) x []) (getD (greatest rows) x []) 8 in
-    ltb (getD s k 0) 10 && within kindRanges (getD s k 0 % 16) && within countRanges (getD s (k + 1) 0 % 8)
+ranged s k = ltb (getD s k 0) 10 && any (λ row. fieldsWithin s k row 8) fieldRows
+
+-- Gathering, in eight numbers, how far fields lie outside: where the number is 0 after the record at byte k, it was before, and the record's field is within its
+-- range, if this ends below 65536; so for the first n.
+abbrev pub Gathers : (s : List ℕ) (k : ℕ) (low span before after : List ℕ) (n : ℕ) → Type 0
+Gathers s k low span before after n =
+    (j : ℕ) → j < n → getD after j 0 ≡ 0
+    → (getD before j 0 ≡ 0) × (getD low j 0 + getD span j 0 < 65536 → within (word s (k + 2 * j)) (getD low j 0, getD span j 0) ≡ true)
 
 -- no variable stands twice among the slots of the record at byte k
 unfoldable pub patternRight : List ℕ → ℕ → Bool

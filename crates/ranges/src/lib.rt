@@ -1,5 +1,5 @@
-// Ranges: the rules for single records (refusal 2) as ranges of the eight 16-bit fields of a record, by its kind and by its count: a quick test that only ever
-// accepts, without branches on the kind; and the first record that breaks them.
+// Ranges: the rules for single records (refusal 2) as ranges of the eight 16-bit fields of a record, in a row for each kind and count: a quick test that only
+// ever accepts, without branches on the kind; and the first record that breaks them.
 pub mod places;
 
 use places::places;
@@ -8,6 +8,7 @@ use records::wide16;
 use records::word_at;
 use rows::distinct4;
 use rows::record_right;
+use std::num::wrapping_sub_u16;
 ghost use mathlib.Core.Path.{_≡_};
 ghost use mathlib.Core.Bool.{true};
 ghost use mathlib.Core.Option.{none};
@@ -18,74 +19,63 @@ ghost use Rattle.cows.specs.Format.{records};
 ghost use Rattle.cows.specs.Tables.{firstWrong};
 ghost use Rattle.records.specs.Answers.{placeOr};
 ghost use Rattle.ranges.specs.Lists.{Inside};
-ghost use Rattle.ranges.specs.Ranges.{fieldsWithin, ranged, patternRight};
+ghost use Rattle.ranges.specs.Ranges.{within, Gathers, ranged, patternRight};
 
-// The last value, and the last datum.
-const VALUE: u16 = limits::FIRST_VARIABLE - 1;
+// How far the last value, the last datum and the last label lie above the first.
+const VALUES: u16 = limits::FIRST_VARIABLE - 2;
 
-const DATUM: u16 = limits::FIRST_LABEL - 1;
+const DATA: u16 = limits::FIRST_LABEL - 2;
 
-// The lowest and the greatest number in each field, by the kind: kind and count, first atom, second atom, four slots, of which the count tells, interval.
-const KIND_LOWEST: [[u16; 8]; 16] = [
+const LABELS: u16 = 65535 - limits::FIRST_LABEL;
+
+// The rows of ranges: the lowest number of each field, and how far above it the field may lie: kind and count, first atom, second atom, four slots, interval.
+// First the kinds without a tuple, then invoke and receive by their count.
+const LOWEST: [[u16; 8]; 18] = [
     [0, 0, 0, 0, 0, 0, 0, 0],
     [1, limits::FIRST_LABEL, 0, 0, 0, 0, 0, 0],
-    [2, 1, 1, 0, 0, 0, 0, 0],
-    [3, 1, 1, 0, 0, 0, 0, 0],
     [4, 0, 0, 0, 0, 0, 0, 0],
     [5, 0, 0, 0, 0, 0, 0, 0],
     [6, 0, 0, 0, 0, 0, 0, 0],
     [7, 0, 0, 0, 0, 0, 0, 0],
     [8, 1, 0, 0, 0, 0, 0, 0],
     [9, 0, 0, 0, 0, 0, 0, 0],
-    [10, 0, 0, 0, 0, 0, 0, 0],
-    [11, 0, 0, 0, 0, 0, 0, 0],
-    [12, 0, 0, 0, 0, 0, 0, 0],
-    [13, 0, 0, 0, 0, 0, 0, 0],
-    [14, 0, 0, 0, 0, 0, 0, 0],
-    [15, 0, 0, 0, 0, 0, 0, 0],
+    [2, 1, 1, 0, 0, 0, 0, 0],
+    [3, 1, 1, 0, 0, 0, 0, 0],
+    [258, 1, 1, 1, 0, 0, 0, 0],
+    [259, 1, 1, 1, 0, 0, 0, 0],
+    [514, 1, 1, 1, 1, 0, 0, 0],
+    [515, 1, 1, 1, 1, 0, 0, 0],
+    [770, 1, 1, 1, 1, 1, 0, 0],
+    [771, 1, 1, 1, 1, 1, 0, 0],
+    [1026, 1, 1, 1, 1, 1, 1, 0],
+    [1027, 1, 1, 1, 1, 1, 1, 0],
 ];
 
-const KIND_GREATEST: [[u16; 8]; 16] = [
-    [0, 0, 0, 65535, 65535, 65535, 65535, 0],
-    [1, 65535, 0, 65535, 65535, 65535, 65535, 0],
-    [1026, DATUM, DATUM, 65535, 65535, 65535, 65535, 0],
-    [1027, VALUE, VALUE, 65535, 65535, 65535, 65535, 0],
-    [4, 0, 0, 65535, 65535, 65535, 65535, 65535],
-    [5, 0, 0, 65535, 65535, 65535, 65535, 0],
-    [6, 0, 0, 65535, 65535, 65535, 65535, 0],
-    [7, 0, 0, 65535, 65535, 65535, 65535, 0],
-    [8, 65535, 0, 65535, 65535, 65535, 65535, 0],
-    [9, 0, 0, 65535, 65535, 65535, 65535, 0],
-    [10, 0, 0, 65535, 65535, 65535, 65535, 0],
-    [11, 0, 0, 65535, 65535, 65535, 65535, 0],
-    [12, 0, 0, 65535, 65535, 65535, 65535, 0],
-    [13, 0, 0, 65535, 65535, 65535, 65535, 0],
-    [14, 0, 0, 65535, 65535, 65535, 65535, 0],
-    [15, 0, 0, 65535, 65535, 65535, 65535, 0],
-];
-
-// The same by the count, which tells of the slots only.
-const COUNT_LOWEST: [[u16; 8]; 8] = [
+const SPAN: [[u16; 8]; 18] = [
     [0, 0, 0, 0, 0, 0, 0, 0],
-    [0, 0, 0, 1, 0, 0, 0, 0],
-    [0, 0, 0, 1, 1, 0, 0, 0],
-    [0, 0, 0, 1, 1, 1, 0, 0],
-    [0, 0, 0, 1, 1, 1, 1, 0],
-    [0, 0, 0, 1, 1, 1, 1, 0],
-    [0, 0, 0, 1, 1, 1, 1, 0],
-    [0, 0, 0, 1, 1, 1, 1, 0],
+    [0, LABELS, 0, 0, 0, 0, 0, 0],
+    [0, 0, 0, 0, 0, 0, 0, 65535],
+    [0, 0, 0, 0, 0, 0, 0, 0],
+    [0, 0, 0, 0, 0, 0, 0, 0],
+    [0, 0, 0, 0, 0, 0, 0, 0],
+    [0, 65534, 0, 0, 0, 0, 0, 0],
+    [0, 0, 0, 0, 0, 0, 0, 0],
+    [0, DATA, DATA, 0, 0, 0, 0, 0],
+    [0, VALUES, VALUES, 0, 0, 0, 0, 0],
+    [0, DATA, DATA, DATA, 0, 0, 0, 0],
+    [0, VALUES, VALUES, DATA, 0, 0, 0, 0],
+    [0, DATA, DATA, DATA, DATA, 0, 0, 0],
+    [0, VALUES, VALUES, DATA, DATA, 0, 0, 0],
+    [0, DATA, DATA, DATA, DATA, DATA, 0, 0],
+    [0, VALUES, VALUES, DATA, DATA, DATA, 0, 0],
+    [0, DATA, DATA, DATA, DATA, DATA, DATA, 0],
+    [0, VALUES, VALUES, DATA, DATA, DATA, DATA, 0],
 ];
 
-const COUNT_GREATEST: [[u16; 8]; 8] = [
-    [65535, 65535, 65535, 0, 0, 0, 0, 65535],
-    [65535, 65535, 65535, DATUM, 0, 0, 0, 65535],
-    [65535, 65535, 65535, DATUM, DATUM, 0, 0, 65535],
-    [65535, 65535, 65535, DATUM, DATUM, DATUM, 0, 65535],
-    [65535, 65535, 65535, DATUM, DATUM, DATUM, DATUM, 65535],
-    [65535, 65535, 65535, DATUM, DATUM, DATUM, DATUM, 65535],
-    [65535, 65535, 65535, DATUM, DATUM, DATUM, DATUM, 65535],
-    [65535, 65535, 65535, DATUM, DATUM, DATUM, DATUM, 65535],
-];
+// Where the rows of a kind start, and how far on that of a count stands. A kind or a count that cannot be is sent to some row: its first field is not met.
+const ROW: [u8; 16] = [0, 1, 8, 9, 2, 3, 4, 5, 6, 7, 0, 0, 0, 0, 0, 0];
+
+const ROWS_ON: [u8; 8] = [0, 2, 4, 6, 8, 0, 0, 0];
 
 fn wide8(x: u8) -> usize
     ensures { λ r. ⌜ (r ≡ x) × (r < 256) ⌝ }
@@ -93,46 +83,58 @@ fn wide8(x: u8) -> usize
     x as usize
 }
 
-// The fields of the record at byte k are no less than those of one row, and no greater than those of the other. The two tests are kept apart: each becomes
-// one comparison of eight numbers.
-fn within(s: &[u8], k: usize, low: [u16; 8], top: [u16; 8]) -> bool
-    requires { ⌜ k + 15 < length (now s) ⌝ }
-    ensures { λ r. ⌜ r ≡ fieldsWithin (now (s .entry)) k low top 8 ⌝ }
+// How far w lies outside the range; 0 inside. Counted from its lowest number, a number below it lies far above it.
+fn beyond(w: u16, low: u16, span: u16) -> u16
+    ensures { λ r. ⌜ (r ≡ 0 → low + span < 65536 → within w (low, span) ≡ true) ⌝ }
 {
-    let mut above = true;
-    let mut below = true;
-    let mut j = 0;
-    while j < 8 {
-        let a = word_at(s, k + 2 * j);
-        above = above & (low[j] <= a);
-        below = below & (a <= top[j]);
-        j += 1;
-    }
-    above & below
+    let x = wrapping_sub_u16(w, low);
+    if span < x { x - span } else { 0 }
 }
 
-// The fields of every record are within the ranges of its kind and of its count.
-fn fields_right(s: &[u8]) -> bool
+// Gathers, in eight numbers, how far the fields of the record at byte k lie outside the ranges of a row: eight at once, and no branch.
+fn gather(s: &[u8], k: usize, low: [u16; 8], span: [u16; 8], out: &mut [u16])
+    requires { ⌜ (k + 15 < length (now s)) × (length (now out) ≡ 8) ⌝ }
+    ensures { λ _. ⌜ Gathers (now (s .entry)) k low span (now (out .entry)) (now (out .exit)) 8 ⌝ }
+{
+    let mut j = 0;
+    while j < 8 {
+        out[j] = out[j] | beyond(word_at(s, k + 2 * j), low[j], span[j]);
+        j += 1;
+    }
+}
+
+// Nothing was gathered: all eight numbers are 0.
+fn nothing(out: [u16; 8]) -> bool
+    ensures { λ r. ⌜ (r ≡ true → (j : ℕ) → j < 8 → getD out j 0 ≡ 0) ⌝ }
+{
+    let mut all: u16 = 0;
+    let mut j = 0;
+    while j < 8 {
+        all = all | out[j];
+        j += 1;
+    }
+    all == 0
+}
+
+// The fields of every record are within the ranges of the row of its kind and count. The rows are looked up here, since they are laid out anew in each call.
+pub fn fields_right(s: &[u8]) -> bool
     ensures { λ r. ⌜ (r ≡ true → (i : ℕ) → i < length (now (s .entry)) / 16 → ranged (now (s .entry)) (16 * i) ≡ true) ⌝ }
 {
-    let low = KIND_LOWEST;
-    let top = KIND_GREATEST;
-    let slot_low = COUNT_LOWEST;
-    let slot_top = COUNT_GREATEST;
+    let lowest = LOWEST;
+    let span = SPAN;
+    let row = ROW;
+    let on = ROWS_ON;
     let n = s.len() / 16;
-    let mut right = true;
+    let mut out = [0u16; 8];
     let mut i = 0;
     while i < n {
-        let kind = s[16 * i];
-        let e = wide8(kind % 16);
-        let f = wide8(s[16 * i + 1] % 8);
-        right = right
-            & ((kind < 10)
-                & within(s, 16 * i, low[e], top[e])
-                & within(s, 16 * i, slot_low[f], slot_top[f]));
+        let kind = wide8(s[16 * i] % 16);
+        let count = wide8(s[16 * i + 1] % 8);
+        let e = wide8(row[kind]) + wide8(on[count]);
+        gather(s, 16 * i, lowest[e], span[e], &mut out);
         i += 1;
     }
-    right
+    nothing(out)
 }
 
 // No variable stands twice in the patterns at the first m places of the list.
@@ -182,7 +184,7 @@ fn records_right(s: &[u8]) -> bool
 }
 
 // The first record that is not right, or the number of records, by a search.
-fn find_wrong(s: &[u8]) -> usize
+pub fn find_wrong(s: &[u8]) -> usize
     ensures { λ r. ⌜ r ≡ placeOr (length (now (s .entry)) / 16) (firstWrong 0 (records (now (s .entry)))) ⌝ }
 {
     let n = s.len() / 16;
