@@ -1,5 +1,4 @@
-pub mod Guards
-pub mod Readings
-pub mod Searches
-pub mod Chains
-pub mod Filling
+pub mod Faults
+pub mod Choices
+pub mod Reading
+pub mod Terms

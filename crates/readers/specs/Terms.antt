@@ -1,18 +1,22 @@
 -- What a reader that stands at a place finds of the term there.
 use mathlib.Core.Path.{_≡_}
-use mathlib.Core.Bool.{false, cond, _||_}
+use mathlib.Core.Bool.{false}
 use mathlib.Core.List.{List}
-use Prim.Native.Nat.{ℕ, _+_, _*_, _/_}
-use lib.Dec.{ltb, eqb}
-use lib.ListN.{length}
-use Rattle.readers.specs.Reads.{Read}
+use mathlib.Core.Option.{Option, none, some}
+use Prim.Native.Nat.{ℕ, _+_, _/_}
+use lib.ListN.{length, getD}
+use Rattle.cows.specs.Terms.{Term}
+use Rattle.cows.specs.Places.{wayTo}
+use Rattle.cows.specs.Tables.{inChoice}
+use Rattle.records.specs.Holds.{Holds}
+use Rattle.readers.specs.Reads.{faultFrom}
 
--- where it stands then, in n records: behind the term; or past them, by what the service reader found; or past that too, by the first child of a choice that is no guard
-abbrev pub reachedPlace : ℕ → ℕ → ℕ → ℕ
-reachedPlace n end fault = cond (ltb n end || eqb fault n) end (2 * n + 2 + fault)
+-- where it stands then, in n records: behind the term, at its end; or past them, by the first child of a choice that is no guard
+abbrev pub reachedPlace : ℕ → ℕ → Option ℕ → ℕ
+reachedPlace n end none = end
+reachedPlace n end (some p) = n + 1 + p
 
-pub record ReadTo (s : List ℕ) (at : ℕ) (d d′ : List ℕ) (r : ℕ) : Type 0 where
-  pub end : ℕ
-  pub fault : ℕ
-  pub read : Read false s at 1 d d′ (length s / 16) fault end
-  pub is : r ≡ reachedPlace (length s / 16) end fault
+-- so it is at r, of a table with the ends of its terms, if what stands at `at` is no child of a choice
+abbrev pub ReadTo : List ℕ → List ℕ → ℕ → ℕ → Type 0
+ReadTo s ends at r =
+    (t : Term) → Holds s t → inChoice (wayTo t at) ≡ false → r ≡ reachedPlace (length s / 16) (getD ends at 0) (faultFrom t at (getD ends at 0))

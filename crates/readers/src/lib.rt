@@ -2,10 +2,9 @@
 // stands behind it. A function over the struct takes it apart and leaves the work to one on the slice and the place; `read_on` has plain parameters.
 mod services;
 
+use records::wide16;
 ghost use mathlib.Core.Path.{_≡_};
-ghost use Prim.Native.Nat.{_+_, _/_, _<_, _≤_};
-ghost use lib.ListN.{length};
-ghost use Rattle.cows.specs.Limits.{maxRecords};
+ghost use Rattle.readers.specs.Reads.{Readable};
 ghost use Rattle.readers.specs.Terms.{ReadTo};
 
 pub struct Reader<'a> {
@@ -13,18 +12,18 @@ pub struct Reader<'a> {
     pub at: usize,
 }
 
-// The term at a place: the place behind it, or, past the records, what is wrong with it.
-fn term_at(table: &[u8], ends: &mut [u16], at: usize) -> usize
-    requires { ⌜ (length (now table) / 16 ≤ maxRecords) × (length (now table) / 16 < length (now ends)) ⌝ }
-    ensures { λ r. ⌜ ReadTo (now (table .entry)) at (now (ends .entry)) (now (ends .exit)) r ⌝ }
+// The term at a place: the place behind it, or, past the records, the first child of a choice in it that is no guard.
+fn term_at(table: &[u8], ends: &[u16], at: usize) -> usize
+    requires { ⌜ Readable (now table) (now ends) at ⌝ }
+    ensures { λ r. ⌜ ReadTo (now (table .entry)) (now (ends .entry)) at r ⌝ }
 {
     let n = table.len() / 16;
-    let mut fault = n;
-    let end = services::service(table, ends, &mut fault, at, 1);
-    if (n < end) | (fault == n) {
+    let end = wide16(ends[at]);
+    let fault = services::service(table, ends, at, end);
+    if fault == n {
         return end;
     }
-    2 * n + 2 + fault
+    n + 1 + fault
 }
 
 // A reader that stands at a place.
@@ -35,9 +34,9 @@ pub fn stand<'a>(table: &'a [u8], at: usize) -> Reader<'a>
 }
 
 // The same table, read on over one term.
-pub fn read_term<'a>(r: Reader<'a>, ends: &mut [u16]) -> Reader<'a>
-    requires { ⌜ (length (now (r .table)) / 16 ≤ maxRecords) × (length (now (r .table)) / 16 < length (now ends)) ⌝ }
-    ensures { λ q. ⌜ (q .table ≡ r .entry .table) × ReadTo (now (r .entry .table)) (r .entry .at) (now (ends .entry)) (now (ends .exit)) (q .at) ⌝ }
+pub fn read_term<'a>(r: Reader<'a>, ends: &[u16]) -> Reader<'a>
+    requires { ⌜ Readable (now (r .table)) (now ends) (r .at) ⌝ }
+    ensures { λ q. ⌜ (q .table ≡ r .entry .table) × ReadTo (now (r .entry .table)) (now (ends .entry)) (r .entry .at) (q .at) ⌝ }
 {
     Reader {
         table: r.table,
@@ -53,9 +52,9 @@ pub fn place<'a>(r: Reader<'a>) -> usize
 }
 
 // From a slice and a place to a reader and back: where it stands behind the term there. Whoever calls it needs no walk.
-pub fn read_on(table: &[u8], ends: &mut [u16], at: usize) -> usize
-    requires { ⌜ (length (now table) / 16 ≤ maxRecords) × (length (now table) / 16 < length (now ends)) ⌝ }
-    ensures { λ p. ⌜ ReadTo (now (table .entry)) at (now (ends .entry)) (now (ends .exit)) p ⌝ }
+pub fn read_on(table: &[u8], ends: &[u16], at: usize) -> usize
+    requires { ⌜ Readable (now table) (now ends) at ⌝ }
+    ensures { λ p. ⌜ ReadTo (now (table .entry)) (now (ends .entry)) at p ⌝ }
 {
     place(read_term(stand(table, at), ends))
 }
