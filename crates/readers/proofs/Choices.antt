@@ -57,11 +57,11 @@ free-place t at i l a b h e = lt-case _ at i (λ k. not-so (go k (wayTo t i) (up
         (λ x. omega (arith, h p x (u .before) (ap kindOf (u .at .1) ∙ choice-kind f (sub t i) c), u .ends, size-pos (sub t i)))
 
 -- a child of a choice is a fault if it is no guard; what is no child of one is none
-pub chosen : (t : Term) (m : ℕ) → inChoice (wayTo t m) ≡ true → noGuard m (spotAt t m) ≡ not (guard (sub t m))
+chosen : (t : Term) (m : ℕ) → inChoice (wayTo t m) ≡ true → noGuard m (spotAt t m) ≡ not (guard (sub t m))
 unfolding noGuard wayTo sub
 chosen t m e = rw e
 
-pub unchosen : (t : Term) (m : ℕ) → inChoice (wayTo t m) ≡ false → noGuard m (spotAt t m) ≡ false
+unchosen : (t : Term) (m : ℕ) → inChoice (wayTo t m) ≡ false → noGuard m (spotAt t m) ≡ false
 unfolding noGuard wayTo
 unchosen t m e = rw e
 
@@ -141,7 +141,7 @@ module _ {s ends : List ℕ} {t : Term} (h : Holds s t) (e : EndsFrom s ends 0) 
       let w = end-is i (omega arith) in
       record { placed = omega arith; onward = end-after i (omega arith) .0; ended = omega (arith, inner t at i (omega arith) a (omega arith)); whole = f .1 }
 
-  -- no choice reaches over the place behind a record that is none, nor over that behind a choice
+  -- the place behind a record that is no choice, and that behind a choice: no choice reaches over them; a place that none reaches over is no fault
   module _ (at i : ℕ) (l : at < length s / 16) (a : at ≤ i) (b : i < getD ends at 0) (f : Free t at i) where
     pub free-next : getD s (16 * i) 0 ≢ 5 → Free t at (i + 1)
     free-next k m x y q =

@@ -37,6 +37,10 @@ no-guard =
 abbrev kindAt : List ℕ → ℕ → ℕ
 kindAt s at = getD s (16 * at) 0
 
+-- what can be read at one place can be read at another
+elsewhere : {s ends : List ℕ} {at : ℕ} → Readable s ends at → (i : ℕ) → i < length s / 16 → Readable s ends i
+elsewhere r i l = record { term = r .term; holds = r .holds; end = r .end; inside = l }
+
 -- The guard at a place.
 module _ {s ends : List ℕ} {at : ℕ} (r : Readable s ends at) where
   abbrev n : ℕ
@@ -53,15 +57,15 @@ module _ {s ends : List ℕ} {at : ℕ} (r : Readable s ends at) where
   choice-in e = choice-at (r .holds) (r .end) at (r .inside) e
 
   pub reads-left : k ≡ 5 → Readable s ends (at + 1)
-  reads-left e = record { term = r .term; holds = r .holds; end = r .end; inside = choice-in e .first }
+  reads-left e = elsewhere r (at + 1) (choice-in e .first)
 
   pub reads-right : (w : ℕ) → w ≡ getD ends (at + 1) 0 → k ≡ 5 → Readable s ends w
-  reads-right w q e = record { term = r .term; holds = r .holds; end = r .end; inside = rw q (choice-in e .second) }
+  reads-right w q e = elsewhere r w (rw q (choice-in e .second))
 
   pub reads-below : (w : ℕ) → w ≡ end → (eqb k 3 || eqb k 4) ≡ true → Readable s ends (at + 1) × (w ≡ getD ends (at + 1) 0)
   reads-below w q e =
       let p = prefix-at (r .holds) (r .end) at (r .inside) (prefix-kind k e .0) in
-      (record { term = r .term; holds = r .holds; end = r .end; inside = p .next }, q ∙ sym (p .last))
+      (elsewhere r (at + 1) (p .next), q ∙ sym (p .last))
 
   module _ (t : Term) (h : Holds s t) (own : noGuard at (spotAt t at) ≡ not (guard (sub t at))) where
     after : (at < end) × (end ≤ n)
@@ -130,7 +134,7 @@ module _ {s ends : List ℕ} {at end i : ℕ} (g : Going s ends at end i) where
     inside-in = inside-at (g .from .holds) (g .from .end) at i (g .from .inside) (g .onward) short
 
     pub reads-choice : Readable s ends i
-    reads-choice = record { term = g .from .term; holds = g .from .holds; end = g .from .end; inside = inside-in .placed }
+    reads-choice = elsewhere (g .from) i (inside-in .placed)
 
     no-fault : (t : Term) → Holds s t → inChoice (wayTo t at) ≡ false → noGuard i (spotAt t i) ≡ false
     no-fault t h e = free-fault h (g .from .end) at i (g .from .inside) (g .onward) short (g .free t h) e
