@@ -1,173 +1,211 @@
-// Index: a quick test of scopes that only ever accepts (refusals 6 and 7), with an index of the places at which atoms are delimited: for each atom, the place
-// behind its delimitation, or 0. The index is kept in pages of 32 atoms, given out as they are wanted; page 0 stays empty.
+// Index: a quick test of scopes that only ever accepts (refusals 6 and 7; of refusal 2, that no variable stands twice in a pattern), with an index of the
+// delimitations: each atom has a slot, and where two delimited atoms meet in a slot the test gives up. The lists of the delimitations and of the records that use
+// atoms are the caller's.
 use ranges::places::places;
 use records::limits;
 use records::wide16;
 use records::word_at;
+use rows::distinct4;
 ghost use mathlib.Core.Path.{_≡_};
 ghost use mathlib.Core.Bool.{true};
-ghost use Prim.Native.Nat.{ℕ, _+_, _/_, _<_, _≤_};
+ghost use Prim.Native.Nat.{ℕ, _+_, _*_, _-_, _/_, _<_, _≤_};
 ghost use lib.ListN.{length, getD};
+ghost use Rattle.cows.specs.Limits.{maxRecords};
 ghost use Rattle.records.specs.Ends.{EndsFrom};
 ghost use Rattle.ranges.specs.Lists.{Inside};
-ghost use Rattle.index.specs.Index.{Index, Starts, Grows, Delimitations, BlankIndex, entryOf, fineAt, Fine, Entries, ShowsBound};
+ghost use Rattle.index.specs.Index.{Slots, slotOf, Entering, Entered, faultOf, Clear, Fine, UsesRight, Indexing, ShowsBound, ShowsPatterns, Listing};
 
-// The start of a page: x, or `top` for a page that is not given out.
-fn page_start(x: u16, top: u16) -> u16
-    ensures { λ r. ⌜ Starts x top r ⌝ }
+fn wide64(x: u16) -> u64
+    ensures { λ r. ⌜ (r ≡ x) × (r < 65536) ⌝ }
 {
-    if x == 0 { top } else { x }
+    x as u64
 }
 
-// The end of the pages given out, once the page that starts at y is.
-fn pages_end(y: u16, top: u16) -> u16
-    requires { ⌜ top < 65504 ⌝ }
-    ensures { λ r. ⌜ Grows y top r ⌝ }
+// The slot of the atom a: its low bits, and above `shift` also which set it is of.
+fn slot(a: u16, shift: usize, mask: usize) -> usize
+    requires { ⌜ shift < 64 ⌝ }
+    ensures { λ r. ⌜ r ≡ slotOf shift mask a ⌝ }
 {
-    if y == top { top + 32 } else { top }
+    let w = wide16(a);
+    (w ^ ((w >> 14) << shift)) & mask
 }
 
-// Enters the delimitations at the first m places of the list.
-fn enter(s: &[u8], list: &[u16], m: usize, pages: &mut [u16], marks: &mut [u16])
-    requires { ⌜ BlankIndex (now s) (now list) m (now pages) (now marks) ⌝ }
-    ensures { λ _. ⌜ Index (now (s .entry)) (now (pages .exit)) (now (marks .exit)) ⌝ }
+// The entry of the delimitation of a at place d, whose term ends at `end`.
+fn entry(a: u16, d: u16, end: u16) -> u64
+    requires { ⌜ end ≤ 32768 ⌝ }
+    ensures { λ r. ⌜ r ≡ 32768 + d + 65536 * (32768 - end) + 4294967296 * a ⌝ }
 {
-    let mut top: u16 = 32;
-    let mut i = 0;
-    while i < m {
-        let d = list[i];
-        let a = word_at(s, 16 * wide16(d) + 2);
-        let p = wide16(a / 32);
-        let y = page_start(pages[p], top);
-        pages[p] = y;
-        top = pages_end(y, top);
-        marks[wide16(y) + wide16(a % 32)] = d + 1;
-        i += 1;
-    }
+    32768 + wide64(d) + 65536 * (32768 - wide64(end)) + 4294967296 * wide64(a)
 }
 
-// What the index has for the atom a.
-fn entry(pages: &[u16], marks: &[u16], a: u16) -> usize
-    requires { ⌜ (length (now pages) ≡ 2048) × ((p : ℕ) → getD (now pages) p 0 + 32 ≤ length (now marks)) ⌝ }
-    ensures { λ r. ⌜ r ≡ entryOf (now (pages .entry)) (now (marks .entry)) a ⌝ }
-{
-    wide16(marks[wide16(pages[wide16(a / 32)]) + wide16(a % 32)])
-}
-
-// The use of a at place j of the table s: inside the delimitation that the index has, or, where it has none, of a value. The term at place 0 is the whole
-// table.
-fn use_right(s: &[u8], ends: &[u16], pages: &[u16], marks: &[u16], a: u16, j: usize) -> bool
-    requires { ⌜ EndsFrom (now s) (now ends) 0 × Index (now s) (now pages) (now marks) ⌝ }
-    ensures { λ r. ⌜ r ≡ fineAt (now (ends .entry)) (now (pages .entry)) (now (marks .entry)) j a ⌝ }
-{
-    let e = entry(pages, marks, a);
-    (wide16(a / 32768) <= e) & (e <= j) & (j < wide16(ends[e]))
-}
-
-// The uses of the record at place j: of its endpoint and its tuple, or of a kill; all else is 0.
-fn tuple_right(s: &[u8], ends: &[u16], pages: &[u16], marks: &[u16], j: usize) -> bool
-    requires { ⌜ EndsFrom (now s) (now ends) 0 × Index (now s) (now pages) (now marks) × (j < length (now s) / 16) ⌝ }
-    ensures { λ r. ⌜ (r ≡ true → Fine (now (s .entry)) (now (ends .entry)) (now (pages .entry)) (now (marks .entry)) j 6) ⌝ }
-{
-    let mut i = 0;
-    while i < 6 {
-        if !use_right(s, ends, pages, marks, word_at(s, 16 * j + 2 + 2 * i), j) {
-            return false;
-        }
-        i += 1;
-    }
-    true
-}
-
-// The uses of the records at the first m places of the list.
-fn tuples_right(
+// Enters the delimitations at the first m places of the list; false if two meet in a slot.
+fn enter(
     s: &[u8],
-    list: &[u16],
-    m: usize,
     ends: &[u16],
-    pages: &[u16],
     marks: &[u16],
+    m: usize,
+    index: &mut [u64],
+    shift: usize,
+    mask: usize,
 ) -> bool
-    requires { ⌜ Inside (now s) (now list) m × EndsFrom (now s) (now ends) 0 × Index (now s) (now pages) (now marks) ⌝ }
-    ensures { λ r. ⌜ (r ≡ true → (q : ℕ) → q < m → Fine (now (s .entry)) (now (ends .entry)) (now (pages .entry)) (now (marks .entry)) (getD (now (list .entry)) q 0) 6) ⌝ }
+    requires { ⌜ Entering (now s) (now ends) (now marks) m (now index) shift mask ⌝ }
+    ensures { λ r. ⌜ (r ≡ true → Entered (now (s .entry)) (now (ends .entry)) (now (marks .entry)) m (now (index .exit)) shift mask) ⌝ }
 {
     let mut i = 0;
     while i < m {
-        if !tuple_right(s, ends, pages, marks, wide16(list[i])) {
+        let d = marks[i];
+        let a = word_at(s, 16 * wide16(d) + 2);
+        let p = slot(a, shift, mask);
+        if 65535 < index[p] {
             return false;
         }
+        index[p] = entry(a, d, ends[wide16(d)]);
         i += 1;
     }
     true
 }
 
-// The index has the place of every delimitation of the list: no two are of one atom.
-fn entries_right(s: &[u8], list: &[u16], m: usize, pages: &[u16], marks: &[u16]) -> bool
-    requires { ⌜ Inside (now s) (now list) m × Index (now s) (now pages) (now marks) ⌝ }
-    ensures { λ r. ⌜ (r ≡ true → Entries (now (s .entry)) (now (list .entry)) (now (pages .entry)) (now (marks .entry)) m) ⌝ }
+// The fault of a use of a: by the entry of a, if its slot has that, and else a itself. `at` is 65,535 times the place of the use: bit 15 is set if that is not
+// behind the delimitation, or a is no value; bit 31 if it is not before the end.
+fn use_fault(index: &[u64], shift: usize, mask: usize, a: u16, at: u64) -> u64
+    requires { ⌜ Slots (now index) shift mask × (at < 4294967296) ⌝ }
+    ensures { λ r. ⌜ r ≡ faultOf (getD (now (index .entry)) (slotOf shift mask a) 0) a at ⌝ }
 {
+    let e = index[slot(a, shift, mask)];
+    let b = wide64(a);
+    if e / 4294967296 == b {
+        e % 4294967296 + at
+    } else {
+        b
+    }
+}
+
+// The faults of the three atoms from byte k on.
+fn faults(s: &[u8], index: &[u64], shift: usize, mask: usize, k: usize, at: u64) -> u64
+    requires { ⌜ Slots (now index) shift mask × (at < 4294967296) × (k + 5 < length (now s)) ⌝ }
+    ensures { λ r. ⌜ (Clear r → Fine (now (s .entry)) (now (index .entry)) shift mask k at) ⌝ }
+{
+    use_fault(index, shift, mask, word_at(s, k), at)
+        | use_fault(index, shift, mask, word_at(s, k + 2), at)
+        | use_fault(index, shift, mask, word_at(s, k + 4), at)
+}
+
+// The uses of the records at the first u places of the list: of an endpoint and a first slot, or of a kill; of the other slots, where there are any. And no
+// variable stands twice in a receive.
+fn uses_right(s: &[u8], users: &[u16], u: usize, index: &[u64], shift: usize, mask: usize) -> bool
+    requires { ⌜ Inside (now s) (now users) u × (length (now s) / 16 ≤ maxRecords) × Slots (now index) shift mask ⌝ }
+    ensures { λ r. ⌜ (r ≡ true → (q : ℕ) → q < u → UsesRight (now (s .entry)) (now (index .entry)) shift mask (getD (now (users .entry)) q 0)) ⌝ }
+{
+    let mut fault: u64 = 0;
+    let mut apart = true;
     let mut i = 0;
-    while i < m {
-        let d = wide16(list[i]);
-        if entry(pages, marks, word_at(s, 16 * d + 2)) != d + 1 {
-            return false;
+    while i < u {
+        let k = 16 * wide16(users[i]);
+        let at = 65535 * wide64(users[i]);
+        let x = word_at(s, k + 8);
+        fault = fault | faults(s, index, shift, mask, k + 2, at);
+        if x != 0 {
+            fault = fault | faults(s, index, shift, mask, k + 8, at);
+            let d = distinct4(word_at(s, k + 6), x, word_at(s, k + 10), word_at(s, k + 12));
+            apart = apart & ((s[k] != 3) | d);
         }
         i += 1;
     }
-    true
+    apart & (fault & 2147516416 == 0)
 }
 
-// Refusals 6 and 7 do not apply, by an index of the delimitations, which the list has.
-fn indexed_right(
+// Refusals 6 and 7 do not apply, and no variable stands twice in a pattern, by an index that is blank before. An unused slot has 0, as if 0 were its atom: slot 0
+// is set so that no use of 0 has a fault.
+pub fn indexed_right(
     s: &[u8],
     ends: &[u16],
-    list: &mut [u16],
+    marks: &[u16],
     m: usize,
-    pages: &mut [u16],
-    marks: &mut [u16],
+    users: &[u16],
+    u: usize,
+    index: &mut [u64],
+    shift: usize,
+    mask: usize,
 ) -> bool
-    requires { ⌜ Delimitations (now s) (now ends) (now list) m × BlankIndex (now s) (now list) m (now pages) (now marks) ⌝ }
-    ensures { λ r. ⌜ ShowsBound r (now (s .entry)) ⌝ }
+    requires { ⌜ Indexing (now s) (now ends) (now marks) m (now users) u (now index) shift mask ⌝ }
+    ensures { λ r. ⌜ ShowsBound r (now (s .entry)) × ShowsPatterns r (now (s .entry)) ⌝ }
 {
-    enter(s, list, m, pages, marks);
-    if !entries_right(s, list, m, pages, marks) {
+    index[0] = 32767;
+    if !enter(s, ends, marks, m, index, shift, mask) {
         return false;
     }
-    let k = places(s, 1, 3, list);
-    tuples_right(s, list, k, ends, pages, marks)
+    uses_right(s, users, u, index, shift, mask)
 }
 
-// The same, with an index for the delimitations that there are; false if there are too many.
-fn listed_right(s: &[u8], ends: &[u16], list: &mut [u16]) -> bool
-    requires { ⌜ EndsFrom (now s) (now ends) 0 × (length (now s) / 16 < length (now list)) ⌝ }
+// The same, with the lists made first.
+fn listed_right(
+    s: &[u8],
+    ends: &[u16],
+    marks: &mut [u16],
+    users: &mut [u16],
+    index: &mut [u64],
+    shift: usize,
+    mask: usize,
+) -> bool
+    requires { ⌜ Listing (now s) (now ends) (now marks) (now users) (now index) shift mask ⌝ }
     ensures { λ r. ⌜ ShowsBound r (now (s .entry)) ⌝ }
 {
-    let m = places(s, 8, 8, list);
-    let mut pages = [0u16; 2048];
-    if m < 16 {
-        let mut least = [0u16; 512];
-        return indexed_right(s, ends, list, m, &mut pages, &mut least);
-    }
-    if m <= 64 {
-        let mut few = [0u16; 2080];
-        return indexed_right(s, ends, list, m, &mut pages, &mut few);
-    }
-    if 511 < m {
-        return false;
-    }
-    let mut marks = [0u16; 16384];
-    indexed_right(s, ends, list, m, &mut pages, &mut marks)
+    let m = places(s, 8, 8, marks);
+    let u = places(s, 1, 3, users);
+    indexed_right(s, ends, marks, m, users, u, index, shift, mask)
 }
 
-// The same. A short table takes a short list, since its numbers are cleared first.
+// The same for up to 32 records, up to 256, and up to all, with a smaller or a larger index.
+fn least_right(s: &[u8], ends: &[u16]) -> bool
+    requires { ⌜ EndsFrom (now s) (now ends) 0 × (length (now s) / 16 ≤ 32) ⌝ }
+    ensures { λ r. ⌜ ShowsBound r (now (s .entry)) ⌝ }
+{
+    let mut marks = [0u16; 33];
+    let mut users = [0u16; 33];
+    let mut index = [0u64; 64];
+    listed_right(s, ends, &mut marks, &mut users, &mut index, 4, 63)
+}
+
+fn few_right(s: &[u8], ends: &[u16]) -> bool
+    requires { ⌜ EndsFrom (now s) (now ends) 0 × (length (now s) / 16 ≤ 256) ⌝ }
+    ensures { λ r. ⌜ ShowsBound r (now (s .entry)) ⌝ }
+{
+    let mut marks = [0u16; 257];
+    let mut users = [0u16; 257];
+    let mut index = [0u64; 512];
+    listed_right(s, ends, &mut marks, &mut users, &mut index, 7, 511)
+}
+
+fn most_right(s: &[u8], ends: &[u16]) -> bool
+    requires { ⌜ EndsFrom (now s) (now ends) 0 ⌝ }
+    ensures { λ r. ⌜ ShowsBound r (now (s .entry)) ⌝ }
+{
+    let mut marks = [0u16; limits::ENDS];
+    let mut users = [0u16; limits::ENDS];
+    let mut index = [0u64; 2048];
+    listed_right(s, ends, &mut marks, &mut users, &mut index, 9, 2047)
+}
+
+fn scattered_right(s: &[u8], ends: &[u16]) -> bool
+    requires { ⌜ EndsFrom (now s) (now ends) 0 ⌝ }
+    ensures { λ r. ⌜ ShowsBound r (now (s .entry)) ⌝ }
+{
+    let mut marks = [0u16; limits::ENDS];
+    let mut users = [0u16; limits::ENDS];
+    let mut index = [0u64; 8192];
+    listed_right(s, ends, &mut marks, &mut users, &mut index, 11, 8191)
+}
+
+// Refusals 6 and 7 do not apply. A short table takes short lists and a small index, since their numbers are cleared first.
 pub fn scopes_right(s: &[u8], ends: &[u16]) -> bool
     requires { ⌜ EndsFrom (now s) (now ends) 0 ⌝ }
     ensures { λ r. ⌜ ShowsBound r (now (s .entry)) ⌝ }
 {
-    if s.len() <= 4096 {
-        let mut few = [0u16; 257];
-        return listed_right(s, ends, &mut few);
+    if s.len() <= 512 {
+        return least_right(s, ends);
     }
-    let mut list = [0u16; limits::ENDS];
-    listed_right(s, ends, &mut list)
+    if s.len() <= 4096 {
+        return few_right(s, ends);
+    }
+    most_right(s, ends) || scattered_right(s, ends)
 }

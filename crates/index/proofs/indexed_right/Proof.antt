@@ -1,27 +1,32 @@
+use mathlib.Core.Path.{_∙_}
 use borrow.Author.Needs.{needs}
+use native.Mathlib.Omega.{arith}
+use lib.ListN.{length-set}
 use borrow.Author.Tests.{not-false}
 use Rattle.cows.proofs.Basics.{never}
-use Rattle.scopes.proofs.NextPlace.{ends-of}
-use Rattle.index.proofs.Entries.{listed-bound}
+use Rattle.ranges.proofs.Lists.{listed-inside}
+use Rattle.index.proofs.Entries.{ready, listed-bound, patterns-apart}
 use Rattle.index.proofs.indexed_right.Statement.{statement}
 use Rattle.index.proofs.indexed_right.Tie as tie
-
-returns-2 : tie.Need-returns-2
-returns-2 c r t h =
-    let i = c .before .before .before .before .before .before .before .before in
-    let e = i .before .before .before .before .before .before .before .before .before in
-    let p = e .before .before .before .before .before .before .before .before .before .pre .0 in
-    listed-bound _ _ _ _ _ _ _ _ t h (ends-of _ _ (p .end)) (e .enter .ensures) (p .listed) (i .before .entries-right .ensures (not-false _ (i .if1 .left))) (c .before .before .before .before .before .before .places .ensures) (c .tuples-right .ensures r)
 
 pub indexed-right-spec : {M : Type 1} → statement M
 indexed-right-spec =
     tie.close
     (tie.spec
-    (λ c κs. search needs) (λ c κs. search needs) (λ c. search needs) (λ c. search needs) (λ c. search needs)
-    (λ c. never)
-    (λ c κs. search needs)
+    (λ c. search needs)
+    (λ c κs. ready _ _ _ _ _ _ _ _ _ (c .before .before .before .before .before .before .pre))
+    (λ c. c .before .before .before .enter .kept .1 .1 .1 .1 .0 ∙ length-set (c .before .before .before .before .before .before .before .before .before .before .args .index .now) 0 32767)
+    (λ c. (never, never))
     (λ c κs.
-    let c₁ = c .before .before .before .before .before .before .before .before .before .before .before .before .before .before .before .before in
-    (search needs, c₁ .before .before .before .before .before .before .before .before .before .pre .0 .end, c₁ .enter .ensures))
-    (λ c. search needs) (λ c. search needs) (λ c. search needs)
-    returns-2)
+    let p = c .before .before .before .before .before .before .before .before .before .before .before .pre in (
+      listed-inside _ 1 3 _ _ (p .users-room) (p .uses),
+      p .end .few,
+      record { small = p .slots .small; room = omega (arith, c .before .before .before .before .enter .kept .1 .1 .1 .1 .0, length-set (c .before .before .before .before .before .before .before .before .before .before .before .args .index .now) 0 32767, p .slots .room) },
+    ))
+    (λ c. c .before .before .before .before .before .enter .kept .1 .1 .1 .1 .0 ∙ length-set (c .before .before .before .before .before .before .before .before .before .before .before .before .args .index .now) 0 32767)
+    (λ c.
+    let p = c .before .before .before .before .before .before .before .before .before .before .before .before .pre in
+    let right = c .uses-right .ensures in (
+      λ r. listed-bound _ _ _ _ _ _ (p .uses) (right r) _ _ _ (p .end) (p .delimitations) (c .before .before .before .before .before .enter .ensures (not-false _ (c .before .before .if1 .left))),
+      λ r. patterns-apart _ _ _ _ _ _ (p .uses) (right r),
+    )))
