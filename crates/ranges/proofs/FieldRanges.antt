@@ -31,10 +31,10 @@ _and_ : {A B : Type 0} → A → B → A × B
 a and b = (a, b)
 
 -- The eight fields of the record at byte k are within the ranges of a row: by a test, and one by one.
-abbrev Row : List ℕ → ℕ → List (ℕ × ℕ) → Type 0
+abbrev pub Row : List ℕ → ℕ → List (ℕ × ℕ) → Type 0
 Row s k r = (j : ℕ) → ltb j 8 ≡ true → within (word s (k + 2 * j)) (getD r j zeroOnly) ≡ true
 
-row-within : (s : List ℕ) (k : ℕ) (r : List (ℕ × ℕ)) → fieldsWithin s k r 8 ≡ true → Row s k r
+pub row-within : (s : List ℕ) (k : ℕ) (r : List (ℕ × ℕ)) → fieldsWithin s k r 8 ≡ true → Row s k r
 unfolding fieldsWithin
 row-within s k r e j l = go 8 e j (ltb-true j 8 l)
   where
@@ -48,7 +48,7 @@ within-row s k r zero f = refl
 within-row s k r (suc n) f = true-and (within-row s k r n (λ j l. f j (omega arith))) (f n (omega arith))
 
 -- what a range says of a number
-bounds : (a : ℕ) (r : ℕ × ℕ) → within a r ≡ true → (r .0 ≤ a) × (a ≤ r .0 + r .1)
+pub bounds : (a : ℕ) (r : ℕ × ℕ) → within a r ≡ true → (r .0 ≤ a) × (a ≤ r .0 + r .1)
 bounds a r h = let (u, v) = and-true (leb (r .0) a) _ h in (leb-true _ _ u, omega (arith, ltb-true a _ v))
 
 none-in : (a : ℕ) → within a zeroOnly ≡ true → unused a ≡ true
@@ -144,7 +144,7 @@ module _ (s : List ℕ) (k : ℕ) (known : getD s k 0 < 10) where
       and tt
 
 -- a statement that follows of each element that passes holds if some element passes; an element that passes
-any-all : {A : Type 0} (Q : Type 0) (f : A → Bool) (xs : List A) → All (λ x. f x ≡ true → Q) xs → any f xs ≡ true → Q
+pub any-all : {A : Type 0} (Q : Type 0) (f : A → Bool) (xs : List A) → All (λ x. f x ≡ true → Q) xs → any f xs ≡ true → Q
 unfolding any
 any-all Q f [] h e = never e
 any-all Q f (x ∷ xs) h e = bool-case Q (f x) (h .0) (λ z. any-all Q f xs (h .1) (rw z at e))

@@ -1,3 +1,4 @@
 pub mod Lists
 pub mod FieldRanges
 pub mod Wrong
+pub mod Gaps

@@ -11,19 +11,17 @@ use Rattle.cows.specs.Basics.{placeIf, _>>_, forbid}
 use Rattle.cows.specs.Terms.{Term, size}
 use Rattle.cows.specs.Places.{first}
 use Rattle.cows.specs.Format.{AreBytes, readNode, records, decode}
-use Rattle.cows.specs.Tables.{wrongLength, firstWrong, unbound, clash, judgeTerm, judge}
+use Rattle.cows.specs.Tables.{wrongLength, firstWrong, tooDeep, noGuard, unbound, clash, judgeTerm, judge}
 use Rattle.cows.proofs.Tables.{records-hold}
 use Rattle.records.specs.Holds.{Holds}
 use Rattle.records.specs.Ends.{endAt}
 use Rattle.records.proofs.Shapes.{end-shape}
-use Rattle.readers.specs.Reads.{Reading}
 use Rattle.scopes.specs.declared.Scoping.the-variants.{Fine, Open, Clash}
 use Rattle.tables.specs.declared.Verdict.{Verdict}
 use Rattle.tables.specs.declared.Verdict.the-variants.{Accepted, Length, Record, Shape, Deep, Choice, Open as OpenUse, Clash as Clashes}
 use Rattle.scopes.specs.Scopes.{scopingOf}
 use Rattle.index.specs.Index.{ScopesRight}
 use Rattle.tables.specs.Verdict.{verdictReply, checkReply, judgeScopes, judgeShape}
-use Rattle.readers.proofs.Readings.{Tells}
 
 -- 6 and 7
 scoping-fine : (p q : Option ℕ) → Fine ≡ scopingOf p q → (p ≡ none) × (q ≡ none)
@@ -56,22 +54,18 @@ pub judge-clash : (t : Term) (i : ℕ) → Clash i ≡ scopingOf (first unbound 
 unfolding judgeScopes _>>_ forbid
 judge-clash t i e = let (p, q) = scoping-clash (first unbound t) (first (clash t) t) i e in rw (p, q)
 
--- 4 and 5, in a table of n records
-pub judge-deep : (t : Term) (r : Reading) (n : ℕ) → Tells t r → n ≡ size t → n + 2 ≤ r .next → verdictReply (Deep (r .next - n - 2)) ≡ checkReply (judgeTerm t)
+-- 4 and 5, and what comes behind them
+pub judge-deep : (t : Term) (p : ℕ) → first tooDeep t ≡ some p → verdictReply (Deep p) ≡ checkReply (judgeTerm t)
 unfolding judgeTerm _>>_ forbid
-judge-deep t r n h e l = rw (h .deep (r .next - n - 2) .1 (omega arith))
+judge-deep t p e = rw e
 
-pub judge-choice : (t : Term) (r : Reading) (n : ℕ) → Tells t r → n ≡ size t → r .next ≤ n → r .fault ≢ n → verdictReply (Choice (r .fault)) ≡ checkReply (judgeTerm t)
+pub judge-choice : (t : Term) (p : ℕ) → first tooDeep t ≡ none → first noGuard t ≡ some p → verdictReply (Choice p) ≡ checkReply (judgeTerm t)
 unfolding judgeTerm _>>_ forbid
-judge-choice t r n h e l f =
-    let d = h .shallow .1 (omega (arith, h .whole)) in
-    rw (d, h .unguarded d (λ q. f (q ∙ sym e)) .0)
+judge-choice t p d e = rw (d, e)
 
-pub judge-rest : (t : Term) (r : Reading) (n : ℕ) (v : Verdict) → Tells t r → n ≡ size t → r .next ≤ n → r .fault ≡ n → verdictReply v ≡ checkReply (judgeScopes t) → verdictReply v ≡ checkReply (judgeTerm t)
+pub judge-rest : (t : Term) (v : Verdict) → first tooDeep t ≡ none → first noGuard t ≡ none → verdictReply v ≡ checkReply (judgeScopes t) → verdictReply v ≡ checkReply (judgeTerm t)
 unfolding judgeTerm judgeScopes _>>_ forbid
-judge-rest t r n v h e l f q =
-    let d = h .shallow .1 (omega (arith, h .whole)) in
-    rw (d, h .guarded d (f ∙ e)) q
+judge-rest t v d g q = rw (d, g) q
 
 -- the bytes of a slice are bytes
 pub slice-bytes : (s : List ℕ) → ((k : ℕ) → getD s k 0 < 256) → AreBytes s

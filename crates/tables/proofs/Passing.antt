@@ -1,95 +1,83 @@
--- What the place tells at which the table reader stands that was at the first record.
-use mathlib.Core.Path.{_≡_, sym, _∙_}
+-- What the parts of the quick test find, and what the searches find that come behind it: the term that a table holds, and its judgement.
+use mathlib.Core.Path.{_≡_, refl, sym, ap, _∙_}
 use mathlib.Core.Logic.{_≢_}
-use mathlib.Core.List.{List}
-use Prim.Native.Nat.{ℕ, _+_, _-_, _*_, _/_, _≤_, _<_}
+use mathlib.Core.Bool.{true}
+use mathlib.Core.List.{List, map}
+use mathlib.Core.Option.{Option, none, some}
+use Prim.Native.Nat.{ℕ, _+_, _-_, _*_, _/_, _%_, _≤_, _<_}
 use native.Mathlib.Omega.{arith}
-use lib.Dec.{eqb}
-use lib.ListN.{length, getD, set}
-use lib.Seq.{getD-set-other}
-use borrow.Author.Tests.{lt-ltb, le-ltb, eqb-true, eqb-false}
-use Rattle.cows.specs.Terms.{Term}
-use Rattle.cows.specs.Tables.{judgeTerm}
-use Rattle.cows.proofs.Basics.{bool-case, lt-case}
-use Rattle.records.specs.Holds.{Holds}
+use lib.ListN.{length, getD}
+use Rattle.cows.specs.Terms.{Term, size}
+use Rattle.cows.specs.Places.{first}
+use Rattle.cows.specs.Format.{AreBytes, readNode, records, decode, word}
+use Rattle.cows.specs.Tables.{firstWrong, tooDeep, noGuard, judgeTerm}
+use Rattle.cows.proofs.Tables.{records-hold}
+use Rattle.cows.proofs.Refusals.{shallow-first}
+use Rattle.records.specs.Answers.{placeOr}
 use Rattle.records.specs.Ends.{endAt, EndsFrom}
-use Rattle.records.proofs.Shapes.{ends-start}
-use Rattle.records.proofs.StandsIn.{holds-size}
-use Rattle.readers.specs.Reads.{Reading}
-use Rattle.readers.specs.Terms.{reachedPlace, ReadTo}
-use Rattle.readers.proofs.Searches.{deep-below}
-use Rattle.readers.proofs.Readings.{Tells, reads-tells}
+use Rattle.records.specs.Holds.{Holds}
+use Rattle.records.proofs.Laws.{place-tells}
+use Rattle.records.proofs.Shapes.{end-shape}
+use Rattle.records.proofs.StandsIn.{holds-size, whole-stands}
+use Rattle.ranges.proofs.FieldRanges.{none-wrong}
+use Rattle.ranges.proofs.Gaps.{no-gap}
+use Rattle.depths.specs.Depths.{Standing, deepIn}
+use Rattle.depths.proofs.Deep.{standing}
+use Rattle.depths.proofs.Searches.{deep-first, deep-below}
+use Rattle.depths.proofs.TooDeep.{FirstDeep}
+use Rattle.readers.specs.Reads.{Readable}
+use Rattle.readers.specs.Terms.{ReadTo}
+use Rattle.readers.proofs.Terms.{read-tells}
+use Rattle.index.specs.Index.{ScopesRight, ShowsPatterns}
 use Rattle.tables.specs.declared.Verdict.{Verdict}
-use Rattle.tables.specs.declared.Verdict.the-variants.{Deep, Choice}
-use Rattle.tables.specs.Verdict.{verdictReply, checkReply, judgeScopes}
-use Rattle.tables.proofs.Judging.{judge-deep, judge-choice, judge-rest}
+use Rattle.tables.specs.declared.Verdict.the-variants.{Accepted, Deep, Choice}
+use Rattle.tables.specs.Verdict.{verdictReply, checkReply, judgeScopes, WholeRecords}
+use Rattle.tables.specs.Quick.{Sound, Passes}
+use Rattle.tables.proofs.Judging.{judge-bound, judge-deep, judge-choice, judge-rest, judge-whole}
 
--- where it stands, by what the service reader found: at the end of the term, past the records by that, or past that too by the fault
-placed-case : (A : Type 0) (n end fault : ℕ) → (n < end → reachedPlace n end fault ≡ end → A) → (end ≤ n → fault ≡ n → reachedPlace n end fault ≡ end → A)
-    → (end ≤ n → fault ≢ n → reachedPlace n end fault ≡ 2 * n + 2 + fault → A) → A
-placed-case A n end fault past fine bad =
-    lt-case A n end (λ h. past h (rw (lt-ltb n end h)))
-    (λ h. bool-case A (eqb fault n) (λ q. fine h (eqb-true fault n q) (rw (le-ltb n end h, q))) (λ q. bad h (eqb-false fault n q) (rw (le-ltb n end h, q))))
+-- right records of one shape hold a term, which can be read from the first on
+pub readable : (s ends : List ℕ) → AreBytes s → WholeRecords s → firstWrong 0 (records s) ≡ none → endAt s 0 ≡ length s / 16 → EndsFrom s ends 0 → Readable s ends 0
+readable s ends b w right whole e =
+    let (y, g) = records-hold s b (w .whole) right (end-shape s right .0 (omega arith)) in
+    record { term = decode (map readNode (records s)); holds = record { is = sym y; right = g }; end = e; inside = omega (arith, w .some, w .whole) }
 
-module _ (s d d′ : List ℕ) (at : ℕ) (x : ReadTo s 0 d d′ at) where
-  abbrev n : ℕ
-  n = length s / 16
+-- it stands at the first place
+pub read-standing : (s ends : List ℕ) → Readable s ends 0 → Standing s ends 0
+read-standing s ends r = standing (r .term) (whole-stands (r .term) (r .holds .is)) (r .end)
 
-  own-is : x .fault ≡ x .read .own
-  own-is = x .read .first ∙ rw (le-ltb n n (omega arith))
+-- what the search for a record that is too deep tells
+pub deep-tells : (s : List ℕ) (p : ℕ) (t : Term) → Holds s t → FirstDeep s 0 1 p
+    → (p ≡ length s / 16 → first tooDeep t ≡ none) × (p ≢ length s / 16 → (first tooDeep t ≡ some p) × (p < length s / 16))
+deep-tells s p t h f =
+    let n = holds-size s t h in
+    place-tells (length s / 16) p (first tooDeep t) (λ q e. omega (arith, deep-below 1 0 t q (deep-first t ∙ e))) (f t (whole-stands t (h .is)) ∙ ap (placeOr (length s / 16)) (deep-first t))
 
-  abbrev reading : Reading
-  reading = record { next = x .end; fault = x .read .own }
+-- the verdict by what the searches find: 4, 5, and what is found of the scopes
+module _ (s ends : List ℕ) (e : EndsFrom s ends 0) (p : ℕ) (f : FirstDeep s 0 1 p) where
+  pub found-deep : p ≢ length s / 16 → (t : Term) → Holds s t → verdictReply (Deep p) ≡ checkReply (judgeTerm t)
+  found-deep q t h = judge-deep t p (deep-tells s p t h f .1 q .0)
 
-  tells : (t : Term) → Holds s t → Tells t reading
-  tells t h = reads-tells s t reading h (x .read .reads)
+  module _ (shallow : p ≡ length s / 16) (r : ℕ) (x : ReadTo s ends 0 r) where
+    pub found-choice : r ≢ length s / 16 → (t : Term) → Holds s t → verdictReply (Choice (r - length s / 16 - 1)) ≡ checkReply (judgeTerm t)
+    found-choice q t h = judge-choice t _ (deep-tells s p t h f .0 shallow) (read-tells r h e x .unguarded q .1)
 
-  -- behind the last record: nothing is wrong
-  whole : at ≡ n → (x .end ≡ n) × (x .fault ≡ n)
-  whole e =
-      placed-case ((x .end ≡ n) × (x .fault ≡ n)) n (x .end) (x .fault) (λ h p. absurd (omega (arith, p, x .is)))
-      (λ h q p. (omega (arith, p, x .is), q)) (λ h q p. absurd (omega (arith, p, x .is)))
+    pub found-rest : r ≡ length s / 16 → (v : Verdict) (t : Term) → Holds s t → verdictReply v ≡ checkReply (judgeScopes t) → verdictReply v ≡ checkReply (judgeTerm t)
+    found-rest q v t h z = judge-rest t v (deep-tells s p t h f .0 shallow) (read-tells r h e x .guarded q) z
 
-  pub whole-end : at ≡ n → n ≡ endAt s 0
-  whole-end e = let (p, q) = whole e in sym p ∙ x .read .ends .end (omega arith)
+-- A table whose records, shape and depth are found right, and whose scopes and patterns are: its records are right, and if its guards are too, it is accepted.
+module _ (s ends marks : List ℕ) (m : ℕ) (users : List ℕ) (u : ℕ) (b : AreBytes s) (w : WholeRecords s) (x : Sound s ends marks m users u) (bound : (t : Term) → Holds s t → ScopesRight t)
+    (patterns : ShowsPatterns true s) where
+  pub sound-right : firstWrong 0 (records s) ≡ none
+  sound-right = none-wrong s (x .fields) (λ i l k. patterns refl i l k (no-gap s i (x .fields i l)))
 
-  pub whole-ends : at ≡ n → n ≤ 2048 → n + 1 < length d′ → EndsFrom s (set (set d′ (n + 1) (n + 1)) n (n + 1)) 0
-  whole-ends e few room =
-      let (p, q) = whole e in
-      let y = ends-start s d′ few room in
-      record {
-        few = few;
-        room = y .room;
-        end = λ m a l.
-            lt-case (getD (set (set d′ (n + 1) (n + 1)) n (n + 1)) m 0 ≡ endAt s m) m n
-            (λ h. getD-set-other (set d′ (n + 1) (n + 1)) n m (n + 1) 0 (λ z. absurd (omega arith))
-            ∙ (getD-set-other d′ (n + 1) m (n + 1) 0 (λ z. absurd (omega arith)) ∙ x .read .ends .filled (omega arith) m a h (omega arith)))
-            (λ h. y .end m h l);
-      }
+  pub sound-readable : Readable s ends 0
+  sound-readable = readable s ends b w sound-right (x .whole) (x .end)
 
-  pub whole-rest : at ≡ n → (v : Verdict) (t : Term) → Holds s t → verdictReply v ≡ checkReply (judgeScopes t) → verdictReply v ≡ checkReply (judgeTerm t)
-  whole-rest e v t h z = let (p, q) = whole e in judge-rest t reading n v (tells t h) (holds-size s t h) (omega arith) (sym own-is ∙ q) z
-
-  -- not there, though the shape is right: a record is too deep, or a choice's child is no guard
-  module _ (shape : endAt s 0 ≡ n) (other : at ≢ n) where
-    stood : (A : Type 0) → (n + 2 ≤ at → x .end ≡ at → A) → (x .end ≡ n → x .fault ≢ n → at ≡ 2 * n + 2 + x .fault → A) → A
-    stood A deep bad =
-        placed-case A n (x .end) (x .fault)
-        (λ h p. lt-case A (n + 1) (x .end) (λ l. deep (omega (arith, p, x .is)) (sym p ∙ sym (x .is))) (λ l. absurd (omega (arith, shape, x .read .ends .end (omega arith)))))
-        (λ h q p. absurd (other (x .is ∙ (p ∙ (x .read .ends .end (omega arith) ∙ shape)))))
-        (λ h q p. bad (x .read .ends .end (omega arith) ∙ shape) q (x .is ∙ p))
-
-    pub stood-far : n + 2 ≤ at
-    stood-far = stood (n + 2 ≤ at) (λ l p. l) (λ p q r. omega arith)
-
-    pub stood-deep : at < 2 * n + 2 → (t : Term) → Holds s t → verdictReply (Deep (at - n - 2)) ≡ checkReply (judgeTerm t)
-    stood-deep l t h =
-        stood (verdictReply (Deep (at - n - 2)) ≡ checkReply (judgeTerm t))
-        (λ m p. rw p at (judge-deep t reading n (tells t h) (holds-size s t h) (omega arith))) (λ p q r. absurd (omega arith))
-
-    pub stood-choice : 2 * n + 2 ≤ at → (t : Term) → Holds s t → verdictReply (Choice (at - 2 * n - 2)) ≡ checkReply (judgeTerm t)
-    stood-choice l t h =
-        stood (verdictReply (Choice (at - 2 * n - 2)) ≡ checkReply (judgeTerm t))
-        (λ m p. absurd (omega (arith, deep-below t (x .end - n - 2) (tells t h .deep (x .end - n - 2) .1 (omega (arith, holds-size s t h))), holds-size s t h)))
-        (λ p q r. let z : at - 2 * n - 2 ≡ x .read .own = omega (arith, own-is) in
-        rw z (judge-choice t reading n (tells t h) (holds-size s t h) (omega arith) (λ e. q (own-is ∙ e))))
+  pub sound-passes : (r : ℕ) → ReadTo s ends 0 r → r ≡ length s / 16 → Passes s ends
+  sound-passes r y q = record {
+    right = sound-right;
+    reply =
+        judge-whole s (length s / 16) sound-right (sym (x .whole)) b (w .whole) (omega arith) (omega arith) (Accepted (length s / 16))
+        (λ t h. judge-rest t (Accepted (length s / 16)) (shallow-first t (x .low t h)) (read-tells r h (x .end) y .guarded q) (judge-bound t _ (bound t h) (holds-size s t h)));
+    end = x .end;
+  }

@@ -2,7 +2,7 @@
 use mathlib.Core.Path.{_≡_}
 use mathlib.Core.List.{List, map}
 use mathlib.Core.Option.{none}
-use Prim.Native.Nat.{ℕ, _/_, _%_, _≤_}
+use Prim.Native.Nat.{ℕ, _%_, _≤_, _<_}
 use lib.ListN.{length}
 use Rattle.cows.specs.Limits.{maxBytes}
 use Rattle.cows.specs.Basics.{Result, refuse, accept, _>>=_, _>>_, forbid}
@@ -11,7 +11,6 @@ use Rattle.cows.specs.Places.{first}
 use Rattle.cows.specs.Format.{readNode, records, decode}
 use Rattle.cows.specs.Tables.{firstWrong, misshapen, unbound, clash, judgeTerm, judge}
 use Rattle.records.specs.Ends.{EndsFrom}
-use Rattle.readers.specs.Terms.{ReadTo}
 use Rattle.tables.specs.declared.Verdict.{Verdict}
 use Rattle.tables.specs.declared.Verdict.the-variants.{Accepted, Length, Record, Shape, Deep, Choice, Open, Clash}
 use Rattle.tables.specs.declared.Reply.{Reply}
@@ -53,15 +52,13 @@ judgeShape b = do
   forbid 3 (misshapen (map readNode (records b)))
   judgeTerm (decode (map readNode (records b)))
 
--- the bytes are whole records, not too many, and each is right: refusals 1 and 2 do not apply, but for an empty table
-pub record RightRecords (b : List ℕ) : Type 0 where
+-- the bytes are whole records, some and not too many: refusal 1 does not apply
+pub record WholeRecords (b : List ℕ) : Type 0 where
+  pub some : 0 < length b
   pub short : length b ≤ maxBytes
   pub whole : length b % 16 ≡ 0
-  pub right : firstWrong 0 (records b) ≡ none
 
--- the table reader, which was at the first record, stands at a place, and behind the last record the ends are those of the terms
-pub record Stood (b ends : List ℕ) (at : ℕ) : Type 0 where
-  pub before : List ℕ
-  pub after : List ℕ
-  pub passed : ReadTo b 0 before after at
-  pub end : at ≡ length b / 16 → EndsFrom b ends 0
+-- each record is right besides: nor does refusal 2
+pub record RightRecords (b : List ℕ) : Type 0 where
+  pub bytes : WholeRecords b
+  pub right : firstWrong 0 (records b) ≡ none

@@ -1,15 +1,18 @@
 // Tables: whether bytes are a well-formed table, or the refusal of 1 to 7 with its place.
+mod quick;
+
 use records::limits;
 use scopes::Scoping;
 ghost use mathlib.Core.Path.{_≡_};
-ghost use Prim.Native.Nat.{_+_, _/_, _<_, min};
+ghost use Prim.Native.Nat.{_+_, _/_, _<_, _≤_, min};
 ghost use lib.ListN.{length};
 ghost use Rattle.cows.specs.Limits.{maxRecords};
 ghost use Rattle.cows.specs.Terms.{Term};
-ghost use Rattle.cows.specs.Tables.{judge};
+ghost use Rattle.cows.specs.Tables.{judgeTerm, judge};
 ghost use Rattle.records.specs.Holds.{Holds};
 ghost use Rattle.records.specs.Ends.{EndsFrom};
-ghost use Rattle.tables.specs.Verdict.{refusal, verdictReply, checkReply, Checked, judgeScopes, judgeShape, RightRecords, Stood};
+ghost use Rattle.readers.specs.Reads.{Readable};
+ghost use Rattle.tables.specs.Verdict.{refusal, verdictReply, checkReply, Checked, judgeScopes, judgeShape, WholeRecords, RightRecords};
 
 // What the author of a table is told.
 pub enum Verdict {
@@ -73,16 +76,29 @@ fn find_scopes(s: &[u8], ends: &[u16]) -> Verdict
     }
 }
 
-// Refusals 3 to 7 of right records, by the place at which the table reader stands: the scopes, if it is behind the last record, and else 3, 4 or 5, with the ends
-// found again, on any shape.
-fn find_refusal(s: &[u8], ends: &mut [u16], at: usize) -> Verdict
-    requires { ⌜ RightRecords (now s) × (length (now s) / 16 + 1 < length (now ends)) × Stood (now s) (now ends) at ⌝ }
+// Refusals 4 to 7 of a table that holds a term.
+fn find_fault(s: &[u8], ends: &[u16]) -> Verdict
+    requires { ⌜ Readable (now s) (now ends) 0 ⌝ }
+    ensures { λ v. ⌜ ((t : Term) → Holds (now (s .entry)) t → verdictReply v ≡ checkReply (judgeTerm t)) ⌝ }
+{
+    let n = s.len() / 16;
+    let deep = depths::first_deep(s, ends, 0, 1);
+    if deep != n {
+        return Verdict::Deep(deep);
+    }
+    let at = readers::read_on(s, ends, 0);
+    if at != n {
+        return Verdict::Choice(at - n - 1);
+    }
+    find_scopes(s, ends)
+}
+
+// Refusals 3 to 7 of right records, each by a search, with the ends found again, on any shape.
+fn find_misshape(s: &[u8], ends: &mut [u16]) -> Verdict
+    requires { ⌜ RightRecords (now s) × (length (now s) / 16 + 1 < length (now ends)) ⌝ }
     ensures { λ v. ⌜ (verdictReply v ≡ checkReply (judgeShape (now (s .entry)))) × EndsFrom (now (s .entry)) (now (ends .exit)) 0 ⌝ }
 {
     let n = s.len() / 16;
-    if at == n {
-        return find_scopes(s, ends);
-    }
     records::ends::ends(s, ends);
     let end = records::wide16(ends[0]);
     if end < n {
@@ -91,29 +107,51 @@ fn find_refusal(s: &[u8], ends: &mut [u16], at: usize) -> Verdict
     if n < end {
         return Verdict::Shape(n);
     }
-    if at < 2 * n + 2 {
-        return Verdict::Deep(at - n - 2);
-    }
-    Verdict::Choice(at - 2 * n - 2)
+    find_fault(s, ends)
 }
 
-// Refusals 3 to 7 of right records: the table reader reads the term at the first, and the quick test of scopes follows; `ends` takes the ends of the terms.
-fn judge_records(s: &[u8], ends: &mut [u16]) -> Verdict
-    requires { ⌜ RightRecords (now s) × (length (now s) / 16 + 1 < length (now ends)) ⌝ }
-    ensures { λ v. ⌜ (verdictReply v ≡ checkReply (judgeShape (now (s .entry)))) × EndsFrom (now (s .entry)) (now (ends .exit)) 0 ⌝ }
+// All refusals of whole records, each by a search.
+fn find_refusal(s: &[u8], ends: &mut [u16]) -> Verdict
+    requires { ⌜ WholeRecords (now s) × (length (now s) / 16 + 1 < length (now ends)) ⌝ }
+    ensures { λ v. ⌜ Checked (now (s .entry)) (now (ends .exit)) (verdictReply v) ⌝ }
 {
-    let n = s.len() / 16;
-    let at = readers::read_on(s, ends, 0);
-    if at != n {
-        return find_refusal(s, ends, at);
+    let wrong = ranges::find_wrong(s);
+    if wrong != s.len() / 16 {
+        return Verdict::Record(wrong);
     }
-    let over = (n + 1) as u16;
-    ends[n + 1] = over;
-    ends[n] = over;
-    if index::scopes_right(s, ends) {
-        return Verdict::Accepted(n);
+    find_misshape(s, ends)
+}
+
+// Tables of any number of records, of up to 256, and of up to 32: the quick test comes first, as large as the table asks. What a small one does not accept is left
+// to the next larger, and what the largest does not accept is searched.
+fn judge_most(s: &[u8], ends: &mut [u16]) -> Verdict
+    requires { ⌜ WholeRecords (now s) × (length (now s) / 16 + 1 < length (now ends)) ⌝ }
+    ensures { λ v. ⌜ Checked (now (s .entry)) (now (ends .exit)) (verdictReply v) ⌝ }
+{
+    if quick::most_right(s, ends) {
+        return Verdict::Accepted(s.len() / 16);
     }
-    find_refusal(s, ends, at)
+    find_refusal(s, ends)
+}
+
+fn judge_few(s: &[u8], ends: &mut [u16]) -> Verdict
+    requires { ⌜ WholeRecords (now s) × (length (now s) / 16 ≤ 256) × (length (now s) / 16 + 1 < length (now ends)) ⌝ }
+    ensures { λ v. ⌜ Checked (now (s .entry)) (now (ends .exit)) (verdictReply v) ⌝ }
+{
+    if quick::few_right(s, ends) {
+        return Verdict::Accepted(s.len() / 16);
+    }
+    judge_most(s, ends)
+}
+
+fn judge_least(s: &[u8], ends: &mut [u16]) -> Verdict
+    requires { ⌜ WholeRecords (now s) × (length (now s) / 16 ≤ 32) × (length (now s) / 16 + 1 < length (now ends)) ⌝ }
+    ensures { λ v. ⌜ Checked (now (s .entry)) (now (ends .exit)) (verdictReply v) ⌝ }
+{
+    if quick::least_right(s, ends) {
+        return Verdict::Accepted(s.len() / 16);
+    }
+    judge_few(s, ends)
 }
 
 // All refusals of a table; `ends` takes the ends of the terms of an accepted one.
@@ -125,11 +163,13 @@ fn judge_table(s: &[u8], ends: &mut [u16]) -> Verdict
     if (n == 0) | (limits::MAX_BYTES < n) | (n % 16 != 0) {
         return Verdict::Length;
     }
-    let wrong = ranges::first_wrong(s);
-    if wrong != n / 16 {
-        return Verdict::Record(wrong);
+    if n <= 512 {
+        return judge_least(s, ends);
     }
-    judge_records(s, ends)
+    if n <= 4096 {
+        return judge_few(s, ends);
+    }
+    judge_most(s, ends)
 }
 
 // Whether bytes are a well-formed table, as `check` says, with the ends of its terms if it is.
