@@ -1,29 +1,27 @@
--- Laws of the ranges of a record's fields: a record whose fields are within the ranges of a row keeps the rules, and what the code gathers tells that they are.
+-- Laws of the ranges of a record's fields: a record whose fields are within the ranges of a row keeps the rules.
 use mathlib.Core.Path.{_≡_, refl, sym, ap, _∙_}
-use mathlib.Core.Bool.{Bool, true, false, _&&_, _||_}
-use mathlib.Core.List.{List, [], _∷_, map}
+use mathlib.Core.Bool.{Bool, true}
+use mathlib.Core.List.{List, [], _∷_}
 use mathlib.Core.Option.{none}
-use Prim.Native.Nat.{ℕ, zero, suc, _+_, _*_, _/_, _%_, _≤_, _<_}
+use Prim.Native.Nat.{ℕ, zero, suc, _+_, _*_, _/_, _≤_, _<_}
 use native.Mathlib.Omega.{arith}
 use native.Mathlib.Numerals.{add-one}
-use lib.Bits.{bitOr, and-le-l, and-le-r, or-add-and}
-use lib.Dec.{leb, ltb, eqb}
-use lib.ListN.{length, getD, set, List·getD-map}
-use lib.Seq.{getD-set-same, getD-set-other}
+use lib.Dec.{leb, ltb}
+use lib.ListN.{length, getD}
 use borrow.Author.Count.{below-more}
-use borrow.Author.Tests.{leb-true, ltb-true, le-leb, lt-ltb, eqb-true}
+use borrow.Author.Tests.{leb-true, ltb-true, le-leb, lt-ltb}
 use Rattle.cows.specs.Basics.{any, every, All}
 use Rattle.cows.specs.Terms.{label, datum, atom}
 use Rattle.cows.specs.Kinds.{unused, interval, distinct, empty4, kinds, rowOf, may}
 use Rattle.cows.specs.Format.{byte, word, rightContents, rightRecord, records}
 use Rattle.cows.specs.Tables.{firstWrong}
-use Rattle.cows.proofs.Basics.{never, and-true, true-and, bool-case, eq-case}
+use Rattle.cows.proofs.Basics.{never, and-true, true-and, bool-case}
 use Rattle.cows.proofs.Cut.{all-passing}
 use Rattle.rows.specs.Rows.{slotRight, tupleContents}
 use Rattle.rows.proofs.Checks.{datum-range, atom-range, invoke-code, receive-code}
 use Rattle.records.proofs.Pieces.{piece, byte-piece, word-piece, first-piece}
 use Rattle.rows.proofs.Tested.{tuple-piece, slots-piece}
-use Rattle.ranges.specs.Ranges.{zeroOnly, range, plainRow, tupleRow, fieldRows, within, fieldsWithin, ranged, Gathers, patternRight}
+use Rattle.ranges.specs.Ranges.{zeroOnly, range, plainRow, tupleRow, fieldRows, within, fieldsWithin, ranged, patternRight}
 
 infixr 10 _and_
 -- a fact and more
@@ -41,11 +39,6 @@ row-within s k r e j l = go 8 e j (ltb-true j 8 l)
     go : (n : ℕ) → fieldsWithin s k r n ≡ true → (i : ℕ) → i < n → within (word s (k + 2 * i)) (getD r i zeroOnly) ≡ true
     go zero f i m = absurd (omega arith)
     go (suc n) f i m = let (g, h) = and-true _ _ f in below-more _ n (go n g) h i (omega arith)
-
-within-row : (s : List ℕ) (k : ℕ) (r : List (ℕ × ℕ)) (n : ℕ) → ((j : ℕ) → j < n → within (word s (k + 2 * j)) (getD r j zeroOnly) ≡ true) → fieldsWithin s k r n ≡ true
-unfolding fieldsWithin
-within-row s k r zero f = refl
-within-row s k r (suc n) f = true-and (within-row s k r n (λ j l. f j (omega arith))) (f n (omega arith))
 
 -- what a range says of a number
 pub bounds : (a : ℕ) (r : ℕ × ℕ) → within a r ≡ true → (r .0 ≤ a) × (a ≤ r .0 + r .1)
@@ -69,7 +62,8 @@ interval-in : (a : ℕ) → within a (range 0 65536) ≡ true → interval a ≡
 unfolding interval
 interval-in a h = lt-ltb a 65536 (omega (arith, bounds a (range 0 65536) h))
 
-first-word : (s : List ℕ) (k : ℕ) → word s (k + 0) ≡ getD s k 0 + 256 * getD s (k + 1) 0
+-- the first field: kind and count
+pub first-word : (s : List ℕ) (k : ℕ) → word s (k + 0) ≡ getD s k 0 + 256 * getD s (k + 1) 0
 unfolding word byte
 first-word s k = let z : k + 0 ≡ k = omega arith in rw (z, add-one k)
 
@@ -79,19 +73,22 @@ module _ (s : List ℕ) (k : ℕ) (known : getD s k 0 < 10) where
   first-in x n m l e h = let b = bounds (word s (k + 0)) (m, 0) h in omega (arith, first-word s k)
 
   -- a kind x without a tuple, whose row has p for the first atom, in range a, and q for the interval, in range i
-  plain-in : (x : ℕ) (p q : ℕ → Bool) (a i : ℕ × ℕ) → x < 10 → rowOf x .holds ≡ may p unused empty4 q → ((n : ℕ) → within n a ≡ true → p n ≡ true) → ((n : ℕ) → within n i ≡ true → q n ≡ true)
+  plain-in : (x : ℕ) (p q : ℕ → Bool) (a i : ℕ × ℕ) → x < 10 → rowOf x .holds ≡ may p unused empty4 q
+      → ((n : ℕ) → within n a ≡ true → p n ≡ true) → ((n : ℕ) → within n i ≡ true → q n ≡ true)
       → fieldsWithin s k (plainRow x a i) 8 ≡ true → rightRecord (piece s k) ≡ true
   unfolding rightRecord kinds rightContents empty4 every byte unused
   plain-in x p q a i l h hp hq f =
       let r = row-within s k (plainRow x a i) f in
       let (e, n) = first-in x 0 x l (omega arith) (r 0 refl) in
       rw (first-piece s k, e, lt-ltb x 10 l, h, word-piece s k 2 (omega arith), hp _ (r 1 refl), word-piece s k 4 (omega arith), none-in _ (r 2 refl))
-      (rw (byte-piece s k 1 (omega arith), n, slots-piece s k, none-in _ (r 3 refl), none-in _ (r 4 refl), none-in _ (r 5 refl), none-in _ (r 6 refl), word-piece s k 14 (omega arith)) (hq _ (r 7 refl)))
+      (rw (byte-piece s k 1 (omega arith), n, slots-piece s k, none-in _ (r 3 refl), none-in _ (r 4 refl), none-in _ (r 5 refl), none-in _ (r 6 refl))
+      (rw (word-piece s k 14 (omega arith)) (hq _ (r 7 refl))))
 
   -- a kind x with n slots in use, whose endpoint's atoms are below top
   module _ (x top : ℕ) where
     slots-in : (n : ℕ) → n ≤ 4 → Row s k (tupleRow x top n)
-        → (slotRight n 0 (word s (k + 6)) ≡ true) × (slotRight n 1 (word s (k + 8)) ≡ true) × (slotRight n 2 (word s (k + 10)) ≡ true) × (slotRight n 3 (word s (k + 12)) ≡ true) × (unused (word s (k + 14)) ≡ true)
+        → (slotRight n 0 (word s (k + 6)) ≡ true) × (slotRight n 1 (word s (k + 8)) ≡ true) × (slotRight n 2 (word s (k + 10)) ≡ true)
+        × (slotRight n 3 (word s (k + 12)) ≡ true) × (unused (word s (k + 14)) ≡ true)
     unfolding slotRight
     slots-in zero l r = (none-in _ (r 3 refl), none-in _ (r 4 refl), none-in _ (r 5 refl), none-in _ (r 6 refl), none-in _ (r 7 refl))
     slots-in (suc zero) l r = (datum-in _ (r 3 refl), none-in _ (r 4 refl), none-in _ (r 5 refl), none-in _ (r 6 refl), none-in _ (r 7 refl))
@@ -143,28 +140,11 @@ module _ (s : List ℕ) (k : ℕ) (known : getD s k 0 < 10) where
       and receive-in d 4 (omega arith)
       and tt
 
--- a statement that follows of each element that passes holds if some element passes; an element that passes
+-- a statement that follows of each element that passes holds if some element passes
 pub any-all : {A : Type 0} (Q : Type 0) (f : A → Bool) (xs : List A) → All (λ x. f x ≡ true → Q) xs → any f xs ≡ true → Q
 unfolding any
 any-all Q f [] h e = never e
 any-all Q f (x ∷ xs) h e = bool-case Q (f x) (h .0) (λ z. any-all Q f xs (h .1) (rw z at e))
-
-any-at : {A : Type 0} (f : A → Bool) (xs : List A) (d : A) (i : ℕ) → i < length xs → f (getD xs i d) ≡ true → any f xs ≡ true
-unfolding any
-any-at f [] d i l h = absurd (omega arith)
-any-at f (x ∷ xs) d zero l h = rw h
-any-at f (x ∷ xs) d (suc i) l h = go (f x) (any-at f xs d i (omega arith) h)
-  where
-    go : (b : Bool) → any f xs ≡ true → (b || any f xs) ≡ true
-    go true e = refl
-    go false e = e
-
--- what every element and the default pass, each read passes
-every-read : {A : Type 0} (f : A → Bool) (xs : List A) (d : A) → f d ≡ true → every f xs ≡ true → (i : ℕ) → f (getD xs i d) ≡ true
-unfolding every
-every-read f [] d e h i = e
-every-read f (x ∷ xs) d e h zero = and-true (f x) _ h .0
-every-read f (x ∷ xs) d e h (suc i) = every-read f xs d e (and-true (f x) _ h .1) i
 
 -- A ranged record has a known kind, and is right if it holds no variable twice where it is a pattern; so the table has no wrong record.
 pub ranged-kind : (s : List ℕ) (k : ℕ) → ranged s k ≡ true → getD s k 0 < 10
@@ -175,85 +155,12 @@ pub ranged-right : (s : List ℕ) (k : ℕ) → ranged s k ≡ true → (getD s 
 unfolding ranged
 ranged-right s k h d = any-all _ (λ r. fieldsWithin s k r 8) fieldRows (rows-right s k (ranged-kind s k h) d) (and-true (ltb (getD s k 0) 10) _ h .1)
 
-pub none-wrong : (s : List ℕ) → ((i : ℕ) → i < length s / 16 → ranged s (16 * i) ≡ true) → ((i : ℕ) → i < length s / 16 → getD s (16 * i) 0 ≡ 3 → patternRight s (16 * i) ≡ true) → firstWrong 0 (records s) ≡ none
+pub none-wrong : (s : List ℕ) → ((i : ℕ) → i < length s / 16 → ranged s (16 * i) ≡ true)
+    → ((i : ℕ) → i < length s / 16 → getD s (16 * i) 0 ≡ 3 → patternRight s (16 * i) ≡ true) → firstWrong 0 (records s) ≡ none
 none-wrong s f g = all-passing 16 rightRecord s (λ i l. ranged-right s (16 * i) (f i l) (g i l))
 
--- Gathering. A number that lies x above the lowest, counted round, is within the range if x is within its span.
-pub round-within : (w low span x : ℕ) → (x + low) % 65536 ≡ w → x ≤ span → low + span < 65536 → within w (low, span) ≡ true
-round-within w low span x e l h = true-and (le-leb low w (omega arith)) (lt-ltb w _ (omega arith))
-
--- nothing comes of two numbers only if neither is anything
-pub or-nothing : (a b : ℕ) → bitOr a b ≡ 0 → (a ≡ 0) × (b ≡ 0)
-or-nothing a b h = omega (arith, or-add-and a b, and-le-l a b, and-le-r a b)
-
--- a turn: field j, of which b is outside
-pub gather-turn : (s : List ℕ) (k : ℕ) (low span before after : List ℕ) (j b : ℕ) → j < length after
-    → (b ≡ 0 → getD low j 0 + getD span j 0 < 65536 → within (word s (k + 2 * j)) (getD low j 0, getD span j 0) ≡ true)
-    → Gathers s k low span before after j → ((q : ℕ) → j ≤ q → getD after q 0 ≡ getD before q 0)
-    → Gathers s k low span before (set after j (bitOr (getD after j 0) b)) (j + 1) × ((q : ℕ) → j + 1 ≤ q → getD (set after j (bitOr (getD after j 0) b)) q 0 ≡ getD before q 0)
-gather-turn s k low span before after j b l here done rest = (
-  λ q m z.
-      eq-case _ q j
-      (λ e. let (u, v) = or-nothing (getD after j 0) b (sym (getD-set-same after j _ 0 l) ∙ (rw e at z)) in rw e (sym (rest j (omega arith)) ∙ u, here v))
-      (λ e. done q (omega arith) (sym (getD-set-other after j q _ 0 e) ∙ z)),
-  λ q m. getD-set-other after j q _ 0 (λ e. omega arith) ∙ rest q (omega arith),
-)
-
--- The rows of the code. In each the first field has one number, of a known kind, and no range ends beyond 65535.
-record Sound (r : List (ℕ × ℕ)) : Type 0 where
-  kind : getD r 0 zeroOnly .0 % 256 < 10
-  one : getD r 0 zeroOnly .1 ≡ 0
-  ends : (j : ℕ) → getD r j zeroOnly .0 + getD r j zeroOnly .1 < 65536
-
-sound : List (ℕ × ℕ) → Bool
-sound r = ltb (getD r 0 zeroOnly .0 % 256) 10 && eqb (getD r 0 zeroOnly .1) 0 && every (λ p. ltb (p .0 + p .1) 65536) r
-
-sound-tells : (r : List (ℕ × ℕ)) → sound r ≡ true → Sound r
-unfolding sound
-sound-tells r h =
-    let (u, v) = and-true (ltb (getD r 0 zeroOnly .0 % 256) 10 && eqb (getD r 0 zeroOnly .1) 0) _ h in
-    let (a, b) = and-true (ltb (getD r 0 zeroOnly .0 % 256) 10) _ u in
-    record { kind = ltb-true _ 10 a; one = eqb-true _ 0 b; ends = λ j. ltb-true _ 65536 (every-read (λ p. ltb (p .0 + p .1) 65536) r zeroOnly refl v j) }
-
-row-sound : (e : ℕ) → Sound (getD fieldRows e [])
-unfolding every fieldRows sound
-row-sound e = sound-tells _ (every-read sound fieldRows [] refl refl e)
-
--- the code's tables: the rows, where the rows of a kind start, and how far on that of a count stands
-pub record Tables (lowest spans : List (List ℕ)) (row on : List ℕ) : Type 0 where
-  pub same-lowest : lowest ≡ map (map (λ p. p .0)) fieldRows
-  pub same-spans : spans ≡ map (map (λ p. p .1)) fieldRows
-  pub starts : every (λ a. leb a 9) row ≡ true
-  pub steps : every (λ a. leb a 8) on ≡ true
-
-cell : (f : ℕ × ℕ → ℕ) (rows : List (List (ℕ × ℕ))) (e j : ℕ) → getD (getD (map (map f) rows) e []) j (f zeroOnly) ≡ f (getD (getD rows e []) j zeroOnly)
-cell f rows e j = rw (List·getD-map (map f) rows e []) (List·getD-map f (getD rows e []) j zeroOnly)
-
-module _ {lowest spans : List (List ℕ)} {row on : List ℕ} (t : Tables lowest spans row on) where
-  pub row-below : (x y : ℕ) → getD row x 0 + getD on y 0 < 18
-  row-below x y =
-      let u = leb-true (getD row x 0) 9 (every-read (λ a. leb a 9) row 0 refl (t .starts) x) in
-      let v = leb-true (getD on y 0) 8 (every-read (λ a. leb a 8) on 0 refl (t .steps) y) in
-      omega arith
-
-  -- what is gathered by row e tells that the record is ranged
-  pub gathered-ranged : (s : List ℕ) (k e : ℕ) → e < 18 → getD s k 0 < 256
-      → ((j : ℕ) → j < 8 → getD (getD lowest e []) j 0 + getD (getD spans e []) j 0 < 65536 → within (word s (k + 2 * j)) (getD (getD lowest e []) j 0, getD (getD spans e []) j 0) ≡ true)
-      → ranged s k ≡ true
-  unfolding ranged
-  gathered-ranged s k e l small h =
-      let r = getD fieldRows e [] in
-      let sound = row-sound e in
-      let low : (j : ℕ) → getD (getD lowest e []) j 0 ≡ getD r j zeroOnly .0 = λ j. rw (t .same-lowest) (cell (λ p. p .0) fieldRows e j) in
-      let span : (j : ℕ) → getD (getD spans e []) j 0 ≡ getD r j zeroOnly .1 = λ j. rw (t .same-spans) (cell (λ p. p .1) fieldRows e j) in
-      let fits : (j : ℕ) → j < 8 → within (word s (k + 2 * j)) (getD r j zeroOnly) ≡ true =
-      λ j m. rw (low j, span j) at (h j m (rw (low j, span j) (sound .ends j))) in
-      let b = bounds (word s (k + 0)) (getD r 0 zeroOnly) (fits 0 (omega arith)) in
-      true-and (lt-ltb (getD s k 0) 10 (omega (arith, first-word s k, sound .kind, sound .one)))
-      (any-at (λ q. fieldsWithin s k q 8) fieldRows [] e (unfold fieldRows in l) (within-row s k r 8 fits))
-
 -- the code's test of a pattern
-pub pattern-here : (s : List ℕ) (k a b c d : ℕ) (r : Bool) → a ≡ word s (k + 6) → b ≡ word s (k + 8) → c ≡ word s (k + 10) → d ≡ word s (k + 12) → r ≡ distinct (a ∷ b ∷ c ∷ d ∷ []) → r ≡ true
-    → patternRight s k ≡ true
+pub pattern-here : (s : List ℕ) (k a b c d : ℕ) (r : Bool) → a ≡ word s (k + 6) → b ≡ word s (k + 8) → c ≡ word s (k + 10) → d ≡ word s (k + 12)
+    → r ≡ distinct (a ∷ b ∷ c ∷ d ∷ []) → r ≡ true → patternRight s k ≡ true
 unfolding patternRight
 pattern-here s k a b c d r ea eb ec ed e h = rw (← ea, ← eb, ← ec, ← ed) (sym e ∙ h)

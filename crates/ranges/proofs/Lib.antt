@@ -1,4 +1,5 @@
 pub mod Lists
 pub mod FieldRanges
+pub mod Gathering
 pub mod Wrong
 pub mod Gaps

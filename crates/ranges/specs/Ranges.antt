@@ -2,7 +2,7 @@
 -- it a field may lie. A row has the ranges of a kind and a count.
 use mathlib.Core.Path.{_≡_}
 use mathlib.Core.Bool.{Bool, true, _&&_}
-use mathlib.Core.List.{List, [], _∷_, _++_, map}
+use mathlib.Core.List.{List, [], _∷_, _++_}
 use Prim.Native.Nat.{ℕ, zero, suc, _+_, _*_, _-_, _<_}
 use lib.Dec.{ltb}
 use lib.ListN.{getD, replicate}
@@ -59,12 +59,15 @@ fieldsWithin s k row (suc j) = fieldsWithin s k row j && within (word s (k + 2 *
 unfoldable pub ranged : List ℕ → ℕ → Bool
 ranged s k = ltb (getD s k 0) 10 && any (λ row. fieldsWithin s k row 8) fieldRows
 
--- Gathering, in eight numbers, how far fields lie outside: where the number is 0 after the record at byte k, it was before, and the record's field is within its
--- range, if this ends below 65536; so for the first n.
+-- the number w is within the range, if this ends below 65536
+abbrev pub Met : (w low span : ℕ) → Type 0
+Met w low span = low + span < 65536 → within w (low, span) ≡ true
+
+-- Gathering how far fields lie outside their ranges: where a number is 0 after the record at byte k, it was 0 before, and that field meets its range; so for the
+-- first n.
 abbrev pub Gathers : (s : List ℕ) (k : ℕ) (low span before after : List ℕ) (n : ℕ) → Type 0
 Gathers s k low span before after n =
-    (j : ℕ) → j < n → getD after j 0 ≡ 0
-    → (getD before j 0 ≡ 0) × (getD low j 0 + getD span j 0 < 65536 → within (word s (k + 2 * j)) (getD low j 0, getD span j 0) ≡ true)
+    (j : ℕ) → j < n → getD after j 0 ≡ 0 → (getD before j 0 ≡ 0) × Met (word s (k + 2 * j)) (getD low j 0) (getD span j 0)
 
 -- no variable stands twice among the slots of the record at byte k
 unfoldable pub patternRight : List ℕ → ℕ → Bool

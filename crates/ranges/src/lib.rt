@@ -19,7 +19,7 @@ ghost use Rattle.cows.specs.Format.{records};
 ghost use Rattle.cows.specs.Tables.{firstWrong};
 ghost use Rattle.records.specs.Answers.{placeOr};
 ghost use Rattle.ranges.specs.Lists.{Inside};
-ghost use Rattle.ranges.specs.Ranges.{within, Gathers, ranged, patternRight};
+ghost use Rattle.ranges.specs.Ranges.{Met, Gathers, ranged, patternRight};
 
 // How far the last value, the last datum and the last label lie above the first.
 const VALUES: u16 = limits::FIRST_VARIABLE - 2;
@@ -72,7 +72,7 @@ const SPAN: [[u16; 8]; 18] = [
     [0, VALUES, VALUES, DATA, DATA, DATA, DATA, 0],
 ];
 
-// Where the rows of a kind start, and how far on that of a count stands. A kind or a count that cannot be is sent to some row: its first field is not met.
+// Where the rows of a kind start, and how far on that of a count stands. A kind or a count that cannot be is sent to some row, whose first field it does not meet.
 const ROW: [u8; 16] = [0, 1, 8, 9, 2, 3, 4, 5, 6, 7, 0, 0, 0, 0, 0, 0];
 
 const ROWS_ON: [u8; 8] = [0, 2, 4, 6, 8, 0, 0, 0];
@@ -85,7 +85,7 @@ fn wide8(x: u8) -> usize
 
 // How far w lies outside the range; 0 inside. Counted from its lowest number, a number below it lies far above it.
 fn beyond(w: u16, low: u16, span: u16) -> u16
-    ensures { λ r. ⌜ (r ≡ 0 → low + span < 65536 → within w (low, span) ≡ true) ⌝ }
+    ensures { λ r. ⌜ (r ≡ 0 → Met w low span) ⌝ }
 {
     let x = wrapping_sub_u16(w, low);
     if span < x { x - span } else { 0 }
@@ -116,7 +116,8 @@ fn nothing(out: [u16; 8]) -> bool
     all == 0
 }
 
-// The fields of every record are within the ranges of the row of its kind and count. The rows are looked up here, since they are laid out anew in each call.
+// The fields of every record are within the ranges of the row of its kind and count. The tables are named before the loop, since a constant is laid out anew where
+// it is named.
 pub fn fields_right(s: &[u8]) -> bool
     ensures { λ r. ⌜ (r ≡ true → (i : ℕ) → i < length (now (s .entry)) / 16 → ranged (now (s .entry)) (16 * i) ≡ true) ⌝ }
 {

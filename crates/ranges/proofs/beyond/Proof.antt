@@ -1,6 +1,6 @@
 use borrow.Author.Needs.{needs}
 use native.Mathlib.Omega.{arith}
-use Rattle.ranges.proofs.FieldRanges.{round-within}
+use Rattle.ranges.proofs.Gathering.{round-within}
 use Rattle.ranges.proofs.beyond.Statement.{statement}
 use Rattle.ranges.proofs.beyond.Tie as tie
 

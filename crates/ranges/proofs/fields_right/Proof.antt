@@ -6,7 +6,7 @@ use borrow.Author.Count.{below-more}
 use lib.ListN.{length, getD}
 use Rattle.cows.specs.Basics.{every}
 use Rattle.ranges.specs.Ranges.{fieldRows, ranged}
-use Rattle.ranges.proofs.FieldRanges.{Tables, row-below, gathered-ranged}
+use Rattle.ranges.proofs.Gathering.{Tables, row-below, gathered-ranged}
 use Rattle.ranges.proofs.fields_right.Statement.{statement}
 use Rattle.ranges.proofs.fields_right.Tie as tie
 
@@ -41,7 +41,8 @@ loop-again c =
       omega (arith, c .out2 .given),
       λ z.
           below-more _ (v .i) (v .inv .4 (λ j m. g .gather .ensures j m (z j m) .0))
-          (gathered-ranged (v .inv .0) (l .before .before .args .s .now) (16 * v .i) _ (row-is w) (omega (arith, x .before .shared-slice-known2 .given (16 * v .i))) (λ j m. g .gather .ensures j m (z j m) .1)),
+          (gathered-ranged (v .inv .0) (l .before .before .args .s .now) (16 * v .i) _ (row-is w) (omega (arith, x .before .shared-slice-known2 .given (16 * v .i)))
+          (λ j m. g .gather .ensures j m (z j m) .1)),
     )
 
 pub fields-right-spec : {M : Type 1} → statement M

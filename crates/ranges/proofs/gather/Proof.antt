@@ -3,7 +3,7 @@ use Prim.Native.Nat.{ℕ, _-_, _≤_}
 use native.Mathlib.Omega.{arith}
 use lib.ListN.{length, getD, length-set}
 use Rattle.ranges.specs.Ranges.{Gathers}
-use Rattle.ranges.proofs.FieldRanges.{gather-turn}
+use Rattle.ranges.proofs.Gathering.{gather-turn}
 use Rattle.ranges.proofs.gather.Statement.{statement}
 use Rattle.ranges.proofs.gather.Tie as tie
 
@@ -20,7 +20,9 @@ loop-again c =
     let l = w .before .before .before in
     let a = l .before .before .before .args in
     let v = l .loop in
-    let (g, r) = gather-turn (a .s .now) (a .k) (a .t3) (a .t4) (a .out .now) (v .out) (v .j) (c .beyond .result) (omega arith) (rw (w .word-at .ensures) at (c .beyond .ensures)) (v .inv .2) (v .inv .3) in
+    let (g, r) =
+    gather-turn (a .s .now) (a .k) (a .t3) (a .t4) (a .out .now) (v .out) (v .j) (c .beyond .result) (omega arith)
+    (rw (w .word-at .ensures) at (c .beyond .ensures)) (v .inv .2) (v .inv .3) in
     (omega arith, simp length-set (v .inv .1), g, r)
 
 pub gather-spec : {M : Type 1} → statement M

@@ -4,7 +4,7 @@ use native.Mathlib.Omega.{arith}
 use lib.ListN.{getD}
 use borrow.Author.Count.{below-more}
 use borrow.Author.Tests.{eqb-true}
-use Rattle.ranges.proofs.FieldRanges.{or-nothing}
+use Rattle.ranges.proofs.Gathering.{or-nothing}
 use Rattle.ranges.proofs.nothing.Statement.{statement}
 use Rattle.ranges.proofs.nothing.Tie as tie
 
