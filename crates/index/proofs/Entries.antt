@@ -31,28 +31,25 @@ use Rattle.scopes.proofs.Uses.{place-inside, kind-here, delimitation-is, delimi
 use Rattle.ranges.specs.Lists.{Listed}
 use Rattle.ranges.specs.Ranges.{patternRight}
 use Rattle.ranges.proofs.Lists.{listed-inside, listed-all}
-use Rattle.index.specs.Index.{slotOf, entryOf, Entering, Entered, faultOf, Clear, Fine, UsesRight, Indexing, Listing, ScopesRight}
+use Rattle.index.specs.Index.{slotOf, entryOf, Entering, Entered, faultOf, Clear, Fine, UsesRight, TableLists, BlankIndex, ScopesRight}
 use Rattle.index.proofs.Bounds.{entry-atom, entry-large, entry-same, entry-clear}
 
--- lists and an index that are cleared
-pub cleared : (s ends : List ℕ) (n k shift mask : ℕ) → EndsFrom s ends 0 → length s / 16 < n → shift < 64 → mask < k → Listing s ends (replicate n 0) (replicate n 0) (replicate k 0) shift mask
-cleared s ends n k shift mask e l small room =
-    let long : length s / 16 < length {A = ℕ} (replicate n 0) = rw (length-replicate {A = ℕ} n 0) l in
-    record { end = e; marks-room = long; users-room = long; slots = record { small = small; room = rw (length-replicate {A = ℕ} k 0) room }; blank = getD-zeros k }
+-- an index that is cleared; one in which slot 0 has the number by which 0 is right everywhere
+pub cleared : (k shift mask : ℕ) → shift < 64 → mask < k → BlankIndex (replicate k 0) shift mask
+cleared k shift mask small room = record { slots = record { small = small; room = rw (length-replicate {A = ℕ} k 0) room }; empty = getD-zeros k }
 
--- a blank index, once slot 0 has the number by which 0 is right everywhere
-pub ready : (s ends marks : List ℕ) (m : ℕ) (users : List ℕ) (u : ℕ) (index : List ℕ) (shift mask : ℕ) → Indexing s ends marks m users u index shift mask
+pub ready : (s ends marks : List ℕ) (m : ℕ) (users : List ℕ) (u : ℕ) (index : List ℕ) (shift mask : ℕ) → TableLists s ends marks m users u → BlankIndex index shift mask
     → Entering s ends marks m (set index 0 32767) shift mask
-ready s ends marks m users u index shift mask r = record {
+ready s ends marks m users u index shift mask r b = record {
   end = r .end;
   inside = listed-inside s 8 8 marks m (r .marks-room) (r .delimitations);
   kinds = λ q l.
       let k = getD s (16 * getD marks q 0) 0 in
       let (x, y) = and-true (leb 8 k) (leb k 8) (r .delimitations .only q l) in
       omega (arith, leb-true 8 k x, leb-true k 8 y);
-  slots = record { small = r .slots .small; room = rw (length-set index 0 32767) (r .slots .room) };
-  free = λ p. eq-case (getD (set index 0 32767) p 0 < 65536) p 0 (λ z. rw (z, getD-set-same index 0 32767 0 (omega (arith, r .slots .room))) (omega arith))
-      (λ z. rw (getD-set-other index 0 p 32767 0 z, r .blank p) (omega arith));
+  slots = record { small = b .slots .small; room = rw (length-set index 0 32767) (b .slots .room) };
+  free = λ p. eq-case (getD (set index 0 32767) p 0 < 65536) p 0 (λ z. rw (z, getD-set-same index 0 32767 0 (omega (arith, b .slots .room))) (omega arith))
+      (λ z. rw (getD-set-other index 0 p 32767 0 z, b .empty p) (omega arith));
 }
 
 -- Entering: the start, and a turn, by the code's numbers, in which the delimitation at place i of the list is entered in slot p as v.

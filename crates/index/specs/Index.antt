@@ -61,23 +61,18 @@ pub record UsesRight (s index : List ℕ) (shift mask j : ℕ) : Type 0 where
   pub rest : 0 < word s (16 * j + 8) → Fine s index shift mask (16 * j + 8) (65535 * j)
   pub apart : 0 < word s (16 * j + 8) → getD s (16 * j) 0 ≡ 3 → patternRight s (16 * j) ≡ true
 
--- A blank index, and the lists of a table's delimitations and of the records that use atoms.
-pub record Indexing (s ends marks : List ℕ) (m : ℕ) (users : List ℕ) (u : ℕ) (index : List ℕ) (shift mask : ℕ) : Type 0 where
+-- The ends of a table's terms, and the lists of its delimitations and of its records that use atoms.
+pub record TableLists (s ends marks : List ℕ) (m : ℕ) (users : List ℕ) (u : ℕ) : Type 0 where
   pub end : EndsFrom s ends 0
   pub delimitations : Listed s 8 8 marks (length s / 16) m
   pub marks-room : length s / 16 ≤ length marks
   pub uses : Listed s 1 3 users (length s / 16) u
   pub users-room : length s / 16 ≤ length users
-  pub slots : Slots index shift mask
-  pub blank : (p : ℕ) → getD index p 0 ≡ 0
 
--- The same with room for the lists.
-pub record Listing (s ends marks users index : List ℕ) (shift mask : ℕ) : Type 0 where
-  pub end : EndsFrom s ends 0
-  pub marks-room : length s / 16 < length marks
-  pub users-room : length s / 16 < length users
+-- an index with nothing in it
+pub record BlankIndex (index : List ℕ) (shift mask : ℕ) : Type 0 where
   pub slots : Slots index shift mask
-  pub blank : (p : ℕ) → getD index p 0 ≡ 0
+  pub empty : (p : ℕ) → getD index p 0 ≡ 0
 
 -- What the quick test of scopes shows, if its answer is true, of the term whose table the bytes are: refusals 6 and 7 do not apply.
 abbrev pub ScopesRight : Term → Type 0

@@ -13,7 +13,7 @@ ghost use lib.ListN.{length, getD};
 ghost use Rattle.cows.specs.Limits.{maxRecords};
 ghost use Rattle.records.specs.Ends.{EndsFrom};
 ghost use Rattle.ranges.specs.Lists.{Inside};
-ghost use Rattle.index.specs.Index.{Slots, slotOf, Entering, Entered, faultOf, Clear, Fine, UsesRight, Indexing, ShowsBound, ShowsPatterns, Listing};
+ghost use Rattle.index.specs.Index.{Slots, slotOf, Entering, Entered, faultOf, Clear, Fine, UsesRight, TableLists, BlankIndex, ShowsBound, ShowsPatterns};
 
 fn wide64(x: u16) -> u64
     ensures { λ r. ⌜ (r ≡ x) × (r < 65536) ⌝ }
@@ -127,7 +127,7 @@ pub fn indexed_right(
     shift: usize,
     mask: usize,
 ) -> bool
-    requires { ⌜ Indexing (now s) (now ends) (now marks) m (now users) u (now index) shift mask ⌝ }
+    requires { ⌜ TableLists (now s) (now ends) (now marks) m (now users) u × BlankIndex (now index) shift mask ⌝ }
     ensures { λ r. ⌜ ShowsBound r (now (s .entry)) × ShowsPatterns r (now (s .entry)) ⌝ }
 {
     index[0] = 32767;
@@ -147,7 +147,7 @@ fn listed_right(
     shift: usize,
     mask: usize,
 ) -> bool
-    requires { ⌜ Listing (now s) (now ends) (now marks) (now users) (now index) shift mask ⌝ }
+    requires { ⌜ EndsFrom (now s) (now ends) 0 × (length (now s) / 16 < length (now marks)) × (length (now s) / 16 < length (now users)) × BlankIndex (now index) shift mask ⌝ }
     ensures { λ r. ⌜ ShowsBound r (now (s .entry)) ⌝ }
 {
     let m = places(s, 8, 8, marks);
@@ -155,7 +155,7 @@ fn listed_right(
     indexed_right(s, ends, marks, m, users, u, index, shift, mask)
 }
 
-// The same for up to 32 records, up to 256, and up to all, with a smaller or a larger index.
+// The same for up to 32 records, and for up to 256.
 fn least_right(s: &[u8], ends: &[u16]) -> bool
     requires { ⌜ EndsFrom (now s) (now ends) 0 × (length (now s) / 16 ≤ 32) ⌝ }
     ensures { λ r. ⌜ ShowsBound r (now (s .entry)) ⌝ }
@@ -176,24 +176,38 @@ fn few_right(s: &[u8], ends: &[u16]) -> bool
     listed_right(s, ends, &mut marks, &mut users, &mut index, 7, 511)
 }
 
-fn most_right(s: &[u8], ends: &[u16]) -> bool
-    requires { ⌜ EndsFrom (now s) (now ends) 0 ⌝ }
+// By the lists, with an index of 2,048 slots, and with one of 8,192.
+fn dense_right(s: &[u8], ends: &[u16], marks: &[u16], m: usize, users: &[u16], u: usize) -> bool
+    requires { ⌜ TableLists (now s) (now ends) (now marks) m (now users) u ⌝ }
     ensures { λ r. ⌜ ShowsBound r (now (s .entry)) ⌝ }
 {
-    let mut marks = [0u16; limits::ENDS];
-    let mut users = [0u16; limits::ENDS];
     let mut index = [0u64; 2048];
-    listed_right(s, ends, &mut marks, &mut users, &mut index, 9, 2047)
+    indexed_right(s, ends, marks, m, users, u, &mut index, 9, 2047)
 }
 
-fn scattered_right(s: &[u8], ends: &[u16]) -> bool
-    requires { ⌜ EndsFrom (now s) (now ends) 0 ⌝ }
+fn scattered_right(
+    s: &[u8],
+    ends: &[u16],
+    marks: &[u16],
+    m: usize,
+    users: &[u16],
+    u: usize,
+) -> bool
+    requires { ⌜ TableLists (now s) (now ends) (now marks) m (now users) u ⌝ }
     ensures { λ r. ⌜ ShowsBound r (now (s .entry)) ⌝ }
 {
-    let mut marks = [0u16; limits::ENDS];
-    let mut users = [0u16; limits::ENDS];
     let mut index = [0u64; 8192];
-    listed_right(s, ends, &mut marks, &mut users, &mut index, 11, 8191)
+    indexed_right(s, ends, marks, m, users, u, &mut index, 11, 8191)
+}
+
+// The same for a table of any length.
+fn most_right(s: &[u8], ends: &[u16], marks: &mut [u16], users: &mut [u16]) -> bool
+    requires { ⌜ EndsFrom (now s) (now ends) 0 × (length (now s) / 16 < length (now marks)) × (length (now s) / 16 < length (now users)) ⌝ }
+    ensures { λ r. ⌜ ShowsBound r (now (s .entry)) ⌝ }
+{
+    let m = places(s, 8, 8, marks);
+    let u = places(s, 1, 3, users);
+    dense_right(s, ends, marks, m, users, u) || scattered_right(s, ends, marks, m, users, u)
 }
 
 // Refusals 6 and 7 do not apply. A short table takes short lists and a small index, since their numbers are cleared first.
@@ -207,5 +221,7 @@ pub fn scopes_right(s: &[u8], ends: &[u16]) -> bool
     if s.len() <= 4096 {
         return few_right(s, ends);
     }
-    most_right(s, ends) || scattered_right(s, ends)
+    let mut marks = [0u16; limits::ENDS];
+    let mut users = [0u16; limits::ENDS];
+    most_right(s, ends, &mut marks, &mut users)
 }

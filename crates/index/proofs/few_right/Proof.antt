@@ -9,5 +9,5 @@ few-right-spec =
     tie.close
     (tie.spec
     (λ c. search needs) (λ c. search needs) (λ c. search needs)
-    (λ c κs. let p = c .before .before .before .before .before .pre in cleared _ _ 257 512 _ _ (p .0) (omega arith) (omega arith) (omega arith))
+    (λ c κs. (c .before .before .before .before .before .pre .0, search needs, search needs, cleared 512 _ _ (omega arith) (omega arith)))
     (λ c. search needs))

@@ -14,19 +14,19 @@ indexed-right-spec =
     tie.close
     (tie.spec
     (λ c. search needs)
-    (λ c κs. ready _ _ _ _ _ _ _ _ _ (c .before .before .before .before .before .before .pre))
+    (λ c κs. let p = c .before .before .before .before .before .before .pre in ready _ _ _ _ _ _ _ _ _ (p .0) (p .1))
     (λ c. c .before .before .before .enter .kept .1 .1 .1 .1 .0 ∙ length-set (c .before .before .before .before .before .before .before .before .before .before .args .index .now) 0 32767)
     (λ c. (never, never))
     (λ c κs.
     let p = c .before .before .before .before .before .before .before .before .before .before .before .pre in (
-      listed-inside _ 1 3 _ _ (p .users-room) (p .uses),
-      p .end .few,
-      record { small = p .slots .small; room = omega (arith, c .before .before .before .before .enter .kept .1 .1 .1 .1 .0, length-set (c .before .before .before .before .before .before .before .before .before .before .before .args .index .now) 0 32767, p .slots .room) },
+      listed-inside _ 1 3 _ _ (p .0 .users-room) (p .0 .uses),
+      p .0 .end .few,
+      record { small = p .1 .slots .small; room = omega (arith, c .before .before .before .before .enter .kept .1 .1 .1 .1 .0, length-set (c .before .before .before .before .before .before .before .before .before .before .before .args .index .now) 0 32767, p .1 .slots .room) },
     ))
     (λ c. c .before .before .before .before .before .enter .kept .1 .1 .1 .1 .0 ∙ length-set (c .before .before .before .before .before .before .before .before .before .before .before .before .args .index .now) 0 32767)
     (λ c.
     let p = c .before .before .before .before .before .before .before .before .before .before .before .before .pre in
     let right = c .uses-right .ensures in (
-      λ r. listed-bound _ _ _ _ _ _ (p .uses) (right r) _ _ _ (p .end) (p .delimitations) (c .before .before .before .before .before .enter .ensures (not-false _ (c .before .before .if1 .left))),
-      λ r. patterns-apart _ _ _ _ _ _ (p .uses) (right r),
+      λ r. listed-bound _ _ _ _ _ _ (p .0 .uses) (right r) _ _ _ (p .0 .end) (p .0 .delimitations) (c .before .before .before .before .before .enter .ensures (not-false _ (c .before .before .if1 .left))),
+      λ r. patterns-apart _ _ _ _ _ _ (p .0 .uses) (right r),
     )))

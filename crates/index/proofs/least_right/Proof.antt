@@ -9,5 +9,5 @@ least-right-spec =
     tie.close
     (tie.spec
     (λ c. search needs) (λ c. search needs) (λ c. search needs)
-    (λ c κs. let p = c .before .before .before .before .before .pre in cleared _ _ 33 64 _ _ (p .0) (omega arith) (omega arith) (omega arith))
+    (λ c κs. (c .before .before .before .before .before .pre .0, search needs, search needs, cleared 64 _ _ (omega arith) (omega arith)))
     (λ c. search needs))

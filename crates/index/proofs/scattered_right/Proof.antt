@@ -8,6 +8,6 @@ pub scattered-right-spec : {M : Type 1} → statement M
 scattered-right-spec =
     tie.close
     (tie.spec
-    (λ c. search needs) (λ c. search needs) (λ c. search needs)
-    (λ c κs. let p = c .before .before .before .before .before .pre in cleared _ _ 2050 8192 _ _ p (omega (arith, p .few)) (omega arith) (omega arith))
+    (λ c. search needs)
+    (λ c κs. (c .before .before .before .before .before .pre, cleared 8192 _ _ (omega arith) (omega arith)))
     (λ c. search needs))
