@@ -1,8 +1,6 @@
 // Index: a quick test of scopes that only ever accepts (refusals 6 and 7; of refusal 2, that no variable stands twice in a pattern), with an index of the
 // delimitations: each atom has a slot, and where two delimited atoms meet in a slot the test gives up. The lists of the delimitations and of the records that use
 // atoms are the caller's.
-use ranges::places::places;
-use records::limits;
 use records::wide16;
 use records::word_at;
 use rows::distinct4;
@@ -11,7 +9,6 @@ ghost use mathlib.Core.Bool.{true};
 ghost use Prim.Native.Nat.{ℕ, _+_, _*_, _-_, _/_, _<_, _≤_};
 ghost use lib.ListN.{length, getD};
 ghost use Rattle.cows.specs.Limits.{maxRecords};
-ghost use Rattle.records.specs.Ends.{EndsFrom};
 ghost use Rattle.ranges.specs.Lists.{Inside};
 ghost use Rattle.index.specs.Index.{Slots, slotOf, Entering, Entered, faultOf, Clear, Fine, UsesRight, TableLists, BlankIndex, ShowsBound, ShowsPatterns};
 
@@ -135,93 +132,4 @@ pub fn indexed_right(
         return false;
     }
     uses_right(s, users, u, index, shift, mask)
-}
-
-// The same, with the lists made first.
-fn listed_right(
-    s: &[u8],
-    ends: &[u16],
-    marks: &mut [u16],
-    users: &mut [u16],
-    index: &mut [u64],
-    shift: usize,
-    mask: usize,
-) -> bool
-    requires { ⌜ EndsFrom (now s) (now ends) 0 × (length (now s) / 16 < length (now marks)) × (length (now s) / 16 < length (now users)) × BlankIndex (now index) shift mask ⌝ }
-    ensures { λ r. ⌜ ShowsBound r (now (s .entry)) ⌝ }
-{
-    let m = places(s, 8, 8, marks);
-    let u = places(s, 1, 3, users);
-    indexed_right(s, ends, marks, m, users, u, index, shift, mask)
-}
-
-// The same for up to 32 records, and for up to 256.
-fn least_right(s: &[u8], ends: &[u16]) -> bool
-    requires { ⌜ EndsFrom (now s) (now ends) 0 × (length (now s) / 16 ≤ 32) ⌝ }
-    ensures { λ r. ⌜ ShowsBound r (now (s .entry)) ⌝ }
-{
-    let mut marks = [0u16; 33];
-    let mut users = [0u16; 33];
-    let mut index = [0u64; 64];
-    listed_right(s, ends, &mut marks, &mut users, &mut index, 4, 63)
-}
-
-fn few_right(s: &[u8], ends: &[u16]) -> bool
-    requires { ⌜ EndsFrom (now s) (now ends) 0 × (length (now s) / 16 ≤ 256) ⌝ }
-    ensures { λ r. ⌜ ShowsBound r (now (s .entry)) ⌝ }
-{
-    let mut marks = [0u16; 257];
-    let mut users = [0u16; 257];
-    let mut index = [0u64; 512];
-    listed_right(s, ends, &mut marks, &mut users, &mut index, 7, 511)
-}
-
-// By the lists, with an index of 2,048 slots, and with one of 8,192.
-fn dense_right(s: &[u8], ends: &[u16], marks: &[u16], m: usize, users: &[u16], u: usize) -> bool
-    requires { ⌜ TableLists (now s) (now ends) (now marks) m (now users) u ⌝ }
-    ensures { λ r. ⌜ ShowsBound r (now (s .entry)) ⌝ }
-{
-    let mut index = [0u64; 2048];
-    indexed_right(s, ends, marks, m, users, u, &mut index, 9, 2047)
-}
-
-fn scattered_right(
-    s: &[u8],
-    ends: &[u16],
-    marks: &[u16],
-    m: usize,
-    users: &[u16],
-    u: usize,
-) -> bool
-    requires { ⌜ TableLists (now s) (now ends) (now marks) m (now users) u ⌝ }
-    ensures { λ r. ⌜ ShowsBound r (now (s .entry)) ⌝ }
-{
-    let mut index = [0u64; 8192];
-    indexed_right(s, ends, marks, m, users, u, &mut index, 11, 8191)
-}
-
-// The same for a table of any length.
-fn most_right(s: &[u8], ends: &[u16], marks: &mut [u16], users: &mut [u16]) -> bool
-    requires { ⌜ EndsFrom (now s) (now ends) 0 × (length (now s) / 16 < length (now marks)) × (length (now s) / 16 < length (now users)) ⌝ }
-    ensures { λ r. ⌜ ShowsBound r (now (s .entry)) ⌝ }
-{
-    let m = places(s, 8, 8, marks);
-    let u = places(s, 1, 3, users);
-    dense_right(s, ends, marks, m, users, u) || scattered_right(s, ends, marks, m, users, u)
-}
-
-// Refusals 6 and 7 do not apply. A short table takes short lists and a small index, since their numbers are cleared first.
-pub fn scopes_right(s: &[u8], ends: &[u16]) -> bool
-    requires { ⌜ EndsFrom (now s) (now ends) 0 ⌝ }
-    ensures { λ r. ⌜ ShowsBound r (now (s .entry)) ⌝ }
-{
-    if s.len() <= 512 {
-        return least_right(s, ends);
-    }
-    if s.len() <= 4096 {
-        return few_right(s, ends);
-    }
-    let mut marks = [0u16; limits::ENDS];
-    let mut users = [0u16; limits::ENDS];
-    most_right(s, ends, &mut marks, &mut users)
 }

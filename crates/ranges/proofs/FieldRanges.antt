@@ -158,9 +158,3 @@ ranged-right s k h d = any-all _ (λ r. fieldsWithin s k r 8) fieldRows (rows-ri
 pub none-wrong : (s : List ℕ) → ((i : ℕ) → i < length s / 16 → ranged s (16 * i) ≡ true)
     → ((i : ℕ) → i < length s / 16 → getD s (16 * i) 0 ≡ 3 → patternRight s (16 * i) ≡ true) → firstWrong 0 (records s) ≡ none
 none-wrong s f g = all-passing 16 rightRecord s (λ i l. ranged-right s (16 * i) (f i l) (g i l))
-
--- the code's test of a pattern
-pub pattern-here : (s : List ℕ) (k a b c d : ℕ) (r : Bool) → a ≡ word s (k + 6) → b ≡ word s (k + 8) → c ≡ word s (k + 10) → d ≡ word s (k + 12)
-    → r ≡ distinct (a ∷ b ∷ c ∷ d ∷ []) → r ≡ true → patternRight s k ≡ true
-unfolding patternRight
-pattern-here s k a b c d r ea eb ec ed e h = rw (← ea, ← eb, ← ec, ← ed) (sym e ∙ h)

@@ -1,25 +1,18 @@
 // Ranges: the rules for single records (refusal 2) as ranges of the eight 16-bit fields of a record, in a row for each kind and count: a quick test that only
 // ever accepts, without branches on the kind; and the first record that breaks them.
-pub mod places;
-
-use places::places;
 use records::limits;
-use records::wide16;
+use records::wide8;
 use records::word_at;
-use rows::distinct4;
 use rows::record_right;
 use std::num::wrapping_sub_u16;
 ghost use mathlib.Core.Path.{_≡_};
 ghost use mathlib.Core.Bool.{true};
-ghost use mathlib.Core.Option.{none};
-ghost use Prim.Native.Nat.{ℕ, _+_, _*_, _/_, _<_, _≤_};
+ghost use Prim.Native.Nat.{ℕ, _+_, _*_, _/_, _<_};
 ghost use lib.ListN.{length, getD};
-ghost use Rattle.cows.specs.Limits.{maxRecords};
 ghost use Rattle.cows.specs.Format.{records};
 ghost use Rattle.cows.specs.Tables.{firstWrong};
 ghost use Rattle.records.specs.Answers.{placeOr};
-ghost use Rattle.ranges.specs.Lists.{Inside};
-ghost use Rattle.ranges.specs.Ranges.{Met, Gathers, ranged, patternRight};
+ghost use Rattle.ranges.specs.Ranges.{Met, Gathers, ranged};
 
 // How far the last value, the last datum and the last label lie above the first.
 const VALUES: u16 = limits::FIRST_VARIABLE - 2;
@@ -77,12 +70,6 @@ const ROW: [u8; 16] = [0, 1, 8, 9, 2, 3, 4, 5, 6, 7, 0, 0, 0, 0, 0, 0];
 
 const ROWS_ON: [u8; 8] = [0, 2, 4, 6, 8, 0, 0, 0];
 
-fn wide8(x: u8) -> usize
-    ensures { λ r. ⌜ (r ≡ x) × (r < 256) ⌝ }
-{
-    x as usize
-}
-
 // How far w lies outside the range; 0 inside. Counted from its lowest number, a number below it lies far above it.
 fn beyond(w: u16, low: u16, span: u16) -> u16
     ensures { λ r. ⌜ (r ≡ 0 → Met w low span) ⌝ }
@@ -138,52 +125,6 @@ pub fn fields_right(s: &[u8]) -> bool
     nothing(out)
 }
 
-// No variable stands twice in the patterns at the first m places of the list.
-fn patterns_right(s: &[u8], list: &[u16], m: usize) -> bool
-    requires { ⌜ Inside (now s) (now list) m ⌝ }
-    ensures { λ r. ⌜ (r ≡ true → (q : ℕ) → q < m → patternRight (now (s .entry)) (16 * getD (now (list .entry)) q 0) ≡ true) ⌝ }
-{
-    let mut i = 0;
-    while i < m {
-        let k = 16 * wide16(list[i]);
-        if !distinct4(
-            word_at(s, k + 6),
-            word_at(s, k + 8),
-            word_at(s, k + 10),
-            word_at(s, k + 12),
-        ) {
-            return false;
-        }
-        i += 1;
-    }
-    true
-}
-
-// No variable stands twice in a pattern of the table; the list takes the places of the patterns.
-fn distinct_right(s: &[u8], list: &mut [u16]) -> bool
-    requires { ⌜ (length (now s) / 16 ≤ maxRecords) × (length (now s) / 16 < length (now list)) ⌝ }
-    ensures { λ r. ⌜ (r ≡ true → (i : ℕ) → i < length (now (s .entry)) / 16 → getD (now (s .entry)) (16 * i) 0 ≡ 3 → patternRight (now (s .entry)) (16 * i) ≡ true) ⌝ }
-{
-    let m = places(s, 3, 3, list);
-    patterns_right(s, list, m)
-}
-
-// Refusal 2 does not apply. A short table takes a short list, since its numbers are cleared first.
-fn records_right(s: &[u8]) -> bool
-    requires { ⌜ length (now s) / 16 ≤ maxRecords ⌝ }
-    ensures { λ r. ⌜ (r ≡ true → firstWrong 0 (records (now (s .entry))) ≡ none) ⌝ }
-{
-    if !fields_right(s) {
-        return false;
-    }
-    if s.len() <= 4096 {
-        let mut few = [0u16; 257];
-        return distinct_right(s, &mut few);
-    }
-    let mut list = [0u16; limits::ENDS];
-    distinct_right(s, &mut list)
-}
-
 // The first record that is not right, or the number of records, by a search.
 pub fn find_wrong(s: &[u8]) -> usize
     ensures { λ r. ⌜ r ≡ placeOr (length (now (s .entry)) / 16) (firstWrong 0 (records (now (s .entry)))) ⌝ }
@@ -197,15 +138,4 @@ pub fn find_wrong(s: &[u8]) -> usize
         i += 1;
     }
     n
-}
-
-// The same, with the quick test first.
-pub fn first_wrong(s: &[u8]) -> usize
-    requires { ⌜ length (now s) / 16 ≤ maxRecords ⌝ }
-    ensures { λ r. ⌜ r ≡ placeOr (length (now (s .entry)) / 16) (firstWrong 0 (records (now (s .entry)))) ⌝ }
-{
-    if records_right(s) {
-        return s.len() / 16;
-    }
-    find_wrong(s)
 }

@@ -1,18 +1,21 @@
 -- From what the parts of check find to the judgement of the table: one law for each answer.
 use mathlib.Core.Path.{_≡_, refl, sym, _∙_}
 use mathlib.Core.Logic.{_≢_}
-use mathlib.Core.Bool.{true, false}
+use mathlib.Core.Bool.{true, false, _||_}
 use mathlib.Core.Option.{Option, none, some}
 use mathlib.Core.List.{List, [], _∷_, map}
 use Prim.Native.Nat.{ℕ, suc, _+_, _-_, _/_, _%_, _<_, _≤_}
 use native.Mathlib.Omega.{arith}
 use lib.ListN.{length, getD}
+use lib.Dec.{eqb, ltb}
+use borrow.Author.Tests.{ne-eqb, le-ltb, eqb-false}
 use Rattle.cows.specs.Basics.{placeIf, _>>_, forbid}
 use Rattle.cows.specs.Terms.{Term, size}
 use Rattle.cows.specs.Places.{first}
 use Rattle.cows.specs.Format.{AreBytes, readNode, records, decode}
 use Rattle.cows.specs.Tables.{wrongLength, firstWrong, tooDeep, noGuard, unbound, clash, judgeTerm, judge}
-use Rattle.cows.proofs.Tables.{records-hold}
+use Rattle.cows.proofs.Basics.{or-false}
+use Rattle.cows.proofs.Tables.{records-hold, right-length}
 use Rattle.records.specs.Holds.{Holds}
 use Rattle.records.specs.Ends.{endAt}
 use Rattle.records.proofs.Shapes.{end-shape}
@@ -21,7 +24,7 @@ use Rattle.tables.specs.declared.Verdict.{Verdict}
 use Rattle.tables.specs.declared.Verdict.the-variants.{Accepted, Length, Record, Shape, Deep, Choice, Open as OpenUse, Clash as Clashes}
 use Rattle.scopes.specs.Scopes.{scopingOf}
 use Rattle.index.specs.Index.{ScopesRight}
-use Rattle.tables.specs.Verdict.{verdictReply, checkReply, judgeScopes, judgeShape}
+use Rattle.tables.specs.Verdict.{verdictReply, checkReply, judgeScopes, judgeShape, WholeRecords}
 
 -- 6 and 7
 scoping-fine : (p q : Option ℕ) → Fine ≡ scopingOf p q → (p ≡ none) × (q ≡ none)
@@ -102,3 +105,15 @@ judge-record b p e f = rw (e, f)
 pub judge-all : (b : List ℕ) (v : Verdict) → wrongLength b ≡ false → firstWrong 0 (records b) ≡ none → verdictReply v ≡ checkReply (judgeShape b) → verdictReply v ≡ checkReply (judge b)
 unfolding judge judgeShape _>>_ forbid placeIf
 judge-all b v e f q = rw (e, f) q
+
+-- whole records, some and not too many, by the code's test
+pub whole-length : (b : List ℕ) → WholeRecords b → wrongLength b ≡ false
+unfolding wrongLength
+whole-length b w = rw (ne-eqb (length b) 0 (omega (arith, w .some)), le-ltb 32768 (length b) (w .short), w .whole)
+
+pub whole-records : (b : List ℕ) → wrongLength b ≡ false → WholeRecords b
+unfolding wrongLength
+whole-records b e =
+    let (l, z) = right-length b e in
+    let (f, g) = or-false (eqb (length b) 0 || ltb 32768 (length b)) _ e in
+    record { some = omega (arith, eqb-false (length b) 0 (or-false (eqb (length b) 0) _ f .0)); short = l; whole = z }

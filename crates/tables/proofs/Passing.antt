@@ -68,16 +68,16 @@ module _ (s ends : List ℕ) (e : EndsFrom s ends 0) (p : ℕ) (f : FirstDeep s 
 module _ (s ends marks : List ℕ) (m : ℕ) (users : List ℕ) (u : ℕ) (b : AreBytes s) (w : WholeRecords s) (x : Sound s ends marks m users u) (bound : (t : Term) → Holds s t → ScopesRight t)
     (patterns : ShowsPatterns true s) where
   pub sound-right : firstWrong 0 (records s) ≡ none
-  sound-right = none-wrong s (x .fields) (λ i l k. patterns refl i l k (no-gap s i (x .fields i l)))
+  sound-right = none-wrong s (x .fields) (λ i l k. patterns refl i l k (no-gap s (16 * i) (x .fields i l)))
 
   pub sound-readable : Readable s ends 0
-  sound-readable = readable s ends b w sound-right (x .whole) (x .end)
+  sound-readable = readable s ends b w sound-right (x .whole) (x .lists .end)
 
   pub sound-passes : (r : ℕ) → ReadTo s ends 0 r → r ≡ length s / 16 → Passes s ends
   sound-passes r y q = record {
     right = sound-right;
     reply =
         judge-whole s (length s / 16) sound-right (sym (x .whole)) b (w .whole) (omega arith) (omega arith) (Accepted (length s / 16))
-        (λ t h. judge-rest t (Accepted (length s / 16)) (shallow-first t (x .low t h)) (read-tells r h (x .end) y .guarded q) (judge-bound t _ (bound t h) (holds-size s t h)));
-    end = x .end;
+        (λ t h. judge-rest t (Accepted (length s / 16)) (shallow-first t (x .low t h)) (read-tells r h (x .lists .end) y .guarded q) (judge-bound t _ (bound t h) (holds-size s t h)));
+    end = x .lists .end;
   }

@@ -4,16 +4,15 @@ use mathlib.Core.Bool.{true}
 use mathlib.Core.List.{List}
 use mathlib.Core.Option.{none}
 use Prim.Native.Nat.{ℕ, _+_, _*_, _/_, _<_, _≤_, min}
-use lib.ListN.{length, getD}
+use lib.ListN.{length}
 use Rattle.cows.specs.Limits.{maxDepth}
 use Rattle.cows.specs.Terms.{Term, depth}
 use Rattle.cows.specs.Format.{records}
 use Rattle.cows.specs.Tables.{firstWrong}
 use Rattle.records.specs.Ends.{endAt, EndsFrom}
 use Rattle.records.specs.Holds.{Holds}
-use Rattle.ranges.specs.Lists.{Listed}
 use Rattle.ranges.specs.Ranges.{ranged}
-use Rattle.index.specs.Index.{Slots}
+use Rattle.index.specs.Index.{TableLists}
 use Rattle.tables.specs.declared.Verdict.the-variants.{Accepted}
 use Rattle.tables.specs.Verdict.{verdictReply, checkReply, judgeShape}
 
@@ -24,21 +23,12 @@ pub record Lent (s ends stack marks users : List ℕ) : Type 0 where
   pub marks-room : length s / 16 < length marks
   pub users-room : length s / 16 < length users
 
--- an index with nothing in it
-pub record BlankIndex (index : List ℕ) (shift mask : ℕ) : Type 0 where
-  pub slots : Slots index shift mask
-  pub blank : (p : ℕ) → getD index p 0 ≡ 0
-
 -- Every record is within its ranges, the records are one term that is not too deep, and its ends, its m delimitations and its u users of atoms are at hand.
 pub record Sound (s ends marks : List ℕ) (m : ℕ) (users : List ℕ) (u : ℕ) : Type 0 where
   pub fields : (i : ℕ) → i < length s / 16 → ranged s (16 * i) ≡ true
   pub whole : endAt s 0 ≡ length s / 16
   pub low : (t : Term) → Holds s t → depth t ≤ maxDepth
-  pub end : EndsFrom s ends 0
-  pub delimitations : Listed s 8 8 marks (length s / 16) m
-  pub marks-room : length s / 16 < length marks
-  pub uses : Listed s 1 3 users (length s / 16) u
-  pub users-room : length s / 16 < length users
+  pub lists : TableLists s ends marks m users u
 
 -- refusals 2 to 7 do not apply, and the ends are those of the terms
 pub record Passes (s ends : List ℕ) : Type 0 where

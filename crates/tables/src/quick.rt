@@ -8,8 +8,9 @@ ghost use mathlib.Core.Logic.{_≢_};
 ghost use mathlib.Core.Bool.{true};
 ghost use Prim.Native.Nat.{_+_, _/_, _<_, _≤_};
 ghost use lib.ListN.{length};
+ghost use Rattle.index.specs.Index.{BlankIndex};
 ghost use Rattle.tables.specs.Verdict.{WholeRecords};
-ghost use Rattle.tables.specs.Quick.{Lent, BlankIndex, Sound, Passes};
+ghost use Rattle.tables.specs.Quick.{Lent, Sound, Passes};
 
 // The records by their ranges, then shape, depth and lists; a height of 0 if one of these is not right.
 fn sound(

@@ -1,20 +1,19 @@
 use borrow.Author.Needs.{needs}
+use native.Mathlib.Omega.{arith}
+use Rattle.readers.proofs.Terms.{read-tells}
+use Rattle.tables.proofs.Passing.{read-standing, found-deep, found-choice, found-rest}
 use Rattle.tables.proofs.find_fault.Statement.{statement}
 use Rattle.tables.proofs.find_fault.Tie as tie
-use Rattle.depths.proofs.first_deep.Reads as first-deep-reads
-use Rattle.readers.proofs.read_on.Reads as read-on-reads
-use Rattle.tables.proofs.find_scopes.Reads as find-scopes-reads
 
 pub find-fault-spec : {M : Type 1} → statement M
 find-fault-spec =
     tie.close
     (tie.spec
-    (λ c κs. ?) -- first-deep-requires src/lib.rt:85:9 [start 2; ]
-    (λ c. ?) -- returns src/lib.rt:87:9 [start 4; if1 0, first-deep 1]
-    (λ c κs. search needs) -- read-on-requires src/lib.rt:89:9
-    (λ c. search needs) -- sub-t8 src/lib.rt:91:32
-    (λ c. search needs) -- sub-t9 src/lib.rt:91:32
-    (λ c. ?) -- returns-2 src/lib.rt:91:9 [start 6; if2 0, read-on 1, if1 2, first-deep 3]
-    (λ c κs. search needs) -- find-scopes-requires src/lib.rt:93:5
-    (λ c. ?) -- returns-3 src/lib.rt:80:1 [start 7; find-scopes 0, laid 0, asked 0, spec 0, if2 1, read-on 2, if1 3, first-deep 4]
-    )
+    (λ c κs. read-standing _ _ (c .before .before .pre))
+    (λ c. found-deep _ _ (c .before .before .before .before .pre .end) _ (c .before .first-deep .ensures) (c .if1 .taken))
+    (λ c κs. search needs)
+    (λ c. let x = c .before .before .before .before .before .before .pre in omega (arith, read-tells _ (x .holds) (x .end) (c .before .read-on .ensures) .unguarded (c .if2 .taken) .0))
+    (λ c. let x = c .before .before .before .before .before .before .pre in omega (arith, read-tells _ (x .holds) (x .end) (c .before .read-on .ensures) .unguarded (c .if2 .taken) .0))
+    (λ c. found-choice _ _ (c .before .before .before .before .before .before .pre .end) _ (c .before .before .before .first-deep .ensures) (c .before .before .if1 .left) _ (c .before .read-on .ensures) (c .if2 .taken))
+    (λ c κs. search needs)
+    (λ c t h. found-rest _ _ (c .before .before .before .before .before .before .before .pre .end) _ (c .before .before .before .before .first-deep .ensures) (c .before .before .before .if1 .left) _ (c .before .before .read-on .ensures) (c .before .if2 .left) (c .find-scopes .result) t h (c .find-scopes .ensures t h)))

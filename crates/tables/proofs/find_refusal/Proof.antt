@@ -1,15 +1,24 @@
 use borrow.Author.Needs.{needs}
+use native.Mathlib.Omega.{arith}
+use Rattle.ranges.proofs.Wrong.{wrong-tells}
+use Rattle.tables.proofs.Judging.{whole-length, judge-record, judge-all}
 use Rattle.tables.proofs.find_refusal.Statement.{statement}
 use Rattle.tables.proofs.find_refusal.Tie as tie
-use Rattle.ranges.proofs.find_wrong.Reads as find-wrong-reads
-use Rattle.tables.proofs.find_misshape.Reads as find-misshape-reads
 
 pub find-refusal-spec : {M : Type 1} → statement M
 find-refusal-spec =
-    tie.close (tie.spec
-    (λ c κs. search needs) -- find-wrong-requires src/lib.rt:118:9
-    (λ c. ?) -- returns src/lib.rt:120:9 [start 4; if1 0, find-wrong 1]
-    (λ c κs. ?) -- find-misshape-requires src/lib.rt:122:5 [start 5; if1 1, find-wrong 2]
-    (λ c. search needs) -- same-length src/lib.rt:114:1
-    (λ c. ?) -- returns-2 src/lib.rt:114:1 [start 8; laid 0, asked 0, spec 0, ends 1, find-misshape 2, if1 4, find-wrong 5]
-    )
+    tie.close
+    (tie.spec
+    (λ c κs. search needs)
+    (λ c. record {
+      reply = judge-record _ _ (whole-length _ (c .before .before .before .before .pre .0)) (wrong-tells _ _ (c .before .find-wrong .ensures) .1 (c .if1 .taken) .0);
+      end = λ e. absurd (omega arith);
+    })
+    (λ c κs. let x = c .before .before .before .before .before .pre in (record { bytes = x .0; right = wrong-tells _ _ (c .before .before .find-wrong .ensures) .0 (c .before .if1 .left) }, x .1))
+    (λ c. search needs)
+    (λ c. let x = c .before .before .before .before .before .before .before .before .pre in
+    let m = c .before .before .find-misshape in
+    record {
+      reply = judge-all _ (m .result) (whole-length _ (x .0)) (wrong-tells _ _ (c .before .before .before .before .before .find-wrong .ensures) .0 (c .before .before .before .before .if1 .left)) (m .ensures .0);
+      end = λ e. m .ensures .1;
+    }))

@@ -1,19 +1,32 @@
 use borrow.Author.Needs.{needs}
+use native.Mathlib.Omega.{arith}
+use Prim.Native.Nat.{_*_}
+use borrow.Author.Tests.{not-false}
+use Rattle.ranges.proofs.FieldRanges.{ranged-kind}
 use Rattle.tables.proofs.quick.sound.Statement.{statement}
 use Rattle.tables.proofs.quick.sound.Tie as tie
-use Rattle.ranges.proofs.fields_right.Reads as fields-right-reads
-use Rattle.shapes.proofs.shape_of.Reads as shape-of-reads
 
 pub sound-spec : {M : Type 1} → statement M
 sound-spec =
     tie.close
     (tie.spec
-    (λ c κs. search needs) -- fields-right-requires src/quick.rt:25:9
-    (λ c. ?) -- returns src/quick.rt:26:9 [start 7; if1 0, fields-right 1]
-    (λ c κs. ?) -- shape-of-requires src/quick.rt:32:5 [start 11; if1 4, fields-right 5]
-    (λ c. search needs) -- same-length src/quick.rt:15:1
-    (λ c. search needs) -- same-length-2 src/quick.rt:15:1
-    (λ c. search needs) -- same-length-3 src/quick.rt:15:1
-    (λ c. search needs) -- same-length-4 src/quick.rt:15:1
-    (λ c. ?) -- returns-2 src/quick.rt:15:1 [start 20; laid 0, asked 0, spec 0, users 1, marks 3, stack 5, ends 7, shape-of 8, if1 13, fields-right 14]
-    )
+    (λ c κs. search needs)
+    (λ c h. absurd (h (omega arith)))
+    (λ c κs. let x = c .before .before .before .before .before .before .before .before .before .before .before .pre in
+    let l = x .1 in
+    record {
+      few = omega (arith, x .0 .short);
+      known = λ i k. ranged-kind _ (16 * i) (c .before .before .before .before .before .fields-right .ensures (not-false _ (c .before .before .before .before .if1 .left)) i k);
+      end = l .ends-room;
+      below = l .stack-room;
+      mark = l .marks-room;
+      user = l .users-room;
+    })
+    (λ c. search needs) (λ c. search needs) (λ c. search needs) (λ c. search needs)
+    (λ c h. let s = c .before .before .before .before .before .before .before .before .shape-of .ensures h in
+    record {
+      fields = c .before .before .before .before .before .before .before .before .before .before .before .before .before .before .fields-right .ensures (not-false _ (c .before .before .before .before .before .before .before .before .before .before .before .before .before .if1 .left));
+      whole = s .whole;
+      low = s .low;
+      lists = record { end = s .end; delimitations = s .mark; marks-room = omega (arith, c .before .before .before .before .before .before .before .before .before .before .before .before .before .before .before .before .before .before .before .before .pre .1 .marks-room, c .before .before .before .before .before .before .before .before .shape-of .kept .1 .1 .1 .0); uses = s .user; users-room = omega (arith, c .before .before .before .before .before .before .before .before .before .before .before .before .before .before .before .before .before .before .before .before .pre .1 .users-room, c .before .before .before .before .before .before .before .before .shape-of .kept .1 .1 .1 .1 .0) };
+    }))
