@@ -8,12 +8,15 @@ use plans::Judgement;
 use plans::Plan;
 use plans::cutting::left;
 use plans::refused;
+use records::Atom;
 use records::Found;
+use records::Takes;
 use records::kinds;
 use records::wide16;
-use renaming::binding::write_bound;
+use renaming::binding::write_within;
 use scoping::all_in_scope;
 use ways::place_at;
+use ways::scope;
 ghost use mathlib.Core.Path.{_≡_};
 ghost use Prim.Native.Nat.{ℕ, _/_, _<_};
 ghost use lib.ListN.{length};
@@ -88,6 +91,29 @@ pub fn judge(s: &[u8], ends: &[u16], a: usize, b: usize) -> Plan
     }
 }
 
+// The outer one of place p and the delimitation around place b of the variable that takes a value, if one does.
+fn outer(s: &[u8], ends: &[u16], b: usize, t: Takes, p: usize) -> usize
+    requires { ⌜ Known (now s) (now ends) × (b < length (now s) / 16) ⌝ }
+    ensures { λ r. ⌜ ((t : Term) → Table (now (s .entry)) (now (ends .entry)) t → Over t p b → Outer t b p taken r) ⌝ }
+{
+    let Takes::Pair(x, v) = t else {
+        return p;
+    };
+    let Found::At(q) = scope(s, ends, b, Atom::Variable(x)) else {
+        return p;
+    };
+    if q < p { q } else { p }
+}
+
+// Where what changes begins: the outermost delimitation that goes, or the invoke at place b if none does.
+fn outermost(s: &[u8], ends: &[u16], b: usize, t0: Takes, t1: Takes, t2: Takes, t3: Takes) -> usize
+{
+    let p0 = outer(s, ends, b, t0, b);
+    let p1 = outer(s, ends, b, t1, p0);
+    let p2 = outer(s, ends, b, t2, p1);
+    outer(s, ends, b, t3, p2)
+}
+
 // The successor when the receive at place a meets the invoke at place b: what stands ahead of the choice, the continuation, and what stands behind the choice, with the invoke silenced and the variables bound.
 pub fn write(s: &[u8], ends: &[u16], a: usize, b: usize, from: usize, out: &mut [u8])
     requires { ⌜ Asks (λ t. communicateAt t a b) (λ t. startOf a (wayTo t a)) (now s) (now ends) from (now out) ⌝ }
@@ -101,7 +127,9 @@ pub fn write(s: &[u8], ends: &[u16], a: usize, b: usize, from: usize, out: &mut 
     let t3 = takes_at(s, k + 12, m + 12);
     let end = wide16(ends[a]);
     let rest = wide16(ends[from]);
-    let body = write_bound(s, 0, from, b, t0, t1, t2, t3, out, 0);
-    let back = write_bound(s, a + 1, end, b, t0, t1, t2, t3, out, body);
-    write_bound(s, rest, s.len() / 16, b, t0, t1, t2, t3, out, back);
+    let low = outermost(s, ends, b, t0, t1, t2, t3);
+    let high = wide16(ends[low]);
+    let body = write_within(s, 0, from, low, high, b, t0, t1, t2, t3, out, 0);
+    let back = write_within(s, a + 1, end, low, high, b, t0, t1, t2, t3, out, body);
+    write_within(s, rest, s.len() / 16, low, high, b, t0, t1, t2, t3, out, back);
 }

@@ -1,10 +1,11 @@
 -- The records of a table one after the other (specs/Mapped: along, across), from bytes and from the records of a term.
 use mathlib.Core.Path.{_≡_, refl, sym, ap, _∙_}
-use mathlib.Core.List.{List, [], _∷_, _++_, flatMap}
-use Prim.Native.Nat.{ℕ, suc, _+_, _-_, _*_, _≤_, _<_}
+use mathlib.Core.List.{List, [], _∷_, _++_, flatMap, append-assoc}
+use Prim.Native.Nat.{ℕ, zero, suc, _+_, _-_, _*_, _≤_, _<_}
 use native.Mathlib.Omega.{arith}
 use native.Mathlib.Numerals.{add-one}
-use lib.ListN.{length, take, drop, length-append}
+use lib.ListN.{length, take, drop, length-append, length-drop}
+use lib.Seq.{take-add, drop-drop, length-take-le}
 use Rattle.cows.specs.Terms.{Term, size}
 use Rattle.cows.specs.Kinds.{Node}
 use Rattle.cows.specs.Format.{nodes, record16, bytes, encode}
@@ -31,6 +32,56 @@ module _ (g : List ℕ → List ℕ) (s : List ℕ) (i to : ℕ) where
 
   pub across-end : to ≤ i → across g s i (to - i) ≡ []
   across-end = along-end (λ j. g) s i to
+
+-- The records from place `from` to place `to`, of which g changes none outside the places `first` to `last`.
+module _ (g : ℕ → List ℕ → List ℕ) (s : List ℕ) where
+  abbrev pub KeepsAt : ℕ → Type 0
+  KeepsAt j = g j (piece s (16 * j)) ≡ piece s (16 * j)
+
+  along-append : (i m n : ℕ) → along g s i (m + n) ≡ along g s i m ++ along g s (i + m) n
+  unfolding along
+  along-append i zero n = let z : i + 0 ≡ i = omega arith in let y : 0 + n ≡ n = omega arith in rw (z, y)
+  along-append i (suc m) n =
+      let z : suc m + n ≡ suc (m + n) = omega arith in
+      let y : i + suc m ≡ suc i + m = omega arith in
+      rw (z, y, along-append (suc i) m n) (sym (append-assoc (g i (piece s (16 * i))) (along g s (suc i) m) (along g s (suc i + m) n)))
+
+  along-kept : (i n : ℕ) → ((j : ℕ) → i ≤ j → j < i + n → KeepsAt j) → along g s i n ≡ take (16 * n) (drop (16 * i) s)
+  unfolding along
+  along-kept i zero h = refl
+  along-kept i (suc n) h =
+      let z : 16 * suc n ≡ 16 + 16 * n = omega arith in
+      let y : 16 * i + 16 ≡ 16 * suc i = omega arith in
+      rw (h i (omega arith) (omega arith), z, take-add 16 (16 * n) (drop (16 * i) s), drop-drop 16 (16 * i) s, y)
+      (ap (λ b. piece s (16 * i) ++ b) (along-kept (suc i) n (λ j l m. h j (omega arith) (omega arith))))
+
+  module _ (from first last to : ℕ) (a : from ≤ first) (b : first ≤ last) (c : last ≤ to) (l : 16 * to ≤ length s) (h : (j : ℕ) → from ≤ j → j < first → KeepsAt j) (k : (j : ℕ) → last ≤ j → j < to → KeepsAt j) where
+    abbrev front : List ℕ
+    front = take (16 * (first - from)) (drop (16 * from) s)
+
+    abbrev back : List ℕ
+    back = take (16 * (to - last)) (drop (16 * last) s)
+
+    pub along-between : along g s from (to - from) ≡ front ++ (along g s first (last - first) ++ back)
+    along-between =
+        let z : to - from ≡ (first - from) + ((last - first) + (to - last)) = omega arith in
+        let y : from + (first - from) ≡ first = omega arith in
+        let x : first + (last - first) ≡ last = omega arith in
+        rw (
+          z,
+          along-append from (first - from) ((last - first) + (to - last)),
+          y,
+          along-append first (last - first) (to - last),
+          x,
+          along-kept from (first - from) (λ j i m. h j i (omega arith)),
+          along-kept last (to - last) (λ j i m. k j i (omega arith)),
+        )
+
+    pub between-lengths : (length front ≡ 16 * (first - from)) × (length back ≡ 16 * (to - last)) × (length (along g s from (to - from)) ≡ 16 * (first - from) + length (along g s first (last - first)) + 16 * (to - last))
+    between-lengths =
+        let f : length front ≡ 16 * (first - from) = length-take-le (16 * (first - from)) (drop (16 * from) s) (omega (arith, length-drop (16 * from) s)) in
+        let e : length back ≡ 16 * (to - last) = length-take-le (16 * (to - last)) (drop (16 * last) s) (omega (arith, length-drop (16 * last) s)) in
+        (f, e, omega (arith, ap length along-between, length-append front (along g s first (last - first) ++ back), length-append (along g s first (last - first)) back))
 
 -- Writing what g makes of the records: the whole is what was written so far, up to byte j, and what is left from place i on.
 pub record Writing (g : ℕ → List ℕ → List ℕ) (s d₀ : List ℕ) (at from to : ℕ) (d : List ℕ) (i j : ℕ) : Type 0 where

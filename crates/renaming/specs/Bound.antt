@@ -1,8 +1,10 @@
 -- The records of a table after a communication: up to four variables become the values that they take, their delimitations go, and the invoke becomes nil.
+use mathlib.Core.Path.{_≡_}
 use mathlib.Core.Bool.{Bool, false, cond, _&&_, _||_}
 use mathlib.Core.List.{List, []}
-use Prim.Native.Nat.{ℕ}
+use Prim.Native.Nat.{ℕ, _+_, _*_, _≤_, _<_}
 use lib.Dec.{eqb}
+use lib.ListN.{length, take, drop}
 use Rattle.cows.specs.Terms.{nil}
 use Rattle.cows.specs.Kinds.{basic}
 use Rattle.cows.specs.Format.{byte, word, record16}
@@ -44,3 +46,12 @@ module _ (t₀ t₁ t₂ t₃ : Takes) where
   -- and of the n records of s from place i on
   abbrev pub boundRecords : (b : ℕ) (s : List ℕ) (i n : ℕ) → List ℕ
   boundRecords b s i n = along (recordBound b) s i n
+
+  -- the record of s at place j stays as it is
+  abbrev pub Stays : (b : ℕ) (s : List ℕ) (j : ℕ) → Type 0
+  Stays b s j = 16 * j + 15 < length s → recordBound b j (take 16 (drop (16 * j) s)) ≡ take 16 (drop (16 * j) s)
+
+  -- What changes stands at places `low` to `high` (not included).
+  pub record Unchanged (b : ℕ) (s : List ℕ) (low high : ℕ) : Type 0 where
+    pub ahead : (j : ℕ) → j < low → Stays b s j
+    pub behind : (j : ℕ) → high ≤ j → Stays b s j

@@ -4,6 +4,7 @@ use records::Atom;
 use records::Takes;
 use records::atom_at;
 use records::closed;
+use records::copying::copy;
 use records::copying::copy_record;
 use records::copying::put_nil;
 use records::image;
@@ -15,7 +16,7 @@ ghost use Rattle.cows.specs.Format.{word};
 ghost use Rattle.records.specs.Atoms.{classOf};
 ghost use Rattle.records.specs.Rewrites.{put};
 ghost use Rattle.renaming.specs.Mapped.{mapRecord};
-ghost use Rattle.renaming.specs.Bound.{takesAtom, imageAtom, imageOfAll, goes, recordBound, boundRecords};
+ghost use Rattle.renaming.specs.Bound.{takesAtom, imageAtom, imageOfAll, goes, recordBound, boundRecords, Unchanged};
 
 // Whether one of the four takes the atom a.
 fn takes(a: Atom, t0: Takes, t1: Takes, t2: Takes, t3: Takes) -> bool
@@ -117,7 +118,7 @@ fn put_bound(
 }
 
 // Writes what becomes of the records at places `from` to `to` (not included), nil at place b, from byte `at` on; the answer is where writing goes on.
-pub fn write_bound(
+fn write_bound(
     s: &[u8],
     from: usize,
     to: usize,
@@ -139,4 +140,54 @@ pub fn write_bound(
         i += 1;
     }
     next
+}
+
+// The place x, or the end of `from` to `to` that is nearer to it.
+fn nearest(x: usize, from: usize, to: usize) -> usize
+    requires { ⌜ from ≤ to ⌝ }
+    ensures { λ r. ⌜ (from ≤ r) × (r ≤ to) × (from < r → r ≤ x) × (r < to → x ≤ r) ⌝ }
+{
+    if x < from {
+        return from;
+    }
+    if to < x {
+        return to;
+    }
+    x
+}
+
+// Copies the records at places `from` to `to` (not included) as a block, from byte `at` on; the answer is where writing goes on.
+fn copy_records(s: &[u8], from: usize, to: usize, dst: &mut [u8], at: usize) -> usize
+    requires { ⌜ (from ≤ to) × (16 * to ≤ length (now s)) × (at + 16 * (to - from) ≤ length (now dst)) ⌝ }
+    ensures { λ r. ⌜ (now (dst .exit) ≡ put (now (dst .entry)) at (take (16 * (to - from)) (drop (16 * from) (now (s .entry))))) × (r ≡ at + 16 * (to - from)) ⌝ }
+{
+    let len = 16 * (to - from);
+    copy(s, 16 * from, len, dst, at);
+    at + len
+}
+
+// The same as write_bound where what changes stands at places `low` to `high` (not included): all else is copied as a block.
+pub fn write_within(
+    s: &[u8],
+    from: usize,
+    to: usize,
+    low: usize,
+    high: usize,
+    b: usize,
+    t0: Takes,
+    t1: Takes,
+    t2: Takes,
+    t3: Takes,
+    dst: &mut [u8],
+    at: usize,
+) -> usize
+    requires { ⌜ (from ≤ to) × (16 * to ≤ length (now s)) × Unchanged t0 t1 t2 t3 b (now s) low high ⌝ }
+    requires { ⌜ at + length (boundRecords t0 t1 t2 t3 b (now s) from (to - from)) ≤ length (now dst) ⌝ }
+    ensures { λ r. ⌜ (now (dst .exit) ≡ put (now (dst .entry)) at (boundRecords t0 t1 t2 t3 b (now (s .entry)) from (to - from))) × (r ≡ at + length (boundRecords t0 t1 t2 t3 b (now (s .entry)) from (to - from))) ⌝ }
+{
+    let first = nearest(low, from, to);
+    let last = nearest(high, first, to);
+    let front = copy_records(s, from, first, dst, at);
+    let back = write_bound(s, first, last, b, t0, t1, t2, t3, dst, front);
+    copy_records(s, last, to, dst, back)
 }
