@@ -37,6 +37,7 @@ use Rattle.matching.proofs.Parties.{receive-ends, invoke-ends}
 use Rattle.renaming.specs.Mapped.{mapNode, mapRecord, along}
 use Rattle.renaming.specs.Bound.{takesOne, imageOfAll, goes, recordBound, boundRecords}
 use Rattle.renaming.proofs.Mapped.{record-mapped}
+use Rattle.renaming.proofs.Bound.{goes-delimitation}
 use Rattle.renaming.proofs.Occurring.{not-zero}
 use Rattle.matching.specs.Taking.{takesOf}
 use Rattle.communicate.proofs.Left.{Matched}
@@ -82,12 +83,6 @@ cond-bytes true n = refl
 cond-bytes false n = sym (append-nil (record16 n))
 
 module _ (t₀ t₁ t₂ t₃ : Takes) (σ : Substitution) (same : (a : ℕ) → imageOfAll t₀ t₁ t₂ t₃ a ≡ image σ a) (keys : (a : ℕ) → a ≢ 0 → takesOne t₀ t₁ t₂ t₃ a ≡ any (λ (p : ℕ × ℕ). eqb (p .0) a) σ) (zero-same : image σ 0 ≡ 0) where
-  goes-delimitation : (d : ℕ) → goes t₀ t₁ t₂ t₃ (record16 (prefix (delimitation d))) ≡ takesOne t₀ t₁ t₂ t₃ d
-  unfolding goes
-  goes-delimitation d =
-      let z : word (record16 (prefix (delimitation d))) 2 ≡ d = unfold root in first-delimitation d (leaf nil) in
-      rw z (unfold record16 layout byte in refl)
-
   goes-node : (n : Node) → RightNode n → goes t₀ t₁ t₂ t₃ (record16 n) ≡ any (λ (p : ℕ × ℕ). nodeDelimits (p .0) n) σ
   unfolding goes record16 layout byte nodeDelimits delimitsAtom delimits foundWith
   goes-node (basic nil) r = sym (any-none σ)
@@ -96,7 +91,7 @@ module _ (t₀ t₁ t₂ t₃ : Takes) (σ : Substitution) (same : (a : ℕ) →
   goes-node (prefix (receive p o ws)) r = sym (any-none σ)
   goes-node (prefix (wait n)) r = sym (any-none σ)
   goes-node (prefix protection) r = sym (any-none σ)
-  goes-node (prefix (delimitation d)) r = goes-delimitation d ∙ keys d (not-zero d r)
+  goes-node (prefix (delimitation d)) r = goes-delimitation t₀ t₁ t₂ t₃ d ∙ keys d (not-zero d r)
   goes-node (prefix replication) r = sym (any-none σ)
   goes-node (join choice) r = sym (any-none σ)
   goes-node (join parallel) r = sym (any-none σ)
@@ -156,6 +151,13 @@ module _ (s : List ℕ) (t : Term) (a b : ℕ) (q m : Action) (σ : Substitution
   -- what the slots of the pattern take from the tuple's
   abbrev slot : ℕ → Takes
   slot i = takesOf (getD (q .tuple) i 0) (getD (m .tuple) i 0)
+
+  -- what they take is bound
+  pub taken-bound : (x : ℕ) → takesOne (takesOf (word s (16 * a + 6)) (word s (16 * b + 6))) (takesOf (word s (16 * a + 8)) (word s (16 * b + 8))) (takesOf (word s (16 * a + 10)) (word s (16 * b + 10)))
+      (takesOf (word s (16 * a + 12)) (word s (16 * b + 12))) x ≡ true → any (λ (p : ℕ × ℕ). eqb (p .0) x) σ ≡ true
+  taken-bound x e =
+      sym (takers-match t matches all-bind (receiver .few) x)
+      ∙ (rw (receiver .slot0, receiver .slot1, receiver .slot2, receiver .slot3, sender .slot0, sender .slot1, sender .slot2, sender .slot3) at e)
 
   -- the n records from place i on
   module _ (i n : ℕ) (l : i + n ≤ size t) where

@@ -19,13 +19,15 @@ use Rattle.records.specs.Rewrites.{put}
 use Rattle.records.proofs.Put.{and-then}
 use Rattle.ways.specs.Ways.{startOf}
 use Rattle.ways.proofs.KnownTables.{table-size, table-ended}
-use Rattle.renaming.specs.Bound.{boundRecords}
+use Rattle.renaming.specs.Bound.{boundRecords, Unchanged}
 use Rattle.plans.specs.Plans.{Asks}
 use Rattle.plans.specs.Cutting.{Span}
 use Rattle.matching.specs.Taking.{takesOf}
 use Rattle.plans.proofs.Continuing.{span}
+use Rattle.communicate.specs.Outermost.{Outermost}
 use Rattle.communicate.proofs.Left.{Met, accepted-met}
 use Rattle.communicate.proofs.Replacing.{metRecords, part-bound}
+use Rattle.communicate.proofs.Outside.{outside-unchanged}
 
 -- The bytes ahead of the choice, those of the continuation and those behind the choice, each of them bound, fit the output, and are the table of r.
 pub record Parts (front body back out : List ℕ) (r : Term) : Type 0 where
@@ -98,3 +100,13 @@ module _ {s ends : List ℕ} (a b : ℕ) {from : ℕ} {out : List ℕ} (q : Asks
         → t₂ ≡ takesOf (word s (16 * a + 10)) (word s (16 * b + 10)) → t₃ ≡ takesOf (word s (16 * a + 12)) (word s (16 * b + 12))
         → Parts (boundRecords t₀ t₁ t₂ t₃ b s 0 (from - 0)) (boundRecords t₀ t₁ t₂ t₃ b s (a + 1) (end - (a + 1))) (boundRecords t₀ t₁ t₂ t₃ b s rest (length s / 16 - rest)) out (q .successor)
     asks-parts e₀ e₁ e₂ e₃ = let z : from - 0 ≡ from = omega arith in rw (z, e₀, e₁, e₂, e₃) met-parts
+
+  -- what changes stands from place low on, where the outermost delimitation that goes stands, to its end
+  pub asks-unchanged : {t₀ t₁ t₂ t₃ : Takes} → t₀ ≡ takesOf (word s (16 * a + 6)) (word s (16 * b + 6)) → t₁ ≡ takesOf (word s (16 * a + 8)) (word s (16 * b + 8))
+      → t₂ ≡ takesOf (word s (16 * a + 10)) (word s (16 * b + 10)) → t₃ ≡ takesOf (word s (16 * a + 12)) (word s (16 * b + 12))
+      → {low high : ℕ} → Outermost t b t₀ t₁ t₂ t₃ low → high ≡ getD ends low 0 → Unchanged t₀ t₁ t₂ t₃ b s low high
+  asks-unchanged e₀ e₁ e₂ e₃ {low} o f =
+      rw (e₀, e₁, e₂, e₃) (outside-unchanged (q .known .table) a b (met .receive) (met .invoke) (met .pairs) (met .matched) low (rw (e₀, e₁, e₂, e₃) at o) f)
+
+  pub low-inside : {low : ℕ} {t₀ t₁ t₂ t₃ : Takes} → Outermost t b t₀ t₁ t₂ t₃ low → low < length s / 16
+  low-inside o = omega (arith, o .over .inside, whole)

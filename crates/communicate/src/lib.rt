@@ -24,9 +24,10 @@ ghost use Rattle.cows.specs.Terms.{Term};
 ghost use Rattle.cows.specs.Places.{wayTo};
 ghost use Rattle.cows.specs.Moves.{communicateAt};
 ghost use Rattle.ways.specs.Known.{Table, Known};
-ghost use Rattle.ways.specs.Ways.{startOf, LiveAt};
+ghost use Rattle.ways.specs.Ways.{startOf, LiveAt, Over};
 ghost use Rattle.plans.specs.Plans.{Planned, Asks, Gives};
 ghost use Rattle.communicate.specs.Judging.{BothLive, BothMatch, Meetable, Settles, Continues};
+ghost use Rattle.communicate.specs.Outermost.{Outer, Outermost};
 
 // What the parties are asked: they may meet and bind so many variables, or the refusal.
 enum Asked {
@@ -92,21 +93,26 @@ pub fn judge(s: &[u8], ends: &[u16], a: usize, b: usize) -> Plan
 }
 
 // The outer one of place p and the delimitation around place b of the variable that takes a value, if one does.
-fn outer(s: &[u8], ends: &[u16], b: usize, t: Takes, p: usize) -> usize
+fn outer(s: &[u8], ends: &[u16], b: usize, taken: Takes, p: usize) -> usize
     requires { ⌜ Known (now s) (now ends) × (b < length (now s) / 16) ⌝ }
     ensures { λ r. ⌜ ((t : Term) → Table (now (s .entry)) (now (ends .entry)) t → Over t p b → Outer t b p taken r) ⌝ }
 {
-    let Takes::Pair(x, v) = t else {
+    let Takes::Pair(x, v) = taken else {
         return p;
     };
     let Found::At(q) = scope(s, ends, b, Atom::Variable(x)) else {
         return p;
     };
-    if q < p { q } else { p }
+    if q < p {
+        return q;
+    }
+    p
 }
 
-// Where what changes begins: the outermost delimitation that goes, or the invoke at place b if none does.
+// Where what changes begins: at the outermost delimitation that goes, or at the invoke at place b if none does.
 fn outermost(s: &[u8], ends: &[u16], b: usize, t0: Takes, t1: Takes, t2: Takes, t3: Takes) -> usize
+    requires { ⌜ Known (now s) (now ends) × (b < length (now s) / 16) ⌝ }
+    ensures { λ r. ⌜ ((t : Term) → Table (now (s .entry)) (now (ends .entry)) t → Outermost t b t0 t1 t2 t3 r) ⌝ }
 {
     let p0 = outer(s, ends, b, t0, b);
     let p1 = outer(s, ends, b, t1, p0);
@@ -131,5 +137,18 @@ pub fn write(s: &[u8], ends: &[u16], a: usize, b: usize, from: usize, out: &mut 
     let high = wide16(ends[low]);
     let body = write_within(s, 0, from, low, high, b, t0, t1, t2, t3, out, 0);
     let back = write_within(s, a + 1, end, low, high, b, t0, t1, t2, t3, out, body);
-    write_within(s, rest, s.len() / 16, low, high, b, t0, t1, t2, t3, out, back);
+    write_within(
+        s,
+        rest,
+        s.len() / 16,
+        low,
+        high,
+        b,
+        t0,
+        t1,
+        t2,
+        t3,
+        out,
+        back,
+    );
 }

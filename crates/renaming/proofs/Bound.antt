@@ -161,7 +161,7 @@ module _ (t₀ t₁ t₂ t₃ : Takes) where
 
   -- The records from place `from` to place `to`, where what changes stands at places `low` to `high`: those to place `first` and those from place `last` on stay.
   module _ (b : ℕ) (s : List ℕ) {low high from first last to : ℕ} (u : Unchanged t₀ t₁ t₂ t₃ b s low high) (l : 16 * to ≤ length s)
-    (m : (from ≤ first) × (first ≤ to) × (from < first → first ≤ low) × (first < to → low ≤ first)) (n : (first ≤ last) × (last ≤ to) × (first < last → last ≤ high) × (last < to → high ≤ last)) where
+      (m : (from ≤ first) × (first ≤ to) × (from < first → first ≤ low) × (first < to → low ≤ first)) (n : (first ≤ last) × (last ≤ to) × (first < last → last ≤ high) × (last < to → high ≤ last)) where
     abbrev pub bound : ℕ → ℕ → List ℕ
     bound i j = boundRecords t₀ t₁ t₂ t₃ b s i (j - i)
 

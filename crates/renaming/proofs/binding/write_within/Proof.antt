@@ -35,7 +35,8 @@ write-within-spec =
     let x = n .before .nearest .ensures in
     let y = n .nearest2 .ensures in
     let l = bound-lengths _ _ _ _ _ _ (q .0 .2) (q .0 .1) x y in
-    let z = c .before .before .copy-records2 .ensures in
-    (rw (bound-between _ _ _ _ _ _ (q .0 .2) (q .0 .1) x y)
-    (and-then _ _ _ _ _ (omega (arith, l, r .copy-records .ensures .1)) (r .copy-records .ensures .0) (and-then _ _ _ _ _ (w .write-bound .ensures .1) (w .write-bound .ensures .0) (z .0))),
-    omega (arith, l, r .copy-records .ensures .1, w .write-bound .ensures .1, z .1))))
+    let z = c .before .before .copy-records2 .ensures in (
+      rw (bound-between _ _ _ _ _ _ (q .0 .2) (q .0 .1) x y)
+          (and-then _ _ _ _ _ (omega (arith, l, r .copy-records .ensures .1)) (r .copy-records .ensures .0) (and-then _ _ _ _ _ (w .write-bound .ensures .1) (w .write-bound .ensures .0) (z .0))),
+      omega (arith, l, r .copy-records .ensures .1, w .write-bound .ensures .1, z .1),
+    )))
