@@ -77,6 +77,10 @@ module _ {s ends : List ℕ} {t : Term} {a b : ℕ} (z : Table s ends t) (h : Bo
   unfolding invokes
   invoke-wanted = live-wanted invokes t b m _ refl (record { at = record { placed = h .invoke .inside; stands = invoke .1 }; live = h .invoke .live })
 
+  pub receives-here : prefixed receives (sub t a) ≡ some q
+  unfolding prefixed receives
+  receives-here = ap (prefixed receives) (receive .1)
+
   pub ends-b : ActionAt s b m
   ends-b = invoke .2
 

@@ -11,12 +11,12 @@ use borrow.Author.Tests.{eqb-true}
 use Rattle.cows.specs.Basics.{any, member}
 use Rattle.cows.specs.Terms.{Term, Action, size, variable, label, bindable, delimitsAt, uses}
 use Rattle.cows.specs.Kinds.{root}
-use Rattle.cows.specs.Places.{descend, spotAt, wayTo, sub, enclosed}
+use Rattle.cows.specs.Places.{wayTo, sub, enclosed}
 use Rattle.cows.specs.Format.{word, record16}
 use Rattle.cows.specs.Allows.{AllReach}
 use Rattle.cows.specs.Moves.{Substitution}
 use Rattle.cows.proofs.Basics.{never, clash, bool-case, not-so, or-case, or-left, found-some}
-use Rattle.cows.proofs.Places.{size-pos, spot-fits, at-part, descend-here}
+use Rattle.cows.proofs.Places.{size-pos, spot-fits}
 use Rattle.cows.proofs.Reach.{is-delimitsAt, enclosed-reaches}
 use Rattle.cows.proofs.Meeting.{inScope-reaches}
 use Rattle.cows.proofs.Stands.{scoped-at}
@@ -36,6 +36,7 @@ use Rattle.matching.specs.Taking.{takesOf}
 use Rattle.renaming.specs.Bound.{takesOne, recordBound, Unchanged}
 use Rattle.renaming.proofs.Bound.{not-taken, untaken-stays}
 use Rattle.scoping.proofs.InScope.{bound-used}
+use Rattle.holding.proofs.HeldBack.{part-sub}
 use Rattle.communicate.specs.Outermost.{NoneAhead, Outer, Outermost}
 use Rattle.communicate.proofs.Left.{Matched}
 use Rattle.communicate.proofs.Replacing.{taken-bound}
@@ -77,14 +78,11 @@ outers c d e f = record {
 
 -- a term that begins inside another ends there
 nested : (t : Term) (p q : ℕ) → Over t p q → q + size (sub t q) ≤ p + size (sub t p)
-unfolding sub spotAt
 nested t p q o =
-    let l = o .inside in
     let i : q - p < size (sub t p) = omega (arith, o .low, o .over) in
-    let (j, e, w) = at-part t p (q - p) (sub t p) (descend (wayTo t p) (sub t p) (q - p) .way) (descend (wayTo t p) (sub t p) (q - p) .here) l refl i refl in
     let z : p + (q - p) ≡ q = omega (arith, o .low) in
-    let y : size (sub t q) ≡ size (sub (sub t p) (q - p)) = ap (λ k. size (sub t k)) (sym z) ∙ ap size (e ∙ descend-here (wayTo t p) [] (sub t p) (q - p)) in
-    omega (arith, y, spot-fits (sub t p) (q - p) i, o .low)
+    let y : sub t q ≡ sub (sub t p) (q - p) = ap (sub t) (sym z) ∙ part-sub t p (o .inside) (q - p) i in
+    omega (arith, ap size y, spot-fits (sub t p) (q - p) i, o .low)
 
 -- a variable that is bound is delimited around the invoke
 bound-enclosed : (t : Term) (a b x : ℕ) (σ : Substitution) → AllReach t a b σ → any (λ (p : ℕ × ℕ). eqb (p .0) x) σ ≡ true → enclosed x (wayTo t b) ≡ true

@@ -46,7 +46,7 @@ fn ask_matched(s: &[u8], ends: &[u16], a: usize, b: usize, l: usize) -> Asked
     if let Found::At(p) = holding::first_held(s, ends, a, b) {
         return Asked::Barred(Judgement::Held(p));
     }
-    if let Found::At(p) = holding::conflicts::first_tighter(s, ends, b, l) {
+    if let Found::At(p) = holding::conflicts::first_rival(s, ends, a, b, l) {
         return Asked::Barred(Judgement::Looser(p));
     }
     Asked::Agreed(l)

@@ -1,3 +1,4 @@
 pub mod HeldBack
 pub mod Marking
 pub mod Conflicting
+pub mod Labelled

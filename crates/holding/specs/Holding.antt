@@ -1,14 +1,15 @@
--- Holding back (refusal 14): the labels of which a ready kill stands in a term.
+-- Holding back (refusal 14): the labels of which a ready kill stands in a term, and those around a place. Conflicts (15): the other receives on an endpoint.
 use mathlib.Core.Path.{_≡_}
-use mathlib.Core.Bool.{true, not}
+use mathlib.Core.Bool.{Bool, true, false, not, _&&_}
 use mathlib.Core.List.{List}
-use Prim.Native.Nat.{ℕ, _-_, _/_, _<_}
+use Prim.Native.Nat.{ℕ, _+_, _*_, _-_, _/_, _<_}
 use lib.Dec.{eqb}
 use lib.ListN.{length, getD}
 use Rattle.cows.specs.Limits.{firstLabel}
 use Rattle.cows.specs.Basics.{found}
 use Rattle.cows.specs.Terms.{Term, label}
-use Rattle.cows.specs.Places.{wayTo, first}
+use Rattle.cows.specs.Places.{wayTo, first, enclosed}
+use Rattle.cows.specs.Format.{word}
 use Rattle.cows.specs.Active.{live}
 use Rattle.cows.specs.Moves.{readyKill}
 use Rattle.ways.specs.Known.{Table, Known}
@@ -34,3 +35,11 @@ pub record Sides (s ends marks : List ℕ) (a b : ℕ) : Type 0 where
   pub left : a < length s / 16
   pub right : b < length s / 16
   pub room : length marks ≡ 16384
+
+-- no delimitation of a label encloses place a
+abbrev pub Unlabelled : Term → ℕ → Type 0
+Unlabelled t a = (k : ℕ) → label k ≡ true → enclosed k (wayTo t a) ≡ false
+
+-- the record at place i, which is not place a, is a receive on the endpoint of the invoke at place b
+unfoldable pub rivalAt : (s : List ℕ) (a b i : ℕ) → Bool
+rivalAt s a b i = not (eqb i a) && (eqb (getD s (16 * i) 0) 3 && (eqb (word s (16 * i + 2)) (word s (16 * b + 2)) && eqb (word s (16 * i + 4)) (word s (16 * b + 4))))

@@ -1,7 +1,9 @@
 // What holds a communication back whose parties match: ready kills (refusal 14, here) and tighter receives (15, conflicts).
 // 14: the first delimitation of a label that encloses a party of a meeting and holds a ready kill of the label.
 pub mod conflicts;
+mod labels;
 
+use labels::labelled;
 use records::Atom;
 use records::Found;
 use records::Label;
@@ -130,11 +132,14 @@ fn first_marked(s: &[u8], ends: &[u16], a: usize, b: usize, marks: &[u8]) -> Fou
     Found::Nothing
 }
 
-// The first delimitation that holds back a meeting of the live places a and b.
+// The first delimitation that holds back a meeting of the live places a and b. Where no label is delimited around either, or no kill is ready, none does.
 pub fn first_held(s: &[u8], ends: &[u16], a: usize, b: usize) -> Found
     requires { ⌜ Known (now s) (now ends) × (a < length (now s) / 16) × (b < length (now s) / 16) ⌝ }
     ensures { λ r. ⌜ ((t : Term) → Table (now (s .entry)) (now (ends .entry)) t → live (wayTo t a) ≡ true → live (wayTo t b) ≡ true → r ≡ foundOf (first (heldBack a b) t)) ⌝ }
 {
+    if !(labelled(s, ends, a) | labelled(s, ends, b)) {
+        return Found::Nothing;
+    }
     if !any_kill(s, ends) {
         return Found::Nothing;
     }

@@ -2,7 +2,7 @@ use borrow.Author.Needs.{needs}
 use borrow.Author.Tests.{not-true, not-false}
 use mathlib.Core.Path.{refl, sym, _∙_}
 use Rattle.records.proofs.Laws.{found-at, found-nothing}
-use Rattle.communicate.proofs.Judged.{ends-b, parties-fit, meets, closed, apart, held, looser, may-meet}
+use Rattle.communicate.proofs.Judged.{receives-here, ends-b, parties-fit, meets, closed, apart, held, looser, may-meet}
 use Rattle.communicate.proofs.ask_matched.Statement.{statement}
 use Rattle.communicate.proofs.ask_matched.Tie as tie
 
@@ -30,7 +30,7 @@ ask-matched-spec =
     let e = parties-fit z h g in
     let y = sym (j .before .all-in-scope .ensures t _ z (meets z h e)) ∙ not-false _ (j .if1 .left) in
     let x = found-nothing _ (sym (l .enum-told .given .1) ∙ l .before .before .first-held .ensures t z (h .receive .live) (h .invoke .live)) in
-    (15, _, refl, looser z h e y x _ (found-at _ _ (sym (c .before .p2 .given .1) ∙ c .before .before .before .first-tighter .ensures t _ z (ends-b z h) (closed z h e)))))
+    (15, _, refl, looser z h e y x _ (found-at _ _ (sym (c .before .p2 .given .1) ∙ c .before .before .before .first-rival .ensures t _ _ z (receives-here z h) (ends-b z h) (closed z h e) e))))
     (λ c. search needs)
     (λ c t z h g.
     let l = c .before .before .before in
@@ -38,4 +38,4 @@ ask-matched-spec =
     let e = parties-fit z h g in
     let y = sym (j .before .all-in-scope .ensures t _ z (meets z h e)) ∙ not-false _ (j .if1 .left) in
     let x = found-nothing _ (sym (l .enum-told .given .1) ∙ l .before .before .first-held .ensures t z (h .receive .live) (h .invoke .live)) in
-    may-meet z h e y x (found-nothing _ (sym (c .enum-told2 .given .1) ∙ c .before .before .first-tighter .ensures t _ z (ends-b z h) (closed z h e)))))
+    may-meet z h e y x (found-nothing _ (sym (c .enum-told2 .given .1) ∙ c .before .before .first-rival .ensures t _ _ z (receives-here z h) (ends-b z h) (closed z h e) e))))
