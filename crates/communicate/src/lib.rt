@@ -137,18 +137,6 @@ pub fn write(s: &[u8], ends: &[u16], a: usize, b: usize, from: usize, out: &mut 
     let high = wide16(ends[low]);
     let body = write_within(s, 0, from, low, high, b, t0, t1, t2, t3, out, 0);
     let back = write_within(s, a + 1, end, low, high, b, t0, t1, t2, t3, out, body);
-    write_within(
-        s,
-        rest,
-        s.len() / 16,
-        low,
-        high,
-        b,
-        t0,
-        t1,
-        t2,
-        t3,
-        out,
-        back,
-    );
+    let n = s.len() / 16;
+    write_within(s, rest, n, low, high, b, t0, t1, t2, t3, out, back);
 }

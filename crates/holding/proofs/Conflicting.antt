@@ -1,14 +1,14 @@
 -- A receive that fits an invoke and binds fewer variables (cows, specs/Moves, tighter), by the bytes of its record.
 use mathlib.Core.Path.{_≡_, refl, sym, ap, _∙_}
 use mathlib.Core.Logic.{_≢_}
-use mathlib.Core.Bool.{Bool, true, false, not, _||_}
+use mathlib.Core.Bool.{Bool, true, false, _||_}
 use mathlib.Core.List.{List}
 use mathlib.Core.Option.{Option, none, some}
-use Prim.Native.Nat.{ℕ, _+_, _*_, _/_, _<_}
+use Prim.Native.Nat.{ℕ, _+_, _*_, _/_, _≤_, _<_}
 use native.Mathlib.Omega.{arith}
 use lib.Dec.{ltb, eqb}
 use lib.ListN.{length, getD}
-use borrow.Author.Tests.{ltb-true, eqb-true, eqb-false, eq-eqb, ne-eqb}
+use borrow.Author.Tests.{ltb-true, eqb-true, eqb-false, eq-eqb}
 use Rattle.cows.specs.Basics.{foundWith}
 use Rattle.cows.specs.Terms.{Term, Action, size, prefixed, receives, below, receiveOf}
 use Rattle.cows.specs.Kinds.{root, kindOf}
@@ -82,7 +82,7 @@ none-under t m = fails-first (tighter m 0) t (λ i k e. let (q, σ, z, x, n) = t
 
 -- nor than one that is alone on its endpoint
 module _ {s ends : List ℕ} {t : Term} (h : Table s ends t) (a b l : ℕ) (q m : Action) (here : prefixed receives (sub t a) ≡ some q) (sent : ActionAt s b m) (f : Binds l ≡ fitOf (fit q m))
-    (alone : (i : ℕ) → i < length s / 16 → rivalAt s a b i ≡ false) where
+    (ahead : (i : ℕ) → 0 ≤ i → i < a → rivalAt s b i ≡ false) (behind : (i : ℕ) → a + 1 ≤ i → i < length s / 16 → rivalAt s b i ≡ false) where
   not-itself : (r : Action) (σ : Substitution) → prefixed receives (sub t a) ≡ some r → fit r m ≡ binds σ → length σ < l → ⊥
   not-itself r σ z x n =
       let s : some q ≡ some r = sym here ∙ z in
@@ -91,24 +91,27 @@ module _ {s ends : List ℕ} {t : Term} (h : Table s ends t) (a b l : ℕ) (q m 
       let v : l ≡ length σ = cc in
       omega arith
 
-  is-rival : (i : ℕ) (r : Action) (σ : Substitution) → i < size t → i ≢ a → prefixed receives (sub t i) ≡ some r → fit r m ≡ binds σ → rivalAt s a b i ≡ true
+  is-rival : (i : ℕ) (r : Action) (σ : Substitution) → i < size t → prefixed receives (sub t i) ≡ some r → fit r m ≡ binds σ → rivalAt s b i ≡ true
   unfolding rivalAt kindOf root record16 layout byte
-  is-rival i r σ k n z x =
+  is-rival i r σ k z x =
       let u = prefixed-is receives receiveOf (λ u. looks u .receiving) (sub t i) r z in
       let c = receive-ends s t i (h .holds) k r (below (sub t i)) u in
       let g = fit-fits r m σ x in
-      true-and (ap not (ne-eqb i a n))
-      (true-and (eq-eqb _ 3 (holds-kind s t i (h .holds) k ∙ ap kindOf u))
-      (true-and (eq-eqb _ _ (c .partner ∙ (g .partner ∙ sym (sent .partner)))) (eq-eqb _ _ (c .operation ∙ (g .operation ∙ sym (sent .operation))))))
+      true-and (eq-eqb _ 3 (holds-kind s t i (h .holds) k ∙ ap kindOf u))
+      (true-and (eq-eqb _ _ (c .partner ∙ (g .partner ∙ sym (sent .partner)))) (eq-eqb _ _ (c .operation ∙ (g .operation ∙ sym (sent .operation)))))
+
+  alone : (i : ℕ) → i < length s / 16 → i ≢ a → rivalAt s b i ≡ false
+  alone i k n = lt-case (rivalAt s b i ≡ false) i a (ahead i (omega arith)) (λ l. lt-case (rivalAt s b i ≡ false) a i (λ h. behind i (omega arith) k) (λ h. absurd (n (omega arith))))
 
   pub alone-tighter : first (tighter m l) t ≡ none
   alone-tighter = fails-first (tighter m l) t (λ i k e.
       let (r, σ, z, x, n) = tighter-is t m l i e in
       bool-case ⊥ (eqb i a) (λ y. not-itself r σ (ap (λ j. prefixed receives (sub t j)) (sym (eqb-true i a y)) ∙ z) x n)
-      (λ y. clash (is-rival i r σ k (eqb-false i a y) z x) (alone i (omega (arith, table-size s ends t h)))))
+      (λ y. clash (is-rival i r σ k z x) (alone i (omega (arith, table-size s ends t h)) (eqb-false i a y))))
 
 -- one more record of the pass
-pub rival-turn : (s : List ℕ) (a b i : ℕ) {any r : Bool} → (any ≡ false → (j : ℕ) → j < i → rivalAt s a b j ≡ false) → r ≡ rivalAt s a b i → (any || r) ≡ false → (j : ℕ) → j < i + 1 → rivalAt s a b j ≡ false
-rival-turn s a b i {any} {r} h e o j l =
+pub rival-turn : (s : List ℕ) (b from i : ℕ) {any r : Bool} → (any ≡ false → (j : ℕ) → from ≤ j → j < i → rivalAt s b j ≡ false) → r ≡ rivalAt s b i → (any || r) ≡ false
+    → (j : ℕ) → from ≤ j → j < i + 1 → rivalAt s b j ≡ false
+rival-turn s b from i {any} {r} h e o j f l =
     let (x, y) = or-false any r o in
-    lt-case (rivalAt s a b j ≡ false) j i (h x j) (λ k. let z : j ≡ i = omega arith in rw (z, ← e) y)
+    lt-case (rivalAt s b j ≡ false) j i (h x j f) (λ k. let z : j ≡ i = omega arith in rw (z, ← e) y)

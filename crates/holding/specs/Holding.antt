@@ -40,6 +40,6 @@ pub record Sides (s ends marks : List ℕ) (a b : ℕ) : Type 0 where
 abbrev pub Unlabelled : Term → ℕ → Type 0
 Unlabelled t a = (k : ℕ) → label k ≡ true → enclosed k (wayTo t a) ≡ false
 
--- the record at place i, which is not place a, is a receive on the endpoint of the invoke at place b
-unfoldable pub rivalAt : (s : List ℕ) (a b i : ℕ) → Bool
-rivalAt s a b i = not (eqb i a) && (eqb (getD s (16 * i) 0) 3 && (eqb (word s (16 * i + 2)) (word s (16 * b + 2)) && eqb (word s (16 * i + 4)) (word s (16 * b + 4))))
+-- the record at place i is a receive on the endpoint of the invoke at place b
+unfoldable pub rivalAt : (s : List ℕ) (b i : ℕ) → Bool
+rivalAt s b i = eqb (getD s (16 * i) 0) 3 && (eqb (word s (16 * i + 2)) (word s (16 * b + 2)) && eqb (word s (16 * i + 4)) (word s (16 * b + 4)))

@@ -9,7 +9,7 @@ use records::word_at;
 ghost use mathlib.Core.Path.{_≡_};
 ghost use mathlib.Core.Bool.{true, false};
 ghost use mathlib.Core.Option.{some};
-ghost use Prim.Native.Nat.{ℕ, _+_, _*_, _/_, _<_};
+ghost use Prim.Native.Nat.{ℕ, _+_, _*_, _/_, _≤_, _<_};
 ghost use lib.ListN.{length};
 ghost use Rattle.cows.specs.Basics.{foundWith};
 ghost use Rattle.cows.specs.Terms.{Term, Action, size, prefixed, receives};
@@ -56,28 +56,27 @@ pub fn first_tighter(s: &[u8], ends: &[u16], b: usize, l: usize) -> Found
     Found::Nothing
 }
 
-// Whether the record at place i, which is not place a, is a receive on the endpoint of the invoke at place b.
-fn rival(s: &[u8], i: usize, a: usize, b: usize) -> bool
+// Whether the record at place i is a receive on the endpoint of the invoke at place b.
+fn rival(s: &[u8], i: usize, b: usize) -> bool
     requires { ⌜ (16 * i + 15 < length (now s)) × (16 * b + 15 < length (now s)) ⌝ }
-    ensures { λ r. ⌜ r ≡ rivalAt (now (s .entry)) a b i ⌝ }
+    ensures { λ r. ⌜ r ≡ rivalAt (now (s .entry)) b i ⌝ }
 {
     let k = 16 * i;
     let m = 16 * b;
     let endpoint = (word_at(s, k + 2) == word_at(s, m + 2))
         & (word_at(s, k + 4) == word_at(s, m + 4));
-    (i != a) & ((s[k] == kinds::RECEIVE) & endpoint)
+    (s[k] == kinds::RECEIVE) & endpoint
 }
 
-// Whether there is such a record, ready or not: one pass without a branch.
-fn any_rival(s: &[u8], a: usize, b: usize) -> bool
-    requires { ⌜ 16 * b + 15 < length (now s) ⌝ }
-    ensures { λ r. ⌜ (r ≡ false → (i : ℕ) → i < length (now (s .entry)) / 16 → rivalAt (now (s .entry)) a b i ≡ false) ⌝ }
+// Whether there is such a record at places `from` to `to` (not included), ready or not: one pass without a branch.
+fn any_rival(s: &[u8], from: usize, to: usize, b: usize) -> bool
+    requires { ⌜ (to ≤ length (now s) / 16) × (16 * b + 15 < length (now s)) ⌝ }
+    ensures { λ r. ⌜ (r ≡ false → (i : ℕ) → from ≤ i → i < to → rivalAt (now (s .entry)) b i ≡ false) ⌝ }
 {
-    let n = s.len() / 16;
     let mut any = false;
-    let mut i = 0;
-    while i < n {
-        any = any | rival(s, i, a, b);
+    let mut i = from;
+    while i < to {
+        any = any | rival(s, i, b);
         i += 1;
     }
     any
@@ -91,7 +90,7 @@ pub fn first_rival(s: &[u8], ends: &[u16], a: usize, b: usize, l: usize) -> Foun
     if l == 0 {
         return Found::Nothing;
     }
-    if !any_rival(s, a, b) {
+    if !(any_rival(s, 0, a, b) | any_rival(s, a + 1, s.len() / 16, b)) {
         return Found::Nothing;
     }
     first_tighter(s, ends, b, l)

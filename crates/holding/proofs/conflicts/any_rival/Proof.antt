@@ -9,10 +9,10 @@ use Rattle.holding.proofs.conflicts.any_rival.Statement.{statement}
 use Rattle.holding.proofs.conflicts.any_rival.Tie as tie
 
 abbrev Inv-loop : tie.InvT-loop
-Inv-loop s a b n any₀ i₀ any i = (i ≤ n) × (any ≡ false → (j : ℕ) → j < i → rivalAt s a b j ≡ false)
+Inv-loop s from to b any₀ i₀ any i = any ≡ false → (j : ℕ) → from ≤ j → j < i → rivalAt s b j ≡ false
 
 abbrev μ-loop : tie.MeasureT-loop
-μ-loop s a b n any₀ i₀ any i = n - i
+μ-loop s from to b any₀ i₀ any i = to - i
 
 pub any-rival-spec : {M : Type 1} → statement M
 any-rival-spec =
@@ -20,8 +20,8 @@ any-rival-spec =
     (tie.spec
     Inv-loop
     μ-loop
-    (λ c. (omega arith, λ e j l. absurd (omega arith)))
+    (λ c e j f l. absurd (omega arith))
     (λ c κs. omega arith)
     (λ c. search needs) (λ c. omega arith)
-    (λ c. (omega arith, rival-turn _ _ _ _ (c .before .before .loop .inv .1) (c .rival .ensures)))
-    (λ c e i l. c .before .loop .inv .1 e i (omega arith)))
+    (λ c. rival-turn _ _ _ _ (c .before .before .loop .inv) (c .rival .ensures))
+    (λ c e i f l. c .before .loop .inv e i f (omega arith)))
