@@ -2,7 +2,7 @@
 use records::Atom;
 use records::atom_at;
 use records::kinds;
-use records::wide16;
+use ways::down;
 ghost use mathlib.Core.Path.{_≡_};
 ghost use mathlib.Core.Bool.{true, false};
 ghost use Prim.Native.Nat.{ℕ, _+_, _*_, _/_, _<_};
@@ -10,18 +10,8 @@ ghost use lib.ListN.{length};
 ghost use Rattle.cows.specs.Terms.{Term, size, label, delimitsAt};
 ghost use Rattle.cows.specs.Places.{sub};
 ghost use Rattle.records.specs.Holds.{Holds};
-ghost use Rattle.ways.specs.Known.{Table, Known, EndPlaces};
-ghost use Rattle.ways.specs.Ways.{Over, Step};
+ghost use Rattle.ways.specs.Known.{Table, Known};
 ghost use Rattle.holding.specs.Holding.{Unlabelled};
-
-// The next record on the way from the record at place p down to place a: its second child, if a lies behind the first.
-fn down(ends: &[u16], p: usize, a: usize) -> usize
-    requires { ⌜ p + 1 < length (now ends) ⌝ }
-    ensures { λ q. ⌜ ((t : Term) → EndPlaces (now (ends .entry)) t → Over t p a → p < a → Step t p a q) ⌝ }
-{
-    let end = wide16(ends[p + 1]);
-    if a < end { p + 1 } else { end }
-}
 
 // Whether the record at place p is a delimitation of a label.
 fn delimits_label(s: &[u8], p: usize) -> bool

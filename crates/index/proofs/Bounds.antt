@@ -14,7 +14,7 @@ use Rattle.cows.proofs.Basics.{lt-case, eq-case, and-true, or-second}
 use Rattle.records.specs.Ends.{EndsFrom}
 use Rattle.records.proofs.Shapes.{end-within}
 use Rattle.ranges.specs.Ranges.{patternRight}
-use Rattle.index.specs.Index.{slotOf, entryOf, faultOf, Clear, Fine, UsesRight}
+use Rattle.index.specs.Index.{slotOf, entryOf, faultOf, faultBy, Clear, Fine, UsesRight}
 
 pub slot-inside : (shift mask a : ℕ) → slotOf shift mask a ≤ mask
 unfolding slotOf
@@ -87,12 +87,11 @@ fault-miss index p q b a at e f h = rw (← e, ← f, ne-eqb _ b h)
 
 -- the faults of three atoms from byte k on, by the code's numbers
 pub three-fine : (s index : List ℕ) (shift mask k at a b c x y z : ℕ) → a ≡ word s k → b ≡ word s (k + 2) → c ≡ word s (k + 4)
-    → x ≡ faultOf (getD index (slotOf shift mask a) 0) a at → y ≡ faultOf (getD index (slotOf shift mask b) 0) b at → z ≡ faultOf (getD index (slotOf shift mask c) 0) c at
-    → Clear (bitOr (bitOr x y) z) → Fine s index shift mask k at
+    → x ≡ faultBy index shift mask a at → y ≡ faultBy index shift mask b at → z ≡ faultBy index shift mask c at → Clear (bitOr (bitOr x y) z) → Fine s index shift mask k at
 three-fine s index shift mask k at a b c x y z ea eb ec ex ey ez h =
     let (f, r) = or-clear (bitOr x y) z h in
     let (p, q) = or-clear x y f in
-    let here : (v u i w : ℕ) → Clear v → u ≡ word s w → v ≡ faultOf (getD index (slotOf shift mask u) 0) u at → w ≡ k + 2 * i → Clear (faultOf (getD index (slotOf shift mask (word s (k + 2 * i))) 0) (word s (k + 2 * i)) at) =
+    let here : (v u i w : ℕ) → Clear v → u ≡ word s w → v ≡ faultBy index shift mask u at → w ≡ k + 2 * i → Clear (faultBy index shift mask (word s (k + 2 * i)) at) =
     λ v u i w o eu ev ew. rw (← ew, ← eu, ← ev) o in
     λ i l. eq-case _ i 0 (λ e. here x a i k p ea ex (omega arith)) (λ n. eq-case _ i 1 (λ e. here y b i (k + 2) q eb ey (omega arith)) (λ o. here z c i (k + 4) r ec ez (omega arith)))
 
@@ -107,8 +106,8 @@ module _ (s index : List ℕ) (shift mask j w v x g : ℕ) (ew : w ≡ j) (ev : 
       (p, record { ends = rw (ew, ev) at (fine q); rest = λ l. absurd (omega (arith, second)); apart = λ l. absurd (omega (arith, second)) })
 
   pub long-right : (a y z r : ℕ) (d : Bool) → a ≡ word s (16 * w + 6) → y ≡ word s (16 * w + 10) → z ≡ word s (16 * w + 12) → d ≡ distinct (a ∷ x ∷ y ∷ z ∷ [])
-      → (Clear r → Fine s index shift mask (16 * w + 8) (65535 * v)) → (f f₀ : ℕ) (b b₀ : Bool) → f ≡ bitOr (bitOr f₀ g) r → b ≡ (b₀ && (not (eqb (getD s (16 * w) 0) 3) || d)) → Clear f → b ≡ true
-      → Clear f₀ × (b₀ ≡ true) × UsesRight s index shift mask j
+      → (Clear r → Fine s index shift mask (16 * w + 8) (65535 * v)) → (f f₀ : ℕ) (b b₀ : Bool) → f ≡ bitOr (bitOr f₀ g) r
+      → b ≡ (b₀ && (not (eqb (getD s (16 * w) 0) 3) || d)) → Clear f → b ≡ true → Clear f₀ × (b₀ ≡ true) × UsesRight s index shift mask j
   unfolding patternRight
   long-right a y z r d ea ey ez ed more f f₀ b b₀ ef eb c t =
       let (h, k) = or-clear (bitOr f₀ g) r (subst Clear ef c) in

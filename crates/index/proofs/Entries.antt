@@ -31,7 +31,7 @@ use Rattle.scopes.proofs.Uses.{place-inside, kind-here, delimitation-is, delimi
 use Rattle.ranges.specs.Lists.{Listed}
 use Rattle.ranges.specs.Ranges.{patternRight}
 use Rattle.ranges.proofs.Lists.{listed-inside, listed-all}
-use Rattle.index.specs.Index.{slotOf, entryOf, Entering, Entered, faultOf, Clear, Fine, UsesRight, TableLists, BlankIndex, ScopesRight}
+use Rattle.index.specs.Index.{slotOf, entryOf, Entering, OnlyEntries, HasEntry, Entered, faultOf, faultBy, Clear, Fine, UsesRight, TableLists, BlankIndex, ScopesRight}
 use Rattle.index.proofs.Bounds.{entry-atom, entry-large, entry-same, entry-clear}
 
 -- an index that is cleared; one in which slot 0 has the number by which 0 is right everywhere
@@ -67,7 +67,7 @@ module _ (s ends marks : List ℕ) (m : ℕ) (index₀ : List ℕ) (shift mask :
       record {
         only = λ q h. eq-case _ q p (λ z. (d, r .inside .place i l, r .kinds i l, rw z (same ∙ entry)))
             (λ z. let o = getD-set-other index p q v 0 z in let (x, y, k, f) = e .only q (rw o at h) in (x, y, k, o ∙ f));
-        all = below-more (λ q. getD (set index p v) (slotOf shift mask (word s (16 * getD marks q 0 + 2))) 0 ≡ entryOf s ends (getD marks q 0)) i
+        all = below-more (λ q. HasEntry s ends (set index p v) shift mask (getD marks q 0)) i
             (λ q h.
             let f = e .all q h in
             getD-set-other index p _ v 0 (λ z. omega (arith, ap (λ x. getD index x 0) z, f, entry-large s ends (getD marks q 0) (r .end) (r .inside .place q (omega arith)))) ∙ f)
@@ -89,8 +89,7 @@ some-atom (w ∷ ws) (suc i) e l = some-atom ws i (and-true (atom w) (every atom
 
 -- the index has the entry of every delimitation, and no other
 module _ (s ends index : List ℕ) (shift mask : ℕ) (t : Term) (h : Holds s t) (e : EndsFrom s ends 0)
-    (only : (p : ℕ) → 65536 ≤ getD index p 0 → (d : ℕ) × (d < length s / 16) × (getD s (16 * d) 0 ≡ 8) × (getD index p 0 ≡ entryOf s ends d))
-    (entered : (d : ℕ) → d < length s / 16 → getD s (16 * d) 0 ≡ 8 → getD index (slotOf shift mask (word s (16 * d + 2))) 0 ≡ entryOf s ends d) where
+    (only : OnlyEntries s ends index) (entered : (d : ℕ) → d < length s / 16 → getD s (16 * d) 0 ≡ 8 → HasEntry s ends index shift mask d) where
   entry-of : (a m : ℕ) (r : Term) → m < size t → sub t m ≡ under (delimitation a) r → (m < length s / 16) × (word s (16 * m + 2) ≡ a) × (getD index (slotOf shift mask a) 0 ≡ entryOf s ends m)
   unfolding kindOf root record16 layout byte
   entry-of a m r l q =
@@ -124,7 +123,7 @@ module _ (s ends index : List ℕ) (shift mask : ℕ) (t : Term) (h : Holds s t)
         not-so (λ z. refute b (not-true _ (and-true (value a && member a (binders t)) _ z .1))),
       )
 
-  use-none : (j a : ℕ) → j < length s / 16 → Clear (faultOf (getD index (slotOf shift mask a) 0) a (65535 * j)) → Bound j a
+  use-none : (j a : ℕ) → j < length s / 16 → Clear (faultBy index shift mask a (65535 * j)) → Bound j a
   unfolding faultOf
   use-none j a l c =
       let n = getD index (slotOf shift mask a) 0 in
@@ -210,7 +209,7 @@ module _ (s users index : List ℕ) (u shift mask : ℕ) (listed : Listed s 1 3 
   pub listed-bound : (ends marks : List ℕ) (m : ℕ) → EndsFrom s ends 0 → Listed s 8 8 marks (length s / 16) m → Entered s ends marks m index shift mask → (t : Term) → Holds s t → ScopesRight t
   listed-bound ends marks m e delimitations entered t h =
       scopes-bound s ends index shift mask t h e (entered .only)
-      (λ d l x. listed-all s 8 8 marks _ m (λ n. getD index (slotOf shift mask (word s (16 * n + 2))) 0 ≡ entryOf s ends n) delimitations (entered .all) d l (omega arith) (omega arith)) uses-right
+      (λ d l x. listed-all s 8 8 marks _ m (HasEntry s ends index shift mask) delimitations (entered .all) d l (omega arith) (omega arith)) uses-right
 
   short-apart : (a : ℕ) → distinct (a ∷ 0 ∷ 0 ∷ 0 ∷ []) ≡ true
   unfolding distinct variable member any

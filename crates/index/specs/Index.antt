@@ -37,14 +37,24 @@ pub record Entering (s ends marks : List ℕ) (m : ℕ) (index : List ℕ) (shif
   pub slots : Slots index shift mask
   pub free : (p : ℕ) → getD index p 0 < 65536
 
+-- a number of 65,536 or more in the index is the entry of a delimitation; the delimitation at place d has its entry
+abbrev pub OnlyEntries : List ℕ → List ℕ → List ℕ → Type 0
+OnlyEntries s ends index = (p : ℕ) → 65536 ≤ getD index p 0 → (d : ℕ) × (d < length s / 16) × (getD s (16 * d) 0 ≡ 8) × (getD index p 0 ≡ entryOf s ends d)
+
+abbrev pub HasEntry : List ℕ → List ℕ → List ℕ → ℕ → ℕ → ℕ → Type 0
+HasEntry s ends index shift mask d = getD index (slotOf shift mask (word s (16 * d + 2))) 0 ≡ entryOf s ends d
+
 -- The index has the entries of the delimitations at the first m places of the list, and no other.
 pub record Entered (s ends marks : List ℕ) (m : ℕ) (index : List ℕ) (shift mask : ℕ) : Type 0 where
-  pub only : (p : ℕ) → 65536 ≤ getD index p 0 → (d : ℕ) × (d < length s / 16) × (getD s (16 * d) 0 ≡ 8) × (getD index p 0 ≡ entryOf s ends d)
-  pub all : (q : ℕ) → q < m → getD index (slotOf shift mask (word s (16 * getD marks q 0 + 2))) 0 ≡ entryOf s ends (getD marks q 0)
+  pub only : OnlyEntries s ends index
+  pub all : (q : ℕ) → q < m → HasEntry s ends index shift mask (getD marks q 0)
 
--- the fault of a use of a, by what its slot has
+-- the fault of a use of a, by what its slot has, and by the index
 unfoldable pub faultOf : ℕ → ℕ → ℕ → ℕ
 faultOf e a at = cond (eqb (e / 4294967296) a) (e % 4294967296 + at) a
+
+abbrev pub faultBy : List ℕ → ℕ → ℕ → ℕ → ℕ → ℕ
+faultBy index shift mask a at = faultOf (getD index (slotOf shift mask a) 0) a at
 
 -- no fault: bits 15 and 31 are clear
 pub record Clear (f : ℕ) : Type 0 where
@@ -53,7 +63,7 @@ pub record Clear (f : ℕ) : Type 0 where
 
 -- the uses of the three atoms from byte k on have no fault
 abbrev pub Fine : List ℕ → List ℕ → ℕ → ℕ → ℕ → ℕ → Type 0
-Fine s index shift mask k at = (i : ℕ) → i < 3 → Clear (faultOf (getD index (slotOf shift mask (word s (k + 2 * i))) 0) (word s (k + 2 * i)) at)
+Fine s index shift mask k at = (i : ℕ) → i < 3 → Clear (faultBy index shift mask (word s (k + 2 * i)) at)
 
 -- the uses of the record at place j are right by the index, and no variable stands twice in it if it is a receive
 pub record UsesRight (s index : List ℕ) (shift mask j : ℕ) : Type 0 where

@@ -1,6 +1,6 @@
 // Index: a quick test of scopes that only ever accepts (refusals 6 and 7; of refusal 2, that no variable stands twice in a pattern), with an index of the
-// delimitations: each atom has a slot, and where two delimited atoms meet in a slot the test gives up. The lists of the delimitations and of the records that use
-// atoms are the caller's.
+// delimitations: each atom has a slot there, and where two delimited atoms meet in one the test gives up. The lists of the delimitations and of the records that
+// use atoms are the caller's.
 use records::wide16;
 use records::word_at;
 use rows::distinct4;
@@ -10,7 +10,7 @@ ghost use Prim.Native.Nat.{ℕ, _+_, _*_, _-_, _/_, _<_, _≤_};
 ghost use lib.ListN.{length, getD};
 ghost use Rattle.cows.specs.Limits.{maxRecords};
 ghost use Rattle.ranges.specs.Lists.{Inside};
-ghost use Rattle.index.specs.Index.{Slots, slotOf, Entering, Entered, faultOf, Clear, Fine, UsesRight, TableLists, BlankIndex, ShowsBound, ShowsPatterns};
+ghost use Rattle.index.specs.Index.{Slots, slotOf, Entering, Entered, faultBy, Clear, Fine, UsesRight, TableLists, BlankIndex, ShowsBound, ShowsPatterns};
 
 fn wide64(x: u16) -> u64
     ensures { λ r. ⌜ (r ≡ x) × (r < 65536) ⌝ }
@@ -66,7 +66,7 @@ fn enter(
 // behind the delimitation, or a is no value; bit 31 if it is not before the end.
 fn use_fault(index: &[u64], shift: usize, mask: usize, a: u16, at: u64) -> u64
     requires { ⌜ Slots (now index) shift mask × (at < 4294967296) ⌝ }
-    ensures { λ r. ⌜ r ≡ faultOf (getD (now (index .entry)) (slotOf shift mask a) 0) a at ⌝ }
+    ensures { λ r. ⌜ r ≡ faultBy (now (index .entry)) shift mask a at ⌝ }
 {
     let e = index[slot(a, shift, mask)];
     let b = wide64(a);
@@ -87,8 +87,8 @@ fn faults(s: &[u8], index: &[u64], shift: usize, mask: usize, k: usize, at: u64)
         | use_fault(index, shift, mask, word_at(s, k + 4), at)
 }
 
-// The uses of the records at the first u places of the list: of an endpoint and a first slot, or of a kill; of the other slots, where there are any. And no
-// variable stands twice in a receive.
+// The uses of the records at the first u places of the list: of an endpoint and a first slot, or of a kill; of the other slots of a tuple, where the
+// second is used. And no variable stands twice in a receive.
 fn uses_right(s: &[u8], users: &[u16], u: usize, index: &[u64], shift: usize, mask: usize) -> bool
     requires { ⌜ Inside (now s) (now users) u × (length (now s) / 16 ≤ maxRecords) × Slots (now index) shift mask ⌝ }
     ensures { λ r. ⌜ (r ≡ true → (q : ℕ) → q < u → UsesRight (now (s .entry)) (now (index .entry)) shift mask (getD (now (users .entry)) q 0)) ⌝ }

@@ -20,7 +20,7 @@ ghost use Rattle.ways.specs.Known.{Table, Known, EndPlaces};
 ghost use Rattle.ways.specs.Ways.{Over, Step, scopeOf, Placed};
 
 // The next record on the way from the record at place p down to place a: its second child, if a lies behind the first.
-fn down(ends: &[u16], p: usize, a: usize) -> usize
+pub fn down(ends: &[u16], p: usize, a: usize) -> usize
     requires { ⌜ p + 1 < length (now ends) ⌝ }
     ensures { λ q. ⌜ ((t : Term) → EndPlaces (now (ends .entry)) t → Over t p a → p < a → Step t p a q) ⌝ }
 {
