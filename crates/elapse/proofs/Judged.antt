@@ -1,18 +1,18 @@
 -- Elapse (specs/Moves, elapseBy) as it is judged and written.
-use mathlib.Core.Path.{_≡_, refl, sym, ap, ap₂, _∙_}
+use mathlib.Core.Path.{_≡_, refl, sym, ap, ap₂, subst, _∙_}
 use mathlib.Core.Logic.{_≢_}
 use mathlib.Core.List.{List, _++_}
 use Prim.Native.Nat.{ℕ, _+_, _*_, _/_, _≤_}
 use native.Mathlib.Omega.{arith}
 use lib.ListN.{length, take, drop}
-use lib.Seq.{sets-eq, take-all, drop-at}
+use lib.Seq.{sets-eq, take-all, take-at, drop-at}
 use Rattle.cows.specs.Terms.{Term, size}
 use Rattle.cows.specs.Format.{encode}
 use Rattle.cows.specs.Moves.{elapse, elapseBy}
 use Rattle.cows.proofs.Format.{length-encode}
 use Rattle.cows.proofs.Recordwise.{of-size, of-depth, elapse-keeps, some-time, time-gives}
 use Rattle.records.specs.Rewrites.{put}
-use Rattle.ways.specs.Known.{Table}
+use Rattle.ways.specs.Known.{Table, Known}
 use Rattle.ways.proofs.KnownTables.{table-size}
 use Rattle.plans.specs.declared.Judgement.the-variants.{Allowed}
 use Rattle.plans.specs.declared.Plan.{Plan}
@@ -53,8 +53,14 @@ module _ (s ends : List ℕ) (d : ℕ) (out : List ℕ) (q : Asks (λ t. elapseB
     behind-kept : drop (length s) copied ≡ drop (length s) out
     behind-kept = ap (drop (length s)) as-put ∙ drop-at s (drop (length s) out) (length s) refl
 
-    pub stands-copied : copied ≡ s ++ drop (length s) copied
-    stands-copied = as-put ∙ ap (λ x. s ++ x) (sym behind-kept)
+    same-copied : s ≡ take (16 * (length s / 16)) copied
+    same-copied = sym (ap (take (16 * (length s / 16))) as-put ∙ take-at s (drop (length s) out) (16 * (length s / 16)) (q .known .whole))
 
-    pub gives-elapsed : {after : List ℕ} → after ≡ encode (elapse d t) ++ drop (length s) copied → after ≡ put out 0 (encode (q .successor))
-    gives-elapsed h = h ∙ (ap₂ _++_ (ap encode elapsed) (behind-kept ∙ ap (λ n. drop n out) (sym as-long)) ∙ sym (put-first out (encode (q .successor)) (omega (arith, as-long, room))))
+    pub known-copied : Known (take (16 * (length s / 16)) copied) ends
+    known-copied = subst (λ x. Known x ends) same-copied (q .known)
+
+    pub table-copied : Table (take (16 * (length s / 16)) copied) ends t
+    table-copied = subst (λ x. Table x ends t) same-copied (q .known .table)
+
+    pub gives-elapsed : {after : List ℕ} → after ≡ encode (elapse d t) ++ drop (16 * (length s / 16)) copied → after ≡ put out 0 (encode (q .successor))
+    gives-elapsed h = h ∙ (rw (← q .known .whole) (ap₂ _++_ (ap encode elapsed) (behind-kept ∙ ap (λ n. drop n out) (sym as-long))) ∙ sym (put-first out (encode (q .successor)) (omega (arith, as-long, room))))

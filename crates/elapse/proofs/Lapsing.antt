@@ -1,4 +1,4 @@
--- Time goes over a table in one walk that lowers its live waits: the records before its place are the successor's; from there on stand terms, one behind the other, as they were.
+-- Time goes over a table in one walk that lowers its live waits in place: the records before its place are the successor's; from there on stand terms, one behind the other, as they were.
 use mathlib.Core.Path.{_≡_, refl, sym, ap, subst, _∙_}
 use mathlib.Core.Logic.{_≢_}
 use mathlib.Core.List.{List, [], _∷_, _++_, append-assoc, append-nil, flatMap}
@@ -150,12 +150,13 @@ module _ (s : List ℕ) (d : ℕ) (t : Term) (behind : List ℕ) where
         go [] y e w = e ∙ ap (λ x. x ++ behind) (sym (w ∙ append-nil (h .done)))
         go (r ∷ rs) y e w = absurd (omega (arith, ap length y, length-drop (16 * p) s, length-append (encode r) (tables unchanged rs), long r))
 
-    -- the first of the terms ahead
+    -- the first of the terms ahead, in the table as it was and in what is written
     record First : Type 0 where
       term : Term
       rest : List Term
       is : h .ahead ≡ term ∷ rest
       stands : StandsIn s (16 * p) term
+      lies : StandsIn out (16 * p) term
 
     first : 16 * p < length s → First
     unfolding flatMap
@@ -163,7 +164,16 @@ module _ (s : List ℕ) (d : ℕ) (t : Term) (behind : List ℕ) where
       where
         go : (ts : List Term) → h .ahead ≡ ts → First
         go [] e = absurd (omega (arith, ap length (h .stand ∙ ap (tables unchanged) e), length-drop (16 * p) s))
-        go (r ∷ rs) e = record { term = r; rest = rs; is = e; stands = record { rest = tables unchanged rs; is = h .stand ∙ ap (tables unchanged) e } }
+        go (r ∷ rs) e = record {
+          term = r;
+          rest = rs;
+          is = e;
+          stands = record { rest = tables unchanged rs; is = h .stand ∙ ap (tables unchanged) e };
+          lies = record {
+            rest = tables unchanged rs ++ behind;
+            is = ap (drop (16 * p)) (h .now) ∙ (drop-at (h .done) _ (16 * p) (h .at) ∙ (ap (λ x. tables unchanged x ++ behind) e ∙ append-assoc (encode r) (tables unchanged rs) behind));
+          };
+        }
 
     module _ (l : 16 * p < length s) where
       abbrev f : First
@@ -192,10 +202,10 @@ module _ (s : List ℕ) (d : ℕ) (t : Term) (behind : List ℕ) where
       kept : {b : List ℕ} {ts : List Term} {next : ℕ} → Elapses d (f .term) b b ts → 16 * next ≡ 16 * p + length b → Lapsing s d t behind out next
       kept {b} {ts} q n = onward q n (apart b ts (q .was))
 
-      here-kind : getD s (16 * p) 0 ≡ kindOf (f .term)
-      here-kind = stands-kind (f .term) (f .stands)
+      here-kind : getD out (16 * p) 0 ≡ kindOf (f .term)
+      here-kind = stands-kind (f .term) (f .lies)
 
-      pub lapsing-through : (5 ≤ getD s (16 * p) 0) × (getD s (16 * p) 0 ≢ 9) → Lapsing s d t behind out (p + 1)
+      pub lapsing-through : (5 ≤ getD out (16 * p) 0) × (getD out (16 * p) 0 ≢ 9) → Lapsing s d t behind out (p + 1)
       lapsing-through k = kept (elapses-through d (f .term) (omega (arith, here-kind))) (omega (arith, length-record16 (root (f .term))))
 
       module _ {ends : List ℕ} (e : EndsFrom s ends 0) {next : ℕ} (at : next ≡ getD ends p 0) where
@@ -208,15 +218,15 @@ module _ (s : List ℕ) (d : ℕ) (t : Term) (behind : List ℕ) where
         next-fits : (p < next) × (16 * next ≤ length s)
         next-fits = omega (arith, next-is, size-pos (f .term), next-bytes, stands-fits (f .term) (f .stands))
 
-        pub lapsing-still : (4 ≤ getD s (16 * p) 0 → 9 ≤ getD s (16 * p) 0) → Lapsing s d t behind out next
+        pub lapsing-still : (4 ≤ getD out (16 * p) 0 → 9 ≤ getD out (16 * p) 0) → Lapsing s d t behind out next
         lapsing-still k = kept (elapses-still d (f .term) (λ m. omega (arith, here-kind, k (omega (arith, here-kind))))) next-bytes
 
-        pub lapsing-wait : getD s (16 * p) 0 ≡ 4 → {w : ℕ} {after : List ℕ} → w ≡ word s (16 * p + 14) - d → after ≡ put out (16 * p + 14) (bytes2 w) → Lapsing s d t behind after next
+        pub lapsing-wait : getD out (16 * p) 0 ≡ 4 → {w : ℕ} {after : List ℕ} → w ≡ word out (16 * p + 14) - d → after ≡ put out (16 * p + 14) (bytes2 w) → Lapsing s d t behind after next
         lapsing-wait k {w} {after} v o =
             let (n, q) = kind-wait (f .term) (sym here-kind ∙ k) in
             let r = below (f .term) in
-            let i : word s (16 * p + 14) ≡ n =
-            sym (word-piece s (16 * p) 14 (omega arith)) ∙ (ap (λ b. word b 14) (stands-record (f .term) (f .stands) ∙ ap (λ x. record16 (root x)) q) ∙ interval-wait n r) in
+            let i : word out (16 * p + 14) ≡ n =
+            sym (word-piece out (16 * p) 14 (omega arith)) ∙ (ap (λ b. word b 14) (stands-record (f .term) (f .lies) ∙ ap (λ x. record16 (root x)) q) ∙ interval-wait n r) in
             let (a, c) : Elapses d (f .term) (encode (f .term)) (encode (under (wait (n - d)) r)) [] × (encode (f .term) ≡ encode (under (wait n) r)) =
             (subst (λ x. Elapses d x (encode x) (encode (under (wait (n - d)) r)) []) (sym q) (elapses-wait d n r), ap encode q) in
             onward a next-bytes
