@@ -1,6 +1,7 @@
 pub mod Lasting
 pub mod Loading
 pub mod Turning
+pub mod Successors
 pub mod Writing
 pub mod Playing
 pub mod Whole

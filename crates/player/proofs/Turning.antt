@@ -6,13 +6,11 @@ use mathlib.Core.List.{List, [], _∷_, _++_}
 use mathlib.Core.Option.{Option, some}
 use Prim.Native.Nat.{ℕ, zero, suc, _+_, _*_, _/_, _≤_, _<_}
 use native.Mathlib.Omega.{arith}
-use lib.Dec.{eqb}
 use lib.ListN.{length, getD, take, drop, length-append, length-drop}
 use lib.Seq.{take-at, length-take-le}
 use types.Run.{OneOf, miss}
 use denote.Enum.Declared.{tagOf}
-use borrow.Author.Tests.{ne-eqb}
-use Rattle.cows.specs.Basics.{Result, refuse, accept}
+use Rattle.cows.specs.Basics.{Result, refuse, accept, _>>=_, need}
 use Rattle.cows.specs.Terms.{Term, under, replication, size, prefixed, replicates, below}
 use Rattle.cows.specs.Places.{sub}
 use Rattle.cows.specs.Format.{encode}
@@ -21,16 +19,15 @@ use Rattle.cows.specs.Within.{Within}
 use Rattle.cows.specs.Allows.{StandsLive}
 use Rattle.cows.specs.Moves.{Move, elapse, unfoldAt, successor}
 use Rattle.cows.specs.Moves as meaning
-use Rattle.cows.specs.Step.{stepTerm, replyTo, written}
+use Rattle.cows.specs.Step.{proposed, stepTerm, replyTo}
 use Rattle.cows.specs.Load.{load, copies}
 use Rattle.cows.specs.Run.{noTally, sum, adds, RunState, judgement, enter, turn, kept}
-use Rattle.cows.proofs.Basics.{bind-accept, same-some}
+use Rattle.cows.proofs.Basics.{bind-accept, same-accept, same-some}
 use Rattle.cows.proofs.Format.{length-encode}
 use Rattle.cows.proofs.Stands.{looks, prefixed-is, wanted-live}
 use Rattle.cows.proofs.Step as steps
 use Rattle.cows.proofs.Bounds.{step-from-one}
 use Rattle.cows.proofs.Preserving.{step-within}
-use Rattle.cows.proofs.Recordwise.{time-gives}
 use Rattle.records.specs.Holds.{Holds}
 use Rattle.records.specs.Ends.{EndsFrom}
 use Rattle.ways.specs.Known.{Table, Known}
@@ -40,16 +37,21 @@ use Rattle.proposals.specs.declared.Move as code
 use Rattle.proposals.specs.declared.Move.the-variants.{Kill, Communicate, Timeout, Elapse, Unfold, Extrude, None}
 use Rattle.proposals.specs.Proposals.{moveOf}
 use Rattle.proposals.proofs.Move as kinds
-use Rattle.stepper.specs.Replies.{replyOf, Answers}
+use Rattle.stepper.specs.Replies.{replyOf, replyIn}
 use Rattle.stepper.proofs.Stepping.{table-known}
+use Rattle.stepper.proofs.Moved.{reply-fitted, asks}
+use Rattle.plans.specs.declared.Plan.{Plan}
+use Rattle.plans.specs.Plans.{resultOf, Planned, Asks}
+use Rattle.moves.specs.Places.{planPlace}
 use Rattle.tally.specs.declared.Tally.{Tally}
 use Rattle.tally.specs.Counted.{tallyOf, sumOf, Small}
 use Rattle.tally.proofs.Counting.{sum-zeros, sum-adds, zeros-small, adds-small}
 use Rattle.player.specs.declared.turns.Kept.{Kept}
 use Rattle.player.specs.declared.turns.Tried.{Tried}
 use Rattle.player.specs.Loads.{loadBetween}
-use Rattle.player.specs.Turns.{held, Accepted, Copied, CanTry, Judged, CanTurn, Turned, KeepsRun, Going, keptAfter, GoesOn}
-use Rattle.player.proofs.Lasting.{ends-last}
+use Rattle.player.specs.declared.turns.Next.{Next}
+use Rattle.player.specs.Turns.{held, Accepted, Copied, Judged, Judges, KeepsRun, Going, GoesOn, Turns, Turned}
+use Rattle.player.specs.Making.{CanMake, Makes}
 use Rattle.player.proofs.Loading.{body-load}
 
 -- only an unfolding copies anything
@@ -108,21 +110,23 @@ pub judgement-accepted : (q : RunState) (m : Option Move) (r : Reply) → r ≡ 
 unfolding judgement
 judgement-accepted q m r e h = answer-accepted (stepTerm (q .table) m 32768) r (step-from-one (q .table) m 32768) e h
 
--- the step's answer with a buffer for any successor is the run's; an accepted move
-pub answers-run : (q : RunState) (m : Option Move) (to after : List ℕ) (r : Reply) → length to ≡ 32768 → Answers (stepTerm (q .table) m (length to)) to after r → Answers (judgement q m) to after r
-unfolding judgement
-answers-run q m to after r e a = subst (λ n. Answers (stepTerm (q .table) m n) to after r) e a
-
-pub accepted-by : (s ends to after : List ℕ) (m : code.Move) (r : Reply) → CanTry s ends to → ((t : Term) → Table s ends t → Answers (stepTerm t (moveOf m) (length to)) to after r) → r .answer ≡ 0 → Accepted s ends m
-unfolding judgement
-accepted-by s ends to after m r h a z =
-    let q : RunState = record { table = h .known .term; tally = noTally } in
-    let (u, e) = judgement-accepted q (moveOf m) r (answers-run q (moveOf m) to after r (h .room) (a (h .known .term) (h .known .table)) .replies) z in
-    record { known = h .known; successor = u; accepted = e }
-
 -- some run that keeps a known table
 abbrev pub runOf : {s ends : List ℕ} → Known s ends → RunState
 runOf k = record { table = k .term; tally = noTally }
+
+-- the reply to a plan is that to the run's judgement; what making the move then asks
+module _ {s ends : List ℕ} (m : code.Move) {plan : Plan} (planned : (t : Term) → Table s ends t → Planned (proposed (moveOf m) t) (planPlace m t) plan) {r : Reply}
+    (e : r ≡ replyIn 32768 (resultOf (plan .judgement))) where
+  pub plan-replies : (q : RunState) → Table s ends (q .table) → r ≡ replyOf (replyTo (judgement q (moveOf m)))
+  unfolding judgement stepTerm
+  plan-replies q h = e ∙ (ap (replyIn 32768) (planned (q .table) h .judged) ∙ reply-fitted 32768 (proposed (moveOf m) (q .table)))
+
+  pub plan-asks : Known s ends → r .answer ≡ 0 → (out : List ℕ) → length out ≡ 32768 → Asks (proposed (moveOf m)) (planPlace m) s ends (plan .from) out
+  plan-asks k z out l = asks k planned out r (e ∙ ap (λ n. replyIn n (resultOf (plan .judgement))) (sym l)) z
+
+  pub plan-accepts : Known s ends → r .answer ≡ 0 → Accepted s ends m
+  unfolding judgement
+  plan-accepts k z = let (u, x) = judgement-accepted (runOf k) (moveOf m) r (plan-replies (runOf k) (k .table)) z in record { known = k; successor = u; accepted = x }
 
 -- the run goes on by an accepted move only
 turn-refused : (q : RunState) (m : Option Move) (n p : ℕ) → judgement q m ≡ refuse n p → turn q m ≡ q
@@ -138,19 +142,18 @@ unfolding judgement
 accepted-move q m s e = let a = steps.step-accepted (q .table) s m 32768 e in (a .move, a .reads)
 
 -- what a refused and what an accepted move counts
-module _ (q : RunState) (m : Option Move) (to after : List ℕ) (r : Reply) (d : Tally) (a : Answers (judgement q m) to after r) where
-  pub judged-refused : r .answer ≢ 0 → d ≡ tallyOf noTally → Judged q m to after (record { reply = r; counts = d })
+module _ (q : RunState) (m : Option Move) (r : Reply) (d : Tally) (a : r ≡ replyOf (replyTo (judgement q m))) where
+  pub judged-refused : r .answer ≢ 0 → d ≡ tallyOf noTally → Judged q m r d
   judged-refused h e =
-      let (n, p, x) = answer-refused (judgement q m) r (a .replies) h in
-      record { answers = a; counted = ap (sumOf (tallyOf (q .tally))) e ∙ (rw (turn-refused q m n p x) (sum-zeros (tallyOf (q .tally)))); few = subst (λ c. Small c 1) (sym e) (zeros-small 1) }
+      let (n, p, x) = answer-refused (judgement q m) r a h in
+      record { replies = a; counted = ap (sumOf (tallyOf (q .tally))) e ∙ (rw (turn-refused q m n p x) (sum-zeros (tallyOf (q .tally)))); few = subst (λ c. Small c 1) (sym e) (zeros-small 1) }
 
-  pub judged-accepted : (l : ℕ) → r .answer ≡ 0 → ((v : Move) → m ≡ some v → l ≡ copies (q .table) v) → l ≤ 2048 → ((v : Move) → m ≡ some v → d ≡ tallyOf (adds l v))
-      → Judged q m to after (record { reply = r; counts = d })
+  pub judged-accepted : (l : ℕ) → r .answer ≡ 0 → ((v : Move) → m ≡ some v → l ≡ copies (q .table) v) → l ≤ 2048 → ((v : Move) → m ≡ some v → d ≡ tallyOf (adds l v)) → Judged q m r d
   judged-accepted l z is few e =
-      let (u, eu) = judgement-accepted q m r (a .replies) z in
+      let (u, eu) = judgement-accepted q m r a z in
       let (v, ev) = accepted-move q m u eu in
       record {
-        answers = a;
+        replies = a;
         counted = ap (sumOf (tallyOf (q .tally))) (e v ev ∙ ap (λ n. tallyOf (adds n v)) (is v ev))
             ∙ (sum-adds (q .tally) (copies (q .table) v) v ∙ sym (ap (λ (x : RunState). tallyOf (x .tally)) (turn-accepted q m u v eu ev)));
         few = subst (λ c. Small c 1) (sym (e v ev)) (adds-small l v few);
@@ -166,92 +169,115 @@ held-few n x ends h l k = let e = length-take-le (16 * n) x (omega arith) in (om
 pub held-small : (n : ℕ) (x ends : List ℕ) → 16 * n ≤ length x → Known (held n x) ends → n ≤ 2048
 held-small n x ends h k = omega (arith, k .few, length-take-le (16 * n) x h)
 
--- a refused move: the table stays where it is
-module _ (q : RunState) (n : ℕ) (from ends : List ℕ) (m : Option Move) (to after : List ℕ) (r : Tried) (inside : 16 * n ≤ length from) (room : length to ≡ 32768) (t : Table (held n from) ends (q .table))
-    (j : Judged q m to after r) (z : r .reply .answer ≢ 0) where
-  refused-is : (a p : ℕ) → judgement q m ≡ refuse a p → Turned q n from m after ends (record { reply = record { answer = r .reply .answer; place = r .reply .place; records = n }; counts = r .counts })
-  unfolding replyTo written kept
-  refused-is a p x =
-      let y : r .reply ≡ record { answer = a; place = p; records = 0 } = rw x at (j .answers .replies) in
-      record {
-        replies = rw (x, y, held-size n from ends (q .table) inside t);
-        counted = j .counted;
-        few = j .few;
-        length-is = ap length (j .answers .output) ∙ (rw x room);
-        stays = λ _. rw (turn-refused q m a p x) t;
-        goes = λ g. absurd (z g);
+-- a buffer of the two, and the one of the table
+cond-room : (b : Bool) (x y : List ℕ) → length x ≡ 32768 → length y ≡ 32768 → length (cond b y x) ≡ 32768
+cond-room true x y h k = k
+cond-room false x y h k = h
+
+pub own : (b : Bool) (t to : List ℕ) → cond b (cond b t to) (cond b to t) ≡ t
+own true t to = refl
+own false t to = refl
+
+pub other : (b : Bool) (t to : List ℕ) → cond (not b) (cond b t to) (cond b to t) ≡ to
+other true t to = refl
+other false t to = refl
+
+-- A turn of the table of n records in t, the second buffer if b is true.
+module _ (b : Bool) (n : ℕ) (t ends to : List ℕ) (g : Turns b n t ends to) where
+  turn-table : (q : RunState) → KeepsRun q (cond b to t) (cond b t to) ends (record { second = b; records = n }) → Table (held n t) ends (q .table)
+  turn-table q h = subst (λ x. Table (held n x) ends (q .table)) (own b t to) (h .table)
+
+  -- the two buffers are as long as any table
+  rooms : (length t ≡ 32768) × (length to ≡ 32768)
+  rooms = go b (g .keeps .first-room) (g .keeps .second-room)
+    where
+      go : (b : Bool) → length (cond b to t) ≡ 32768 → length (cond b t to) ≡ 32768 → (length t ≡ 32768) × (length to ≡ 32768)
+      go true h k = (k, h)
+      go false h k = (h, k)
+
+  pub turn-known : Known (held n t) ends
+  turn-known = table-known _ _ _ (turn-table (g .run) (g .keeps))
+
+  pub turn-inside : (n ≤ 2048) × (16 * n ≤ length t)
+  turn-inside = let k : n ≤ 2048 = omega (arith, g .keeps .count, g .keeps .table .within .small) in (k, omega (arith, k, rooms))
+
+  module _ (m : code.Move) (r : Tried) (j : Judges (held n t) ends m r) where
+    -- a refused move: the table stays as it is
+    module _ (z : r .reply .answer ≢ 0) where
+      abbrev refusedReply : Reply
+      refusedReply = record { answer = r .reply .answer; place = r .reply .place; records = n }
+
+      refused-is : (q : RunState) → KeepsRun q (cond b to t) (cond b t to) ends (record { second = b; records = n }) → (turn q (moveOf m) ≡ q) × (refusedReply ≡ replyOf (kept q (judgement q (moveOf m))))
+      unfolding replyTo kept
+      refused-is q h =
+          let e = j .judged q (turn-table q h) .replies in
+          let (a, p, x) = answer-refused (judgement q (moveOf m)) (r .reply) e z in
+          let y : r .reply ≡ record { answer = a; place = p; records = 0 } = e ∙ ap (λ v. replyOf (replyTo v)) x in (
+            turn-refused q (moveOf m) a p x,
+            ap (λ (v : Reply). record { answer = v .answer; place = v .place; records = n }) y
+                ∙ (ap (λ (k : ℕ). record { answer = a; place = p; records = k }) (h .count) ∙ sym (ap (λ v. replyOf (kept q v)) x)),
+          )
+
+      pub turned-refused : Turned b n (moveOf m) t ends to t ends to (record { reply = refusedReply; kept = record { second = b; records = n }; counts = r .counts })
+      turned-refused = record {
+        keeps = λ q h. subst (λ x. KeepsRun x (cond b to t) (cond b t to) ends (record { second = b; records = n })) (sym (refused-is q h .0)) h;
+        replies = λ q h. refused-is q h .1;
+        counted = λ q h. j .judged q (turn-table q h) .counted;
+        few = j .judged (g .run) (turn-table (g .run) (g .keeps)) .few;
       }
 
-  pub turned-refused : Turned q n from m after ends (record { reply = record { answer = r .reply .answer; place = r .reply .place; records = n }; counts = r .counts })
-  turned-refused = let (a, p, x) = answer-refused (judgement q m) (r .reply) (j .answers .replies) z in refused-is a p x
+    -- an accepted move, and what making it asks and gives
+    module _ (z : r .reply .answer ≡ 0) where
+      accepted-is : (q : RunState) → Table (held n t) ends (q .table) → (u : Term) × (judgement q (moveOf m) ≡ accept u)
+      accepted-is q h = judgement-accepted q (moveOf m) (r .reply) (j .judged q h .replies) z
 
--- a time among the moves that can be read, and what it leaves if it is accepted
-pub time-is : (m : code.Move) → OneOf (3 ∷ []) (tagOf kinds.the-type m) → (d : ℕ) × (moveOf m ≡ some (meaning.Elapse d))
-time-is (Kill a) h = absurd (miss (3 ∷ []) 0 tt h)
-time-is (Communicate a b) h = absurd (miss (3 ∷ []) 1 tt h)
-time-is (Timeout a) h = absurd (miss (3 ∷ []) 2 tt h)
-time-is (Elapse d) h = (d, refl)
-time-is (Unfold a) h = absurd (miss (3 ∷ []) 4 tt h)
-time-is (Extrude a) h = absurd (miss (3 ∷ []) 5 tt h)
-time-is None h = absurd (miss (3 ∷ []) 6 tt h)
+      reply-is : (q : RunState) (h : Table (held n t) ends (q .table)) → r .reply ≡ record { answer = 0; place = 0; records = size (accepted-is q h .0) }
+      unfolding replyTo
+      reply-is q h = rw (accepted-is q h .1) at (j .judged q h .replies)
 
-time-successor : (q : RunState) (m : Option Move) (d : ℕ) (u : Term) → m ≡ some (meaning.Elapse d) → judgement q m ≡ accept u → elapse d (q .table) ≡ u
-unfolding judgement successor
-time-successor q m d u is e =
-    let x = steps.step-accepted (q .table) u m 32768 e in
-    time-gives (q .table) u d (subst (λ v. successor (q .table) v ≡ accept u) (same-some (sym (x .reads) ∙ is)) (x .moves)) .1
+      proposed-is : (q : RunState) (h : Table (held n t) ends (q .table)) → proposed (moveOf m) (q .table) ≡ accept (accepted-is q h .0)
+      unfolding judgement proposed need _>>=_
+      proposed-is q h = let a = steps.step-accepted (q .table) (accepted-is q h .0) (moveOf m) 32768 (accepted-is q h .1) in rw (a .reads) (a .moves)
 
--- an accepted move: the successor u lies in the other buffer
-module _ (q : RunState) (m : Option Move) (to after : List ℕ) (r : Tried) (room : length to ≡ 32768) (w : Within (q .table)) (j : Judged q m to after r) where
-  module _ (u : Term) (accepted : judgement q m ≡ accept u) where
-    next-within : Within u
-    unfolding judgement
-    next-within = step-within (q .table) u m 32768 w accepted
+      next-within : (q : RunState) (h : Table (held n t) ends (q .table)) → Within (accepted-is q h .0)
+      unfolding judgement
+      next-within q h = step-within (q .table) (accepted-is q h .0) (moveOf m) 32768 (h .within) (accepted-is q h .1)
 
-    reply-is : r .reply ≡ record { answer = 0; place = 0; records = size u }
-    unfolding replyTo
-    reply-is = rw accepted at (j .answers .replies)
+      pub can-make : CanMake t n ends m (r .from) (r .reply .records) to
+      can-make =
+          let a = j .asks z to (rooms .1) in
+          let q = runOf (a .known) in
+          let h = a .known .table in
+          let e : a .successor ≡ accepted-is q h .0 = same-accept (sym (a .accepted) ∙ proposed-is q h) in
+          record {
+            asks = a;
+            within = subst Within (sym e) (next-within q h);
+            count = ap (λ (x : Reply). x .records) (reply-is q h) ∙ ap size (sym e);
+            inside = turn-inside .1;
+            room = rooms .1;
+            ends-room = g .keeps .ends-room;
+          }
 
-    after-is : after ≡ encode u ++ drop (16 * size u) to
-    unfolding written
-    after-is = rw accepted at (j .answers .output)
-
-    records-are : r .reply .records ≡ size u
-    records-are = ap (λ (x : Reply). x .records) reply-is
-
-    places : (r .reply .records ≤ 2048) × (length after ≡ 32768)
-    places = (
-      omega (arith, records-are, next-within .small),
-      ap length after-is ∙ (length-append (encode u) (drop (16 * size u) to) ∙ omega (arith, length-encode u, length-drop (16 * size u) to, next-within .small, room)),
-    )
-
-    next-holds : Holds (take (16 * r .reply .records) after) u
-    next-holds = record { is = rw (records-are, after-is) (take-at (encode u) (drop (16 * size u) to) (16 * size u) (length-encode u)); right = next-within .right }
-
-    turned : (n : ℕ) (from ends : List ℕ) → r .reply .answer ≡ 0 → EndsFrom (take (16 * r .reply .records) after) ends 0 → Turned q n from m after ends r
-    unfolding kept
-    turned n from ends z h =
-        let (v, ev) = accepted-move q m u accepted in
-        record {
-          replies = rw accepted reply-is;
-          counted = j .counted;
-          few = j .few;
-          length-is = places .1;
-          stays = λ g. absurd (g z);
-          goes = λ _. rw (turn-accepted q m u v accepted ev) (record { holds = next-holds; within = next-within; end = h });
-        }
-
-  pub successor-places : r .reply .answer ≡ 0 → (r .reply .records ≤ 2048) × (length after ≡ 32768)
-  successor-places z = let (u, e) = judgement-accepted q m (r .reply) (j .answers .replies) z in places u e
-
-  pub turned-accepted : (n : ℕ) (from ends : List ℕ) → r .reply .answer ≡ 0 → EndsFrom (take (16 * r .reply .records) after) ends 0 → Turned q n from m after ends r
-  turned-accepted n from ends z h = let (u, e) = judgement-accepted q m (r .reply) (j .answers .replies) z in turned u e n from ends z h
-
-  -- after a time the ends are those of the table before
-  pub time-ends : (d : ℕ) (s ends : List ℕ) → m ≡ some (meaning.Elapse d) → Table s ends (q .table) → r .reply .answer ≡ 0 → EndsFrom (take (16 * r .reply .records) after) ends 0
-  time-ends d s ends is h z =
-      let (u, e) = judgement-accepted q m (r .reply) (j .answers .replies) z in
-      ends-last s _ ends (q .table) d h (subst (Holds (take (16 * r .reply .records) after)) (sym (time-successor q m d u is e)) (next-holds u e))
+      pub turned-made : (t′ ends′ to′ : List ℕ) (then : Bool) → length t′ ≡ length t → length ends′ ≡ length ends → length to′ ≡ length to
+          → Makes b t n ends m (r .reply .records) t′ to′ ends′ then
+          → Turned b n (moveOf m) t ends to t′ ends′ to′ (record { reply = r .reply; kept = record { second = then; records = r .reply .records }; counts = r .counts })
+      unfolding kept
+      turned-made t′ ends′ to′ then lt le lo made = record {
+        keeps = λ q h.
+            let k = turn-table q h in
+            let (v, ev) = accepted-move q (moveOf m) (accepted-is q k .0) (accepted-is q k .1) in
+            let o = turn-accepted q (moveOf m) (accepted-is q k .0) v (accepted-is q k .1) ev in
+            record {
+              table = rw o (made (q .table) (accepted-is q k .0) k (proposed-is q k));
+              count = ap (λ (x : Reply). x .records) (reply-is q k) ∙ (rw o);
+              first-room = cond-room b t′ to′ (omega (arith, lt, rooms)) (omega (arith, lo, rooms));
+              second-room = cond-room b to′ t′ (omega (arith, lo, rooms)) (omega (arith, lt, rooms));
+              ends-room = omega (arith, le, g .keeps .ends-room);
+            };
+        replies = λ q h. rw (accepted-is q (turn-table q h) .1) (reply-is q (turn-table q h));
+        counted = λ q h. j .judged q (turn-table q h) .counted;
+        few = j .judged (g .run) (turn-table (g .run) (g .keeps)) .few;
+      }
 
 pub kept-records : (q : RunState) (m : Option Move) → kept q (judgement q m) .records ≡ size (turn q m .table)
 unfolding kept
@@ -261,59 +287,9 @@ kept-records q m = go (judgement q m) refl
     go (refuse n p) e = rw (turn-refused q m n p e)
     go (accept s) e = let (v, ev) = accepted-move q m s e in rw (turn-accepted q m s v e ev)
 
--- a buffer of the two
-cond-room : (b : Bool) (x y : List ℕ) → length x ≡ 32768 → length y ≡ 32768 → length (cond b y x) ≡ 32768
-cond-room true x y h k = k
-cond-room false x y h k = h
+-- what is kept, by its two fields
+pub kept-fields : (m : Option Move) (k : Kept) (x y ends x′ y′ ends′ : List ℕ) (r : Next) (b : Bool) → k .second ≡ b → GoesOn m (record { second = b; records = k .records }) x y ends x′ y′ ends′ r → GoesOn m k x y ends x′ y′ ends′ r
+kept-fields m k x y ends x′ y′ ends′ r b e h = subst (λ c. GoesOn m (record { second = c; records = k .records }) x y ends x′ y′ ends′ r) (sym e) h
 
--- what is kept then: r is the turn of the table in the buffer `from`, and `to` is the other; b tells whether `from` is the second
-module _ (q : RunState) (m : Option Move) (from to ends : List ℕ) (n : ℕ) (r : Tried) (t : Turned q n from m to ends r) (from-room : length from ≡ 32768) (room : 2049 < length ends) where
-  kept-table : Table (held (r .reply .records) (cond (eqb (r .reply .answer) 0) to from)) ends (turn q m .table)
-  kept-table = go (r .reply .answer) (t .stays) (t .goes)
-    where
-      go : (a : ℕ) → (a ≢ 0 → Table (held (r .reply .records) from) ends (turn q m .table)) → (a ≡ 0 → Table (held (r .reply .records) to) ends (turn q m .table))
-          → Table (held (r .reply .records) (cond (eqb a 0) to from)) ends (turn q m .table)
-      go zero s g = g refl
-      go (suc a) s g = rw (ne-eqb (suc a) 0 (λ e. absurd (omega arith))) (s (λ e. absurd (omega arith)))
-
-  pub then-keeps : (b : Bool) → KeepsRun (turn q m) (cond b to from) (cond b from to) ends (keptAfter b r .kept)
-  unfolding keptAfter
-  then-keeps b = record {
-    table = subst (λ x. Table (held (r .reply .records) x) ends (turn q m .table)) (sym (other b (eqb (r .reply .answer) 0))) kept-table;
-    count = ap (λ (x : Reply). x .records) (t .replies) ∙ kept-records q m;
-    first-room = cond-room b from to from-room (t .length-is);
-    second-room = cond-room b to from (t .length-is) from-room;
-    ends-room = room;
-  }
-    where
-      other : (b accepted : Bool) → cond (cond accepted (not b) b) (cond b from to) (cond b to from) ≡ cond accepted to from
-      other true true = refl
-      other true false = refl
-      other false true = refl
-      other false false = refl
-
--- a move on the table that is kept, in the second buffer if b
-module _ (x y ends : List ℕ) (k : Kept) (g : Going x y ends k) (b : Bool) (at-b : k .second ≡ b) where
-  from-room : length (cond b y x) ≡ 32768
-  from-room = cond-room b x y (g .keeps .first-room) (g .keeps .second-room)
-
-  in-from : (q : RunState) → KeepsRun q x y ends k → Table (held (k .records) (cond b y x)) ends (q .table)
-  in-from q h = subst (λ c. Table (held (k .records) (cond c y x)) ends (q .table)) at-b (h .table)
-
-  pub begins : CanTurn (k .records) (cond b y x) ends (cond b x y)
-  begins = record {
-    asks = record { known = table-known _ _ _ (in-from (g .run) (g .keeps)); room = cond-room b y x (g .keeps .second-room) (g .keeps .first-room) };
-    inside = omega (arith, from-room, g .keeps .count, g .keeps .table .within .small);
-    ends-room = g .keeps .ends-room;
-  }
-
-  pub goes : (m : Option Move) (to ends′ : List ℕ) (r : Tried) → 2049 < length ends′
-      → ((q : RunState) → Table (held (k .records) (cond b y x)) ends (q .table) → Turned q (k .records) (cond b y x) m to ends′ r)
-      → GoesOn m k x y ends (cond b to (cond b y x)) (cond b (cond b y x) to) ends′ (keptAfter b r)
-  unfolding keptAfter
-  goes m to ends′ r room t = record {
-    keeps = λ q h. then-keeps q m (cond b y x) to ends′ (k .records) r (t q (in-from q h)) from-room room b;
-    replies = λ q h. t q (in-from q h) .replies;
-    counted = λ q h. t q (in-from q h) .counted;
-    few = t (g .run) (in-from (g .run) (g .keeps)) .few;
-  }
+pub going-fields : (x y ends : List ℕ) (k : Kept) (b : Bool) → k .second ≡ b → Going x y ends k → Going x y ends (record { second = b; records = k .records })
+going-fields x y ends k b e h = subst (λ c. Going x y ends (record { second = c; records = k .records })) e h

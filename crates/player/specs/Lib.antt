@@ -1,4 +1,5 @@
 pub mod Loads
 pub mod Turns
+pub mod Making
 pub mod Nights
 pub mod Demand

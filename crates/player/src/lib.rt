@@ -1,6 +1,7 @@
 // Player: a list of moves on a table, each on the table that the accepted ones before it left; the load of a table.
 mod buffers;
 mod loads;
+mod making;
 mod nights;
 mod turns;
 

@@ -1,14 +1,15 @@
 // One move of a list: judged on the table that is kept, and its successor kept if it is accepted. Two buffers take the tables by turns.
 use crate::loads;
+use crate::making::make;
 use proposals::Move;
+use records::limits;
 use records::wide16;
+use stepper::answering::answer;
 use tables::Reply;
 use tally::Tally;
-ghost use mathlib.Core.Path.{_≡_};
-ghost use Rattle.cows.specs.Run.{RunState};
-ghost use Rattle.ways.specs.Known.{Table};
+ghost use Rattle.ways.specs.Known.{Known};
 ghost use Rattle.proposals.specs.Proposals.{moveOf};
-ghost use Rattle.player.specs.Turns.{held, Accepted, Copied, CanTry, Judged, CanTurn, Turned, Going, GoesOn, keptAfter};
+ghost use Rattle.player.specs.Turns.{Accepted, Copied, Judges, Turns, Turned, Going, GoesOn};
 
 // What is kept from move to move: which buffer the table is in, and its records.
 pub struct Kept {
@@ -16,9 +17,10 @@ pub struct Kept {
     pub records: usize,
 }
 
-// A judged move: the reply to it, and what it counts.
+// A judged move: the reply to it, the place of its plan, and what it counts.
 pub struct Tried {
     pub reply: Reply,
+    pub from: usize,
     pub counts: Tally,
 }
 
@@ -40,73 +42,55 @@ fn copied(s: &[u8], ends: &[u16], m: Move) -> u32
     loads::load_between(s, a + 1, wide16(ends[a]))
 }
 
-// A move on a known table, and what it counts: nothing, if it is refused.
-fn judged(s: &[u8], ends: &[u16], m: Move, to: &mut [u8]) -> Tried
-    requires { ⌜ CanTry (now s) (now ends) (now to) ⌝ }
-    ensures { λ r. ⌜ ((q : RunState) → Table (now (s .entry)) (now (ends .entry)) (q .table) → Judged q (moveOf m) (now (to .entry)) (now (to .exit)) r) ⌝ }
+// A move on a known table, judged, and what it counts: nothing, if it is refused.
+fn judged(s: &[u8], ends: &[u16], m: Move) -> Tried
+    requires { ⌜ Known (now s) (now ends) ⌝ }
+    ensures { λ r. ⌜ Judges (now (s .entry)) (now (ends .entry)) m r ⌝ }
 {
-    let step = stepper::step_known(s, ends, m, to);
-    if step.answer != 0 {
+    let plan = moves::judge(s, ends, m);
+    let judgement = plan.judgement;
+    let reply = answer(judgement, limits::MAX_BYTES);
+    if reply.answer != 0 {
         return Tried {
-            reply: step,
+            reply,
+            from: 0,
             counts: tally::zeros(),
         };
     }
     Tried {
-        reply: step,
+        reply,
+        from: plan.from,
         counts: tally::counts(m, copied(s, ends, m)),
     }
 }
 
-// A move on the table of n records in `from`; its successor goes to `to`, and `ends` takes the ends of the table then kept: after a time, which changes no
-// shape, they are those of the table before. The reply's records are those of the table then kept.
-fn turn(from: &[u8], n: usize, ends: &mut [u16], m: Move, to: &mut [u8]) -> Tried
-    requires { ⌜ CanTurn n (now from) (now ends) (now to) ⌝ }
-    ensures { λ r. ⌜ ((q : RunState) → Table (held n (now (from .entry))) (now (ends .entry)) (q .table) → Turned q n (now (from .entry)) (moveOf m) (now (to .exit)) (now (ends .exit)) r) ⌝ }
+// A move on the table of n records in t, the second buffer or the first; `to` is the other one.
+fn turn(second: bool, t: &mut [u8], n: usize, ends: &mut [u16], m: Move, to: &mut [u8]) -> Next
+    requires { ⌜ Turns second n (now t) (now ends) (now to) ⌝ }
+    ensures { λ r. ⌜ Turned second n (moveOf m) (now (t .entry)) (now (ends .entry)) (now (to .entry)) (now (t .exit)) (now (ends .exit)) (now (to .exit)) r ⌝ }
 {
     let size = 16 * n;
-    let tried = judged(&from[..size], ends, m, to);
+    let tried = judged(&t[..size], ends, m);
     let reply = tried.reply;
     let counts = tried.counts;
     if reply.answer != 0 {
-        return Tried {
+        return Next {
             reply: Reply {
                 answer: reply.answer,
                 place: reply.place,
                 records: n,
             },
+            kept: Kept { second, records: n },
             counts,
         };
     }
-    let Move::Elapse(_) = m else {
-        let after = 16 * reply.records;
-        records::ends::ends(&to[..after], ends);
-        return Tried { reply, counts };
-    };
-    Tried { reply, counts }
-}
-
-// What is kept after a move on the table in the second buffer, or in the first.
-fn kept_after(second: bool, tried: Tried) -> Next
-    ensures { λ r. ⌜ r ≡ keptAfter second tried ⌝ }
-{
-    let reply = tried.reply;
-    let counts = tried.counts;
-    if reply.answer == 0 {
-        return Next {
-            reply,
-            kept: Kept {
-                second: !second,
-                records: reply.records,
-            },
-            counts,
-        };
-    }
+    let records = reply.records;
+    let then = make(second, t, n, ends, m, tried.from, records, to);
     Next {
         reply,
         kept: Kept {
-            second,
-            records: reply.records,
+            second: then,
+            records,
         },
         counts,
     }
@@ -119,7 +103,7 @@ pub fn move_on(kept: Kept, x: &mut [u8], y: &mut [u8], ends: &mut [u16], m: Move
 {
     let n = kept.records;
     if kept.second {
-        return kept_after(true, turn(y, n, ends, m, x));
+        return turn(true, y, n, ends, m, x);
     }
-    kept_after(false, turn(x, n, ends, m, y))
+    turn(false, x, n, ends, m, y)
 }

@@ -1,5 +1,5 @@
 // Stepper: one move on a table, any bytes for both: the reply, and the successor in the output.
-mod answering;
+pub mod answering;
 
 use proposals::Move;
 use records::limits;

@@ -40,9 +40,15 @@ lower-waits-spec =
     (λ c. let v = c .before .before .before .before .before .before .before .before .before .before .before .before .before .loop .inv in omega (arith, lapsing-next _ _ _ _ (c .before .before .before .before .before .before .before .before .before .before .before .before .before .before .before .before .pre .1) (v .5) (omega arith) (c .before .before .before .before .before .before .before .before .before .wide16 .ensures .0)))
     (λ c.
     let v = c .before .before .before .before .before .before .before .before .before .before .before .before .before .loop .inv in
-    let e = c .before .before .before .before .before .before .before .before .before .wide16 .ensures .0 in
-    (omega (arith, lapsing-next _ _ _ _ (c .before .before .before .before .before .before .before .before .before .before .before .before .before .before .before .before .pre .1) (v .5) (omega arith) e), v .1, v .2, search needs, v .4, λ u h.
-    lapsing-wait _ _ u _ _ _ (v .5 u h) (omega arith) (h .end) e (c .before .before .before .before .before .before .before .if2 .taken) (search needs) (c .before .before .put-word .ensures)))
+    let e = c .before .before .before .before .before .before .before .before .before .wide16 .ensures .0 in (
+      omega (arith, lapsing-next _ _ _ _ (c .before .before .before .before .before .before .before .before .before .before .before .before .before .before .before .before .pre .1) (v .5) (omega arith) e),
+      v .1,
+      v .2,
+      search needs,
+      v .4,
+      λ u h.
+          lapsing-wait _ _ u _ _ _ (v .5 u h) (omega arith) (h .end) e (c .before .before .before .before .before .before .before .if2 .taken) (search needs) (c .before .before .put-word .ensures),
+    ))
     (λ c. let v = c .before .before .before .before .before .before .before .loop .inv in omega (arith, lapsing-next _ _ _ _ (c .before .before .before .before .before .before .before .before .before .before .pre .1) (v .5) (omega arith) (c .before .before .before .wide16 .ensures .0)))
     (λ c.
     let v = c .before .before .before .before .before .before .before .loop .inv in

@@ -1,0 +1,70 @@
+-- The successor of an allowed move (specs/Making): a time in place, with the ends as they were, and any other move in the other buffer.
+use mathlib.Core.Path.{_≡_, refl, sym, ap, subst, _∙_}
+use mathlib.Core.Bool.{Bool, not, cond}
+use mathlib.Core.List.{List, _++_}
+use Prim.Native.Nat.{ℕ, _+_, _*_, _/_, _≤_, _<_}
+use native.Mathlib.Omega.{arith}
+use lib.ListN.{length, take, drop}
+use lib.Seq.{take-at, length-take-le}
+use Rattle.cows.specs.Basics.{accept, _>>=_, need}
+use Rattle.cows.specs.Terms.{Term, size}
+use Rattle.cows.specs.Format.{encode}
+use Rattle.cows.specs.Moves.{elapse, elapseBy, successor}
+use Rattle.cows.specs.Step.{proposed}
+use Rattle.cows.proofs.Basics.{same-accept}
+use Rattle.cows.proofs.Format.{length-encode}
+use Rattle.cows.proofs.Recordwise.{time-gives}
+use Rattle.records.specs.Ends.{EndsFrom}
+use Rattle.records.specs.Rewrites.{put}
+use Rattle.ways.specs.Known.{Table, Known}
+use Rattle.ways.proofs.KnownTables.{one-table}
+use Rattle.stepper.proofs.Moved.{put-encode}
+use Rattle.proposals.specs.declared.Move.{Move}
+use Rattle.proposals.specs.declared.Move.the-variants.{Elapse}
+use Rattle.proposals.specs.Proposals.{moveOf}
+use Rattle.plans.specs.Plans.{Gives}
+use Rattle.player.specs.Turns.{held}
+use Rattle.player.specs.Making.{CanMake, Makes}
+use Rattle.player.proofs.Lasting.{ends-last}
+use Rattle.player.proofs.Turning.{held-small, own, other}
+
+module _ (t : List ℕ) (n : ℕ) (ends : List ℕ) (m : Move) (from records : ℕ) (to : List ℕ) (k : CanMake t n ends m from records to) where
+  abbrev next : Term
+  next = k .asks .successor
+
+  abbrev now : Term
+  now = k .asks .known .term
+
+  pub make-inside : (n ≤ 2048) × (records ≤ 2048) × (16 * records ≤ length to)
+  make-inside = (held-small n t ends (k .inside) (k .asks .known), omega (arith, k .count, k .within .small), omega (arith, k .count, k .asks .room))
+
+  -- the successor at the start of a buffer
+  held-next : (x rest : List ℕ) → x ≡ encode next ++ rest → held records x ≡ encode next
+  held-next x rest e = rw e (take-at (encode next) rest (16 * records) (omega (arith, length-encode next, k .count)))
+
+  -- with its ends it is the table then kept
+  kept-next : (x ends′ : List ℕ) → held records x ≡ encode next → EndsFrom (held records x) ends′ 0 → Table (held records x) ends′ next
+  kept-next x ends′ e h = record { holds = record { is = e; right = k .within .right }; within = k .within; end = h }
+
+  makes-in : (b then : Bool) (x t′ to′ ends′ : List ℕ) → cond then (cond b t′ to′) (cond b to′ t′) ≡ x → Table (held records x) ends′ next → Makes b t n ends m records t′ to′ ends′ then
+  makes-in b then x t′ to′ ends′ c h v u hv e =
+      let o : next ≡ u = same-accept (sym (k .asks .accepted) ∙ (ap (proposed (moveOf m)) (one-table (held n t) ends now v (k .asks .known .table) hv) ∙ e)) in
+      rw c (subst (Table (held records x) ends′) o h)
+
+  -- written to the other buffer, its ends made anew
+  pub makes-there : (b : Bool) (t′ to′ ends′ : List ℕ) → Gives (proposed (moveOf m)) (held n t) ends to to′ → EndsFrom (held records to′) ends′ 0 → Makes b t n ends m records t′ to′ ends′ (not b)
+  makes-there b t′ to′ ends′ g h =
+      let e = g now next (k .asks .known .table) (k .asks .accepted) ∙ put-encode to next (k .asks .room) in
+      makes-in b (not b) to′ t′ to′ ends′ (other b t′ to′) (kept-next to′ ends′ (held-next to′ _ e) h)
+
+  -- a time, in place
+  module _ (d : ℕ) (is : m ≡ Elapse d) where
+    time-next : elapse d now ≡ next
+    unfolding proposed need _>>=_ successor
+    time-next = time-gives now next d (subst (λ x. proposed (moveOf x) now ≡ accept next) is (k .asks .accepted)) .1
+
+    pub makes-time : (b : Bool) (t′ to′ : List ℕ) → ((v : Term) → Table (held n t) ends v → t′ ≡ encode (elapse d v) ++ drop (16 * n) t) → Makes b t n ends m records t′ to′ ends b
+    makes-time b t′ to′ g =
+        let e = held-next t′ _ (g now (k .asks .known .table) ∙ ap (λ x. encode x ++ drop (16 * n) t) time-next) in
+        makes-in b b t′ t′ to′ ends (own b t′ to′)
+        (kept-next t′ ends e (ends-last (held n t) (held records t′) ends now d (k .asks .known .table) (record { is = e ∙ ap encode (sym time-next); right = rw time-next (k .within .right) })))

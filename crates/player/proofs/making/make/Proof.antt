@@ -1,0 +1,27 @@
+use borrow.Author.Needs.{needs}
+use mathlib.Core.Path.{sym}
+use native.Mathlib.Omega.{arith}
+use lib.Seq.{length-take-le}
+use Rattle.player.proofs.Turning.{held-few}
+use Rattle.player.proofs.Successors.{make-inside, makes-there, makes-time}
+use Rattle.player.proofs.making.make.Statement.{statement}
+use Rattle.player.proofs.making.make.Tie as tie
+
+pub make-spec : {M : Type 1} → statement M
+make-spec =
+    tie.close
+    (tie.spec
+    (λ c. search needs)
+    (λ c. omega (arith, make-inside _ _ _ _ _ _ _ (c .before .before .before .before .pre)))
+    (λ c. omega (arith, make-inside _ _ _ _ _ _ _ (c .before .before .before .before .pre)))
+    (λ c. omega (arith, c .before .before .before .before .pre .inside))
+    (λ c. sym (length-take-le _ _ (c .before .before .before .before .before .pre .inside)))
+    (λ c κs. c .before .before .before .before .before .before .before .pre .asks)
+    (λ c. omega (arith, make-inside _ _ _ _ _ _ _ (c .before .before .before .before .before .before .before .before .before .before .pre), c .before .to))
+    (λ c. sym (length-take-le _ _ (omega (arith, make-inside _ _ _ _ _ _ _ (c .before .before .before .before .before .before .before .before .before .before .before .pre), c .before .before .to))))
+    (λ c κs. held-few _ _ (c .before .before .before .before .before .before .before .before .before .before .before .before .args .ends .now) (make-inside _ _ _ _ _ _ _ (c .before .before .before .before .before .before .before .before .before .before .before .before .pre) .1) (omega (arith, c .before .before .before .before .before .before .before .before .before .before .before .before .pre .room, c .before .before .before .to)) (c .before .before .before .before .before .before .before .before .before .before .before .before .pre .ends-room))
+    (λ c. search needs) (λ c. search needs) (λ c. search needs)
+    (λ c. makes-there _ _ _ _ _ _ _ (c .before .before .before .before .before .before .before .before .before .before .before .before .before .before .before .pre) (c .before .before .before .before .before .before .before .before .before .before .before .before .before .before .before .args .second) _ _ _ (c .before .before .before .before .before .before .before .write .ensures) (c .before .before .ends .ensures))
+    (λ c κs. (c .before .before .before .before .before .before .before .before .pre .inside, c .before .before .before .before .before .before .before .before .pre .asks .known))
+    (λ c. search needs) (λ c. search needs)
+    (λ c. makes-time _ _ _ _ _ _ _ (c .before .before .before .before .before .before .before .before .before .before .before .pre) _ (c .before .before .before .before .before .before .m .given .1) (c .before .before .before .before .before .before .before .before .before .before .before .args .second) _ _ (c .before .before .lower-waits .ensures)))
