@@ -4,7 +4,7 @@ use mathlib.Core.Bool.{Bool, true, false, cond, not}
 use mathlib.Core.List.{List, _∷_, _++_}
 use Prim.Native.Nat.{ℕ, _+_, _*_, _-_, _/_, _≤_, _<_}
 use lib.Dec.{eqb}
-use lib.ListN.{length, take, drop}
+use lib.ListN.{length, getD, take, drop}
 use Rattle.cows.specs.Limits.{maxDepth, maxRecords}
 use Rattle.cows.specs.Basics.{placeIf, Result, accept, _>>_, forbid}
 use Rattle.cows.specs.Terms.{delimitation, Term, under, size, below}
@@ -62,3 +62,20 @@ pub record Lifts (size a p room : ℕ) : Type 0 where
 
 unfoldable pub lifted : List ℕ → ℕ → ℕ → List ℕ
 lifted s a p = take (16 * p) s ++ (take 16 (drop (16 * a) s) ++ (take (16 * (a - p)) (drop (16 * p) s) ++ drop (16 * (a + 1)) s))
+
+-- the bytes from `low` up to `high` up by one record
+unfoldable pub raised : List ℕ → ℕ → ℕ → List ℕ
+raised t low high = take (low + 16) t ++ (take (high - low) (drop low t) ++ drop (high + 16) t)
+
+-- The ends of a table whose record at place a goes before that at place p: what lifting them asks, and gives.
+pub record LiftsEnds (ends : List ℕ) (a p : ℕ) : Type 0 where
+  pub before : p < a
+  pub inside : a ≤ maxRecords
+  pub room : a < length ends
+  pub small : (i : ℕ) → i < a → getD ends i 0 ≤ maxRecords
+
+pub record EndsLifted (ends : List ℕ) (a p : ℕ) (ends′ : List ℕ) : Type 0 where
+  pub first : (i : ℕ) → i ≤ p → getD ends′ i 0 ≡ getD ends i 0
+  pub top : getD ends′ (p + 1) 0 ≡ getD ends p 0
+  pub between : (i : ℕ) → p + 1 < i → i ≤ a → getD ends′ i 0 ≡ getD ends (i - 1) 0 + 1
+  pub last : (i : ℕ) → a < i → getD ends′ i 0 ≡ getD ends i 0

@@ -11,7 +11,7 @@ use records::limits;
 use records::wide16;
 use ways::place_at;
 ghost use mathlib.Core.Path.{_≡_};
-ghost use Prim.Native.Nat.{ℕ, _<_};
+ghost use Prim.Native.Nat.{ℕ, _+_, _*_, _≤_, _<_};
 ghost use lib.ListN.{length};
 ghost use Rattle.cows.specs.Limits.{maxRecords};
 ghost use Rattle.cows.specs.Terms.{Term};
@@ -22,7 +22,7 @@ ghost use Rattle.records.specs.Rewrites.{put};
 ghost use Rattle.ways.specs.Known.{Table, Known};
 ghost use Rattle.ways.specs.Ways.{parentOf};
 ghost use Rattle.plans.specs.Plans.{resultOf, limited, Planned, Asks, Gives};
-ghost use Rattle.extrude.specs.Extruding.{isLabel, besideOf, liftAt, Lifting, Liftable, Lifts, lifted};
+ghost use Rattle.extrude.specs.Extruding.{isLabel, besideOf, liftAt, Lifting, Liftable, Lifts, lifted, raised, LiftsEnds, EndsLifted};
 
 fn is_label(a: Atom) -> bool
     ensures { λ r. ⌜ r ≡ isLabel a ⌝ }
@@ -105,4 +105,41 @@ pub fn write(s: &[u8], ends: &[u16], a: usize, from: usize, out: &mut [u8])
     ensures { λ _. ⌜ Gives (λ t. extrudeAt t a) (now (s .entry)) (now (ends .entry)) (now (out .entry)) (now (out .exit)) ⌝ }
 {
     lift(s, a, from, out);
+}
+
+// The bytes from `low` up to `high` go up by one record, the last first.
+fn raise(t: &mut [u8], low: usize, high: usize)
+    requires { ⌜ (low ≤ high) × (high + 16 ≤ length (now t)) ⌝ }
+    ensures { λ _. ⌜ now (t .exit) ≡ raised (now (t .entry)) low high ⌝ }
+{
+    let mut i = high;
+    while low < i {
+        i -= 1;
+        t[i + 16] = t[i];
+    }
+}
+
+// The record at place a goes before those from place p on, where the table lies.
+pub fn lift_in(t: &mut [u8], a: usize, p: usize)
+    requires { ⌜ (p < a) × (16 * (a + 1) ≤ length (now t)) ⌝ }
+    ensures { λ _. ⌜ now (t .exit) ≡ lifted (now (t .entry)) a p ⌝ }
+{
+    let mut record = [0u8; 16];
+    copy(t, 16 * a, 16, &mut record, 0);
+    raise(t, 16 * p, 16 * a);
+    copy(&record, 0, 16, t, 16 * p);
+}
+
+// The ends of the terms then: those of the places p to a - 1 go up by one, and end one later, but for the term at p, which ends where it ended.
+pub fn lift_ends(ends: &mut [u16], a: usize, p: usize)
+    requires { ⌜ LiftsEnds (now ends) a p ⌝ }
+    ensures { λ _. ⌜ EndsLifted (now (ends .entry)) a p (now (ends .exit)) ⌝ }
+{
+    let top = ends[p];
+    let mut i = a;
+    while p + 1 < i {
+        ends[i] = ends[i - 1] + 1;
+        i -= 1;
+    }
+    ends[p + 1] = top;
 }
