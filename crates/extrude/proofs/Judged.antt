@@ -7,7 +7,7 @@ use mathlib.Core.List.{List, [], _∷_, _++_, append-assoc}
 use Prim.Native.Nat.{ℕ, suc, _+_, _*_, _-_, _/_, _≤_, _<_, max}
 use native.Mathlib.Omega.{arith}
 use lib.Dec.{ltb, eqb}
-use lib.Seq.{take-at, drop-at, drop-drop}
+use lib.Seq.{take-at, drop-at, drop-drop, take-append-le, drop-append-le}
 use lib.ListN.{length, getD, take, drop, length-append, length-drop, drop-of-length-le}
 use borrow.Author.Tests.{eq-eqb, ne-eqb, eqb-true, eqb-false, not-false, lt-ltb, le-ltb}
 use Rattle.cows.specs.Basics.{placeIf, refuse, accept, _>>=_, _>>_, forbid}
@@ -391,3 +391,46 @@ module _ (s ends : List ℕ) (a from : ℕ) (out : List ℕ) (q : Asks (λ t. ex
       let y : lifted s a from ≡ encode (q .successor) = ap (λ b. lifted b a from) (h .holds .is) ∙ (ap (lifted (encode t) a) z ∙ (o ∙ ap encode (sym r))) in
       let m : length s ≡ 16 * size (q .successor) = sym (lifted-length s a from (omega (arith, z, above t a d f w l e v)) (omega arith)) ∙ (ap length y ∙ length-encode (q .successor)) in
       (record { before = omega (arith, z, above t a d f w l e v); inside = omega arith; fits = omega (arith, q .room) }, y)
+
+-- What was exchanged: the delimitation of `atom` at place a, around `inner`, and the frame above it at place p.
+pub record Exchanged (t r : Term) (a p : ℕ) : Type 0 where
+  pub frame : Frame
+  pub rest : Way
+  pub atom : ℕ
+  pub inner : Term
+  pub was : t ≡ fill rest (plug frame (under (delimitation atom) inner))
+  pub is : r ≡ fill rest (under (delimitation atom) (plug frame inner))
+  pub above : p ≡ length (ahead rest)
+  pub here : a ≡ length (ahead (frame ∷ rest))
+
+pub lift-exchanged : (s ends : List ℕ) (a from : ℕ) (out : List ℕ) (q : Asks (λ t. extrudeAt t a) (λ t. parentOf (wayTo t a)) s ends from out) → Exchanged (q .known .term) (q .successor) a from
+unfolding parentOf fill afterExtrude exchange
+lift-exchanged s ends a from out q =
+    let t = q .known .term in
+    let (d, l, e, g, r) = allowed-lift t a (q .successor) (q .accepted) in
+    let (f, w, v) = fitting-frame (wayTo t a) g in
+    record {
+      frame = f;
+      rest = w;
+      atom = d;
+      inner = below (sub t a);
+      was = sym (fill-spot t a) ∙ (ap (λ y. fill y (sub t a)) v ∙ ap (λ x. fill w (plug f x)) e);
+      is = r ∙ ap (exchange d (below (sub t a))) v;
+      above = q .place-is ∙ ap parentOf v;
+      here = sym (length-ahead t a l) ∙ ap (λ y. length (ahead y)) v;
+    }
+
+-- lifted among other bytes
+pub lifted-among : (x y : List ℕ) (a p : ℕ) → p < a → 16 * (a + 1) ≤ length x → lifted (x ++ y) a p ≡ lifted x a p ++ y
+unfolding lifted
+lifted-among x y a p h l =
+    let e₁ = drop-append-le (16 * a) x y (omega arith) in
+    let e₂ = drop-append-le (16 * p) x y (omega arith) in
+    rw (
+      take-append-le (16 * p) x y (omega arith),
+      e₁,
+      take-append-le 16 (drop (16 * a) x) y (omega (arith, length-drop (16 * a) x)),
+      e₂,
+      take-append-le (16 * (a - p)) (drop (16 * p) x) y (omega (arith, length-drop (16 * p) x)),
+      drop-append-le (16 * (a + 1)) x y l,
+    ) (simp append-assoc)

@@ -18,7 +18,7 @@ use Rattle.records.specs.Holds.{Holds}
 use Rattle.records.specs.Ends.{EndsFrom}
 use Rattle.records.proofs.StandsIn.{holds-size, holds-stands}
 use Rattle.records.proofs.Shapes.{end-over, end-stands}
-use Rattle.ways.specs.Known.{Table}
+use Rattle.ways.specs.Known.{Table, EndPlaces}
 use Rattle.ways.proofs.KnownTables.{table-size, table-ended}
 
 size-elapse : (d : ℕ) (v w : Way) (t : Term) (n : ℕ) → size (descend v (elapse d t) n .here) ≡ size (descend w t n .here)
@@ -39,20 +39,29 @@ pub sub-elapse : (d : ℕ) (t : Term) (n : ℕ) → size (sub (elapse d t) n) �
 unfolding sub spotAt
 sub-elapse d t n = size-elapse d [] [] t n
 
--- so the ends of its table are those of the table before
+-- behind the last place of a table stands one past the number of its records, twice
+pub behind-last : (s ends : List ℕ) (t : Term) → Table s ends t → (m : ℕ) → size t ≤ m → m ≤ size t + 1 → getD ends m 0 ≡ size t + 1
+behind-last s ends t h m lo hi =
+    let n = table-size s ends t h in
+    h .end .end m (omega arith) (omega (arith, n)) ∙ (end-over s m (omega (arith, n)) ∙ ap (λ x. x + 1) n)
+
+-- the ends of a table, by the sizes of its terms
+pub ends-by-places : (next ends : List ℕ) (u : Term) → Holds next u → size u ≤ 2048 → size u + 1 < length ends → EndPlaces ends u → ((m : ℕ) → size u ≤ m → m ≤ size u + 1 → getD ends m 0 ≡ size u + 1)
+    → EndsFrom next ends 0
+ends-by-places next ends u k few room places behind =
+    let n = holds-size next u k in
+    record {
+      few = omega (arith, n);
+      room = omega (arith, n);
+      end = λ m lo hi.
+          bool-case _ (ltb m (size u))
+          (λ e. let l = ltb-true m (size u) e in places m l ∙ sym (end-stands next (sub u m) m (holds-stands next u m k l)))
+          (λ e. let l = ltb-false m (size u) e in behind m l (omega (arith, n)) ∙ (ap (λ x. x + 1) (sym n) ∙ sym (end-over next m (omega (arith, n)))));
+    }
+
+-- so after a time the ends of the table are those of the table before
 pub ends-last : (s next ends : List ℕ) (t : Term) (d : ℕ) → Table s ends t → Holds next (elapse d t) → EndsFrom next ends 0
 ends-last s next ends t d h k =
-    let n = table-size s ends t h in
-    let n′ = holds-size next (elapse d t) k ∙ elapse-keeps of-size d t in
-    record {
-      few = omega (arith, n, n′, h .end .few);
-      room = omega (arith, n, n′, h .end .room);
-      end = λ m lo hi.
-          bool-case _ (ltb m (size t))
-          (λ e.
-          table-ended s ends t h m (ltb-true m (size t) e)
-          ∙ (ap (λ x. m + x) (sym (sub-elapse d t m)) ∙ sym (end-stands next (sub (elapse d t) m) m (holds-stands next (elapse d t) m k (omega (arith, ltb-true m (size t) e, elapse-keeps of-size d t))))))
-          (λ e.
-          h .end .end m (omega arith) (omega (arith, n, n′))
-          ∙ (end-over s m (omega (arith, n, ltb-false m (size t) e)) ∙ (ap (λ x. x + 1) (n ∙ sym n′) ∙ sym (end-over next m (omega (arith, n′, ltb-false m (size t) e))))));
-    }
+    let z = elapse-keeps of-size d t in
+    ends-by-places next ends (elapse d t) k (omega (arith, z, h .within .small)) (omega (arith, z, table-size s ends t h, h .end .room))
+    (λ m l. table-ended s ends t h m (omega (arith, z)) ∙ ap (λ x. m + x) (sym (sub-elapse d t m))) (λ m lo hi. behind-last s ends t h m (omega (arith, z)) (omega (arith, z)) ∙ ap (λ x. x + 1) (sym z))

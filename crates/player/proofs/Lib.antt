@@ -1,4 +1,6 @@
+pub mod Sizes
 pub mod Lasting
+pub mod Floating
 pub mod Loading
 pub mod Turning
 pub mod Successors

@@ -1,15 +1,16 @@
--- The successor of an allowed move (specs/Making): a time in place, with the ends as they were, and any other move in the other buffer.
+-- The successor of an allowed move (specs/Making): a time in place, with the ends as they were, a floating in place, with the ends lifted, and any other move in the other buffer.
 use mathlib.Core.Path.{_≡_, refl, sym, ap, subst, _∙_}
 use mathlib.Core.Bool.{Bool, not, cond}
 use mathlib.Core.List.{List, _++_}
 use Prim.Native.Nat.{ℕ, _+_, _*_, _/_, _≤_, _<_}
 use native.Mathlib.Omega.{arith}
-use lib.ListN.{length, take, drop}
+use lib.ListN.{length, take, drop, take-append-drop}
 use lib.Seq.{take-at, length-take-le}
 use Rattle.cows.specs.Basics.{accept, _>>=_, need}
 use Rattle.cows.specs.Terms.{Term, size}
 use Rattle.cows.specs.Format.{encode}
-use Rattle.cows.specs.Moves.{elapse, elapseBy, successor}
+use Rattle.cows.specs.Places.{wayTo}
+use Rattle.cows.specs.Moves.{elapse, elapseBy, extrudeAt, successor}
 use Rattle.cows.specs.Step.{proposed}
 use Rattle.cows.proofs.Basics.{same-accept}
 use Rattle.cows.proofs.Format.{length-encode}
@@ -17,15 +18,20 @@ use Rattle.cows.proofs.Recordwise.{time-gives}
 use Rattle.records.specs.Ends.{EndsFrom}
 use Rattle.records.specs.Rewrites.{put}
 use Rattle.ways.specs.Known.{Table, Known}
+use Rattle.ways.specs.Ways.{parentOf}
 use Rattle.ways.proofs.KnownTables.{one-table}
 use Rattle.stepper.proofs.Moved.{put-encode}
 use Rattle.proposals.specs.declared.Move.{Move}
-use Rattle.proposals.specs.declared.Move.the-variants.{Elapse}
+use Rattle.proposals.specs.declared.Move.the-variants.{Elapse, Extrude}
 use Rattle.proposals.specs.Proposals.{moveOf}
-use Rattle.plans.specs.Plans.{Gives}
+use Rattle.plans.specs.Plans.{Asks, Gives}
+use Rattle.moves.specs.Places.{planPlace}
+use Rattle.extrude.specs.Extruding.{lifted, LiftsEnds, EndsLifted}
+use Rattle.extrude.proofs.Judged.{lift-asked, lift-exchanged, lifted-among}
 use Rattle.player.specs.Turns.{held}
 use Rattle.player.specs.Making.{CanMake, Makes}
 use Rattle.player.proofs.Lasting.{ends-last}
+use Rattle.player.proofs.Floating.{lifts-ends, floated-ends}
 use Rattle.player.proofs.Turning.{held-small, own, other}
 
 module _ (t : List ℕ) (n : ℕ) (ends : List ℕ) (m : Move) (from records : ℕ) (to : List ℕ) (k : CanMake t n ends m from records to) where
@@ -68,3 +74,35 @@ module _ (t : List ℕ) (n : ℕ) (ends : List ℕ) (m : Move) (from records : �
         let e = held-next t′ _ (g now (k .asks .known .table) ∙ ap (λ x. encode x ++ drop (16 * n) t) time-next) in
         makes-in b b t′ t′ to′ ends (own b t′ to′)
         (kept-next t′ ends e (ends-last (held n t) (held records t′) ends now d (k .asks .known .table) (record { is = e ∙ ap encode (sym time-next); right = rw time-next (k .within .right) })))
+
+  -- a floating, in place
+  module _ (a : ℕ) (is : m ≡ Extrude a) where
+    float-asks : Asks (λ v. extrudeAt v a) (λ v. parentOf (wayTo v a)) (held n t) ends from to
+    unfolding proposed need _>>=_ successor
+    float-asks = record {
+      known = k .asks .known;
+      successor = next;
+      accepted = subst (λ x. proposed (moveOf x) now ≡ accept next) is (k .asks .accepted);
+      place-is = k .asks .place-is ∙ ap (λ x. planPlace x now) is;
+      room = k .asks .room;
+    }
+
+    pub float-inside : (from < a) × (16 * (a + 1) ≤ length (held n t)) × (16 * (a + 1) ≤ length t)
+    float-inside = let (h, e) = lift-asked (held n t) ends a from to float-asks in (h .before, h .inside, omega (arith, h .inside, length-take-le (16 * n) t (k .inside)))
+
+    pub float-ends : LiftsEnds ends a from
+    unfolding float-asks
+    float-ends = lifts-ends now next a from (lift-exchanged (held n t) ends a from to float-asks) (held n t) ends (k .asks .known .table)
+
+    pub makes-float : (b : Bool) (t′ to′ ends′ : List ℕ) → t′ ≡ lifted t a from → EndsLifted ends a from ends′ → length ends′ ≡ length ends → Makes b t n ends m records t′ to′ ends′ b
+    unfolding float-asks
+    makes-float b t′ to′ ends′ g h l =
+        let (before, within, _) = float-inside in
+        let o : t′ ≡ encode next ++ drop (16 * n) t =
+        g
+        ∙ (ap (λ x. lifted x a from) (sym (take-append-drop (16 * n) t))
+        ∙ (lifted-among (held n t) (drop (16 * n) t) a from before within ∙ ap (λ x. x ++ drop (16 * n) t) (lift-asked (held n t) ends a from to float-asks .1))) in
+        let e = held-next t′ _ o in
+        makes-in b b t′ t′ to′ ends′ (own b t′ to′)
+        (kept-next t′ ends′ e
+        (floated-ends now next a from (lift-exchanged (held n t) ends a from to float-asks) (held n t) ends (k .asks .known .table) (held records t′) ends′ (record { is = e; right = k .within .right }) h l))

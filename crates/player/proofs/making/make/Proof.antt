@@ -3,7 +3,7 @@ use mathlib.Core.Path.{sym}
 use native.Mathlib.Omega.{arith}
 use lib.Seq.{length-take-le}
 use Rattle.player.proofs.Turning.{held-few}
-use Rattle.player.proofs.Successors.{make-inside, makes-there, makes-time}
+use Rattle.player.proofs.Successors.{make-inside, makes-there, makes-time, float-inside, float-ends, makes-float}
 use Rattle.player.proofs.making.make.Statement.{statement}
 use Rattle.player.proofs.making.make.Tie as tie
 
@@ -12,16 +12,22 @@ make-spec =
     tie.close
     (tie.spec
     (λ c. search needs)
-    (λ c. omega (arith, make-inside _ _ _ _ _ _ _ (c .before .before .before .before .pre)))
-    (λ c. omega (arith, make-inside _ _ _ _ _ _ _ (c .before .before .before .before .pre)))
-    (λ c. omega (arith, c .before .before .before .before .pre .inside))
-    (λ c. sym (length-take-le _ _ (c .before .before .before .before .before .pre .inside)))
-    (λ c κs. c .before .before .before .before .before .before .before .pre .asks)
-    (λ c. omega (arith, make-inside _ _ _ _ _ _ _ (c .before .before .before .before .before .before .before .before .before .before .pre), c .before .to))
-    (λ c. sym (length-take-le _ _ (omega (arith, make-inside _ _ _ _ _ _ _ (c .before .before .before .before .before .before .before .before .before .before .before .pre), c .before .before .to))))
-    (λ c κs. held-few _ _ (c .before .before .before .before .before .before .before .before .before .before .before .before .args .ends .now) (make-inside _ _ _ _ _ _ _ (c .before .before .before .before .before .before .before .before .before .before .before .before .pre) .1) (omega (arith, c .before .before .before .before .before .before .before .before .before .before .before .before .pre .room, c .before .before .before .to)) (c .before .before .before .before .before .before .before .before .before .before .before .before .pre .ends-room))
-    (λ c. search needs) (λ c. search needs) (λ c. search needs)
-    (λ c. makes-there _ _ _ _ _ _ _ (c .before .before .before .before .before .before .before .before .before .before .before .before .before .before .before .pre) (c .before .before .before .before .before .before .before .before .before .before .before .before .before .before .before .args .second) _ _ _ (c .before .before .before .before .before .before .before .write .ensures) (c .before .before .ends .ensures))
     (λ c κs. (c .before .before .before .before .before .before .before .before .pre .inside, c .before .before .before .before .before .before .before .before .pre .asks .known))
     (λ c. search needs) (λ c. search needs)
-    (λ c. makes-time _ _ _ _ _ _ _ (c .before .before .before .before .before .before .before .before .before .before .before .pre) _ (c .before .before .before .before .before .before .m .given .1) (c .before .before .before .before .before .before .before .before .before .before .before .args .second) _ _ (c .before .before .lower-waits .ensures)))
+    (λ c. makes-time _ _ _ _ _ _ _ (c .before .before .before .before .before .before .before .before .before .before .before .pre) _ (c .before .before .before .before .before .before .m .given .1) (c .before .before .before .before .before .before .before .before .before .before .before .args .second) _ _ (c .before .before .lower-waits .ensures))
+    (λ c. search needs)
+    (λ c κs. let (b, _, i) = float-inside _ _ _ _ _ _ _ (c .before .before .before .before .before .before .before .before .pre) _ (c .before .before .m2 .given .1) in (b, i))
+    (λ c κs. float-ends _ _ _ _ _ _ _ (c .before .before .before .before .before .before .before .before .before .before .before .before .pre) _ (c .before .before .before .before .before .before .m2 .given .1))
+    (λ c. search needs) (λ c. search needs)
+    (λ c.
+    makes-float _ _ _ _ _ _ _ (c .before .before .before .before .before .before .before .before .before .before .before .before .before .before .before .pre) _ (c .before .before .before .before .before .before .before .before .before .m2 .given .1) (c .before .before .before .before .before .before .before .before .before .before .before .before .before .before .before .args .second) _ _ _ (c .before .before .before .before .before .before .lift-in .ensures) (c .before .before .lift-ends .ensures) (omega (arith, c .before .ends)))
+    (λ c. omega (arith, make-inside _ _ _ _ _ _ _ (c .before .before .before .before .before .pre)))
+    (λ c. omega (arith, make-inside _ _ _ _ _ _ _ (c .before .before .before .before .before .pre)))
+    (λ c. omega (arith, c .before .before .before .before .before .pre .inside))
+    (λ c. sym (length-take-le _ _ (c .before .before .before .before .before .before .pre .inside)))
+    (λ c κs. c .before .before .before .before .before .before .before .before .pre .asks)
+    (λ c. omega (arith, make-inside _ _ _ _ _ _ _ (c .before .before .before .before .before .before .before .before .before .before .before .pre), c .before .to))
+    (λ c. sym (length-take-le _ _ (omega (arith, make-inside _ _ _ _ _ _ _ (c .before .before .before .before .before .before .before .before .before .before .before .before .pre), c .before .before .to))))
+    (λ c κs. held-few _ _ (c .before .before .before .before .before .before .before .before .before .before .before .before .before .args .ends .now) (make-inside _ _ _ _ _ _ _ (c .before .before .before .before .before .before .before .before .before .before .before .before .before .pre) .1) (omega (arith, c .before .before .before .before .before .before .before .before .before .before .before .before .before .pre .room, c .before .before .before .to)) (c .before .before .before .before .before .before .before .before .before .before .before .before .before .pre .ends-room))
+    (λ c. search needs) (λ c. search needs) (λ c. search needs)
+    (λ c. makes-there _ _ _ _ _ _ _ (c .before .before .before .before .before .before .before .before .before .before .before .before .before .before .before .before .pre) (c .before .before .before .before .before .before .before .before .before .before .before .before .before .before .before .before .args .second) _ _ _ (c .before .before .before .before .before .before .before .write .ensures) (c .before .before .ends2 .ensures)))
