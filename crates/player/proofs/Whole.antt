@@ -6,8 +6,8 @@ use mathlib.Core.List.{List, _++_}
 use Prim.Native.Nat.{ℕ, _+_, _*_, _-_, _/_, _≤_, _<_}
 use native.Mathlib.Omega.{arith}
 use lib.Dec.{ltb}
-use lib.ListN.{length, take, drop, replicate, length-replicate}
-use lib.Seq.{take-all, take-at}
+use lib.ListN.{length, take, drop, replicate, length-append, length-replicate}
+use lib.Seq.{take-all, take-at, take-take, take-append-le, drop-at, drop-drop, drop-append-add, length-take-le}
 use borrow.Author.Tests.{ltb-false, lt-ltb, le-ltb}
 use Rattle.cows.specs.Basics.{placeIf, Result, refuse, accept, _>>=_, _>>_, forbid}
 use Rattle.cows.specs.Terms.{Term}
@@ -31,63 +31,81 @@ use Rattle.player.specs.Turns.{held, KeepsRun}
 use Rattle.player.specs.Nights.{CanPlay, NightOver, Clear, refusedWith, PlayGives, Plays, PlaysTerm}
 use Rattle.player.proofs.Writing.{put-eq}
 
--- before the first move: the table copied into the first of two buffers of zeros is kept there
+-- before the first move: the table copied to the output, whose first 32,768 bytes are the first of two buffers, is kept there
 abbrev pub zeros : List ℕ
 zeros = replicate 32768 0
 
-module _ (table ends moves out slots x : List ℕ) (o : Clear table ends moves out slots) (e : x ≡ put zeros 0 (take (length table) (drop 0 table))) where
+module _ (table ends moves out slots whole : List ℕ) (o : Clear table ends moves out slots) (e : whole ≡ put out 0 (take (length table) (drop 0 table))) where
   zeros-long : length zeros ≡ 32768
   zeros-long = length-replicate {A = ℕ} 32768 0
 
-  held-is : table ≡ held (length table / 16) x
+  whole-is : whole ≡ table ++ drop (0 + length table) out
+  whole-is = e ∙ (ap (put out 0) (take-all (length table) table (omega arith)) ∙ put-eq out table (omega (arith, o .known .few, o .known .whole, o .out-room)))
+
+  whole-long : length whole ≡ length out
+  whole-long = ap length e ∙ length-put out 0 (take (length table) (drop 0 table))
+
+  pub room-whole : 32768 ≤ length whole
+  room-whole = omega (arith, whole-long, o .out-room)
+
+  pub part-whole : length (take 32768 whole) ≡ 32768
+  part-whole = length-take-le 32768 whole room-whole
+
+  held-is : table ≡ held (length table / 16) (take 32768 whole)
   held-is =
-      let all = take-all (length table) table (omega arith) in
-      let few : length table ≤ length zeros = omega (arith, o .known .few, o .known .whole, zeros-long) in
-      sym (rw (e, all, put-eq zeros table few) (take-at table (drop (0 + length table) zeros) (16 * (length table / 16)) (o .known .whole)))
+      sym (take-take (16 * (length table / 16)) 32768 whole (omega (arith, o .known .few))
+      ∙ (ap (take (16 * (length table / 16))) whole-is ∙ take-at table (drop (0 + length table) out) (16 * (length table / 16)) (o .known .whole)))
 
   abbrev first : Kept
   first = record { second = false; records = length table / 16 }
 
-  pub keeps-first : (t : Term) → Table table ends t → KeepsRun (start t) x zeros ends first
+  pub keeps-first : (t : Term) → Table table ends t → KeepsRun (start t) (take 32768 whole) zeros ends first
   unfolding start
   keeps-first t h = record {
     table = subst (λ s. Table s ends t) held-is h;
     count = table-size table ends t h;
-    first-room = ap length e ∙ (length-put zeros 0 (take (length table) (drop 0 table)) ∙ zeros-long);
+    first-room = part-whole;
     second-room = zeros-long;
     ends-room = o .ends-room;
   }
 
-  pub opens : CanPlay moves (length moves / 6) first x zeros ends slots
+  pub opens : CanPlay moves (length moves / 6) first (take 32768 whole) zeros ends slots
   opens = record { term = o .known .term; keeps = keeps-first (o .known .term) (o .known .table); all = refl; short = o .short; slots-room = o .slots-room }
 
--- the table that is kept can be written, from either buffer
-module _ (q : RunState) (x y ends : List ℕ) (k : Kept) (h : KeepsRun q x y ends k) where
-  pub last-fits : (16 * k .records ≤ length x) × (16 * k .records ≤ length y) × (k .records ≤ 2048)
-  last-fits = let n : k .records ≤ 2048 = omega (arith, h .count, h .table .within .small) in (omega (arith, n, h .first-room), omega (arith, n, h .second-room), n)
+  -- behind the first buffer the output is as it was
+  behind-whole : drop 32768 whole ≡ drop 32768 out
+  behind-whole =
+      let n = length table in
+      let m : n + (32768 - n) ≡ 32768 = omega (arith, o .known .few, o .known .whole) in
+      let z : 0 + n + (32768 - n) ≡ 32768 = omega (arith, m) in
+      ap (λ k. drop k whole) (sym m) ∙ (ap (drop (n + (32768 - n))) whole-is ∙ (drop-append-add table (drop (0 + n) out) (32768 - n) ∙ (drop-drop (32768 - n) (0 + n) out ∙ ap (λ k. drop k out) z)))
 
--- what is written is what play gives
-module _ (t : Term) (moves x y ends out after slots after′ : List ℕ) (r : Moved) (h : NightOver t moves x y ends slots after′ r) where
-  plays-term : after ≡ held (r .kept .records) (cond (r .kept .second) y x) ++ replicate (32768 - 16 * r .kept .records) 0 ++ drop 32768 out
-      → PlaysTerm t moves out after slots after′ (record { reply = record { answer = 0; place = 0; records = r .kept .records }; tally = r .tally })
-  unfolding playFrom playedReply playedTally playedOutput playedReplies
-  plays-term e =
-      let n = length-replies (start t) (movesOf moves) ∙ length-cut 6 moves in
-      record {
-        replied = ap (λ (c : ℕ). record { answer = 0; place = 0; records = c }) (h .keeps .count);
-        tallied = h .tallied;
-        output = e ∙ rw (h .keeps .table .holds .is, h .keeps .count);
-        slots-are = h .replied ∙ rw n;
-      }
+  -- what is written then is what play gives: `after` is left of the night's buffers x and y
+  module _ (t : Term) (h : Table table ends t) (x y ends′ slots′ : List ℕ) (r : Moved) (v : NightOver t moves x y ends′ slots slots′ r) where
+    pub last-fits : (16 * r .kept .records ≤ length y) × (r .kept .records ≤ 2048) × (32768 ≤ length (x ++ drop 32768 whole))
+    last-fits =
+        let n : r .kept .records ≤ 2048 = omega (arith, v .keeps .count, v .keeps .table .within .small) in
+        (omega (arith, n, v .keeps .second-room), n, omega (arith, v .keeps .first-room, length-append x (drop 32768 whole)))
 
-  -- from the second buffer, and from the first
-  pub plays-second : r .kept .second ≡ true → after ≡ held (r .kept .records) y ++ replicate (32768 - 16 * r .kept .records) 0 ++ drop 32768 out
-      → PlaysTerm t moves out after slots after′ (record { reply = record { answer = 0; place = 0; records = r .kept .records }; tally = r .tally })
-  plays-second b e = plays-term (rw b e)
+    held-last : (b : Bool) → take (16 * r .kept .records) (cond b y (x ++ drop 32768 whole)) ≡ held (r .kept .records) (cond b y x)
+    held-last true = refl
+    held-last false = take-append-le (16 * r .kept .records) x (drop 32768 whole) (omega (arith, last-fits, v .keeps .first-room))
 
-  pub plays-first : r .kept .second ≡ false → after ≡ held (r .kept .records) x ++ replicate (32768 - 16 * r .kept .records) 0 ++ drop 32768 out
-      → PlaysTerm t moves out after slots after′ (record { reply = record { answer = 0; place = 0; records = r .kept .records }; tally = r .tally })
-  plays-first b e = plays-term (rw b e)
+    behind-last : drop 32768 (x ++ drop 32768 whole) ≡ drop 32768 out
+    behind-last = drop-at x (drop 32768 whole) 32768 (v .keeps .first-room) ∙ behind-whole
+
+    pub plays-term : {after : List ℕ}
+        → after ≡ take (16 * r .kept .records) (cond (r .kept .second) y (x ++ drop 32768 whole)) ++ replicate (32768 - 16 * r .kept .records) 0 ++ drop 32768 (x ++ drop 32768 whole)
+        → PlaysTerm t moves out after slots slots′ (record { reply = record { answer = 0; place = 0; records = r .kept .records }; tally = r .tally })
+    unfolding playFrom playedReply playedTally playedOutput playedReplies
+    plays-term g =
+        let n = length-replies (start t) (movesOf moves) ∙ length-cut 6 moves in
+        record {
+          replied = ap (λ (c : ℕ). record { answer = 0; place = 0; records = c }) (v .keeps .count);
+          tallied = v .tallied;
+          output = g ∙ rw (held-last (r .kept .second), behind-last, v .keeps .table .holds .is, v .keeps .count);
+          slots-are = v .replied ∙ rw n;
+        }
 
 -- refused whole: the table, the list, the buffers
 gives-refused : (n p : ℕ) (out slots : List ℕ) (r : Played) → r ≡ refusedWith n p → PlayGives (refuse n p) out out slots slots r

@@ -1,5 +1,6 @@
 -- What play writes (src/buffers): a reply's six bytes, and the last table with zeros behind it.
 use mathlib.Core.Path.{_≡_, refl, ap, subst, _∙_}
+use mathlib.Core.Bool.{Bool, cond}
 use mathlib.Core.List.{List, _++_}
 use Prim.Native.Nat.{ℕ, _+_, _*_, _-_, _≤_, _<_}
 use native.Mathlib.Omega.{arith}
@@ -31,3 +32,16 @@ table-put from out n h few room e₁ e₂ =
     let l : length bs ≡ 32768 = omega (arith, length-append (take (16 * n) from) (replicate (32768 - 16 * n) 0), length-replicate {A = ℕ} (32768 - 16 * n) 0, t) in
     let w : put out 0 bs ≡ bs ++ drop (0 + length bs) out = put-eq out bs (omega arith) in
     and-then out 0 (16 * n) (take (16 * n) from) (replicate (32768 - 16 * n) 0) (omega (arith, t)) e₁ e₂ ∙ (w ∙ ap (λ k. bs ++ drop k out) (let z : 0 + length bs ≡ 32768 = omega arith in z))
+
+-- the last table, copied or there already
+pub zeros-put : (out : List ℕ) (n : ℕ) {d : List ℕ} → n ≤ 2048 → 32768 ≤ length out → d ≡ put out (16 * n) (replicate (32768 - 16 * n) 0) → d ≡ take (16 * n) out ++ replicate (32768 - 16 * n) 0 ++ drop 32768 out
+unfolding put
+zeros-put out n few room e =
+    let bs : List ℕ = replicate (32768 - 16 * n) 0 in
+    let l : length bs ≡ 32768 - 16 * n = length-replicate {A = ℕ} (32768 - 16 * n) 0 in
+    let z : 16 * n + length bs ≡ 32768 = omega (arith, l) in
+    e ∙ (sets-eq bs out (16 * n) (omega (arith, l)) ∙ ap (λ k. take (16 * n) out ++ bs ++ drop k out) z)
+
+pub last-put : (b second : Bool) (other out : List ℕ) (n : ℕ) {d : List ℕ} → second ≡ b → d ≡ take (16 * n) (cond b other out) ++ replicate (32768 - 16 * n) 0 ++ drop 32768 out
+    → d ≡ take (16 * n) (cond second other out) ++ replicate (32768 - 16 * n) 0 ++ drop 32768 out
+last-put b second other out n h e = rw h e

@@ -4,6 +4,7 @@ use records::copying::put_word;
 use records::limits;
 use tables::Reply;
 ghost use mathlib.Core.Path.{_≡_};
+ghost use mathlib.Core.Bool.{cond};
 ghost use mathlib.Core.List.{_++_};
 ghost use Prim.Native.Nat.{_+_, _*_, _-_, _≤_, _<_};
 ghost use lib.ListN.{length, take, drop, replicate};
@@ -34,10 +35,22 @@ fn put_zeros(out: &mut [u8], to: usize, len: usize)
 }
 
 // The table of n records that lies in a buffer, and zeros up to byte 32,768.
-pub fn put_table(from: &[u8], n: usize, out: &mut [u8])
+fn put_table(from: &[u8], n: usize, out: &mut [u8])
     requires { ⌜ (16 * n ≤ length (now from)) × (n ≤ maxRecords) × (maxBytes ≤ length (now out)) ⌝ }
     ensures { λ _. ⌜ now (out .exit) ≡ take (16 * n) (now (from .entry)) ++ replicate (maxBytes - 16 * n) 0 ++ drop maxBytes (now (out .entry)) ⌝ }
 {
     copy(from, 0, 16 * n, out, 0);
+    put_zeros(out, 16 * n, limits::MAX_BYTES - 16 * n);
+}
+
+// The last table, of n records, in the output, and zeros up to byte 32,768: it lies in the other buffer or is there already.
+pub fn put_last(second: bool, other: &[u8], n: usize, out: &mut [u8])
+    requires { ⌜ (16 * n ≤ length (now other)) × (n ≤ maxRecords) × (maxBytes ≤ length (now out)) ⌝ }
+    ensures { λ _. ⌜ now (out .exit) ≡ take (16 * n) (cond second (now (other .entry)) (now (out .entry))) ++ replicate (maxBytes - 16 * n) 0 ++ drop maxBytes (now (out .entry)) ⌝ }
+{
+    if second {
+        put_table(other, n, out);
+        return;
+    }
     put_zeros(out, 16 * n, limits::MAX_BYTES - 16 * n);
 }

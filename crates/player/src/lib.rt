@@ -34,7 +34,7 @@ pub fn refused(answer: u8, place: usize) -> Played
     }
 }
 
-// The moves played on a known table, with room for all that play writes.
+// The moves played on a known table, with room for all that play writes. The output is the first of the two buffers: nothing refuses from here on.
 fn play_known(
     table: &[u8],
     ends: &mut [u16],
@@ -45,17 +45,17 @@ fn play_known(
     requires { ⌜ Clear (now table) (now ends) (now moves) (now out) (now replies) ⌝ }
     ensures { λ r. ⌜ ((t : Term) → Table (now (table .entry)) (now (ends .entry)) t → PlaysTerm t (now (moves .entry)) (now (out .entry)) (now (out .exit)) (now (replies .entry)) (now (replies .exit)) r) ⌝ }
 {
-    let mut first = [0u8; limits::MAX_BYTES];
-    let mut second = [0u8; limits::MAX_BYTES];
-    records::copying::copy(table, 0, table.len(), &mut first, 0);
+    let size = limits::MAX_BYTES;
+    let mut other = [0u8; limits::MAX_BYTES];
+    records::copying::copy(table, 0, table.len(), out, 0);
     let night = nights::night(
         Kept {
             second: false,
             records: table.len() / 16,
         },
         moves,
-        &mut first,
-        &mut second,
+        &mut out[..size],
+        &mut other,
         ends,
         replies,
         moves.len() / 6,
@@ -63,11 +63,7 @@ fn play_known(
     let kept = night.kept;
     let records = kept.records;
     let tally = night.tally;
-    if kept.second {
-        buffers::put_table(&second, records, out);
-    } else {
-        buffers::put_table(&first, records, out);
-    }
+    buffers::put_last(kept.second, &other, records, out);
     Played {
         reply: Reply {
             answer: 0,

@@ -1,39 +1,29 @@
 use borrow.Author.Needs.{needs}
+use mathlib.Core.Path.{sym, _∙_}
+use native.Mathlib.Omega.{arith}
 use Rattle.player.proofs.play_known.Statement.{statement}
 use Rattle.player.proofs.play_known.Tie as tie
-use Rattle.player.proofs.Whole.{keeps-first, opens, last-fits, plays-second, plays-first}
+use Rattle.player.proofs.Whole.{room-whole, part-whole, keeps-first, opens, last-fits, plays-term}
 
 pub play-known-spec : {M : Type 1} → statement M
 play-known-spec =
     tie.close
     (tie.spec
-    (λ c. search needs) (λ c κs. search needs) (λ c. search needs) (λ c. search needs)
-    (λ c κs. let d = c .before .before .before .before .before in
-    let z = d .before .before .before .before .before .before .before in
-    opens _ _ _ _ _ _ (z .pre) (d .copy .ensures))
+    (λ c κs. let o = c .before .before .before .before .before .before .pre in omega (arith, o .known .few, o .known .whole, o .out-room))
+    (λ c. room-whole _ _ _ _ _ _ (c .before .before .before .before .before .before .before .before .before .pre) (c .before .before .copy .ensures))
+    (λ c. sym (part-whole _ _ _ _ _ _ (c .before .before .before .before .before .before .before .before .before .before .pre) (c .before .before .before .copy .ensures)))
     (λ c. search needs)
-    (λ c κs. let m = c .before .before .before .before .before .before .before .before .before .before .before in
-    let d = m .before .before .before .before .before .before in
-    let z = d .before .before .before .before .before .before .before in
-    let k = z .pre .known in
-    let (x, y, n) = last-fits _ _ _ _ _ (m .night .ensures (k .term) (keeps-first _ _ _ _ _ _ (z .pre) (d .copy .ensures) (k .term) (k .table)) .keeps) in
-    (y, n, z .pre .out-room))
+    (λ c κs. opens _ _ _ _ _ _ (c .before .before .before .before .before .before .before .before .before .before .before .before .before .pre) (c .before .before .before .before .before .before .copy .ensures))
     (λ c. search needs)
-    (λ c κs. let m = c .before .before .before .before .before .before .before .before .before .before .before in
-    let d = m .before .before .before .before .before .before in
-    let z = d .before .before .before .before .before .before .before in
-    let k = z .pre .known in
-    let (x, y, n) = last-fits _ _ _ _ _ (m .night .ensures (k .term) (keeps-first _ _ _ _ _ _ (z .pre) (d .copy .ensures) (k .term) (k .table)) .keeps) in
-    (x, n, z .pre .out-room))
-    (λ c. search needs) (λ c. search needs) (λ c. search needs)
-    (λ c t h. let i = c .before .before .before .before .before in
-    let m = i .before .before .before .before .before .before .before .before .before in
-    let d = m .before .before .before .before .before .before in
-    let z = d .before .before .before .before .before .before .before in
-    plays-second t _ _ _ _ _ _ _ _ _ (m .night .ensures t (keeps-first _ _ _ _ _ _ (z .pre) (d .copy .ensures) t h)) (i .if1 .taken) (c .before .before .put-table .ensures))
-    (λ c. search needs) (λ c. search needs) (λ c. search needs)
-    (λ c t h. let i = c .before .before .before .before .before in
-    let m = i .before .before .before .before .before .before .before .before .before in
-    let d = m .before .before .before .before .before .before in
-    let z = d .before .before .before .before .before .before .before in
-    plays-first t _ _ _ _ _ _ _ _ _ (m .night .ensures t (keeps-first _ _ _ _ _ _ (z .pre) (d .copy .ensures) t h)) (i .if1 .left) (c .before .before .put-table2 .ensures)))
+    (λ c κs.
+    let o = c .before .before .before .before .before .before .before .before .before .before .before .before .before .before .before .before .before .before .before .before .before .before .before .before .before .pre in
+    let e = c .before .before .before .before .before .before .before .before .before .before .before .before .before .before .before .before .before .before .copy .ensures in
+    let k = o .known in
+    last-fits _ _ _ _ _ _ o e (k .term) (k .table) _ _ _ _ _ (c .before .before .before .before .before .before .before .before .before .before .before .night .ensures (k .term) (keeps-first _ _ _ _ _ _ o e (k .term) (k .table))))
+    (λ c. search needs)
+    (λ c. c .before .out3 .given ∙ (c .before .before .before .before .before .before .before .before .before .before .before .before .before .out2 .given .1 ∙ c .before .before .before .before .before .before .before .before .before .before .before .before .before .before .before .before .before .before .before .before .out .given))
+    (λ c. search needs)
+    (λ c t h.
+    let o = c .before .before .before .before .before .before .before .before .before .before .before .before .before .before .before .before .before .before .before .before .before .before .before .before .before .before .before .before .pre in
+    let e = c .before .before .before .before .before .before .before .before .before .before .before .before .before .before .before .before .before .before .before .before .before .copy .ensures in
+    plays-term _ _ _ _ _ _ o e t h _ _ _ _ _ (c .before .before .before .before .before .before .before .before .before .before .before .before .before .before .night .ensures t (keeps-first _ _ _ _ _ _ o e t h)) (c .before .before .put-last .ensures)))
