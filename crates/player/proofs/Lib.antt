@@ -1,6 +1,8 @@
 pub mod Sizes
 pub mod Lasting
 pub mod Floating
+pub mod Lowering
+pub mod Expiring
 pub mod Loading
 pub mod Turning
 pub mod Successors

@@ -3,8 +3,9 @@ use mathlib.Core.Path.{_≡_, refl, sym, ap, _∙_}
 use mathlib.Core.List.{List, [], _∷_, _++_, append-assoc, append-nil}
 use Prim.Native.Nat.{ℕ, zero, suc, _+_, _-_, _≤_, _<_}
 use native.Mathlib.Omega.{arith}
-use lib.Dec.{ltb}
-use borrow.Author.Tests.{ltb-true, ltb-false}
+use mathlib.Core.Logic.{_⊎_, inl, inr, ⊎-elim}
+use lib.Dec.{ltb, eqb}
+use borrow.Author.Tests.{ltb-true, ltb-false, eqb-true, eqb-false}
 use lib.ListN.{length, getD, length-append, List·getD-append}
 use lib.Seq.{getD-append-add}
 use Rattle.cows.specs.Terms.{Term, leaf, under, both, size}
@@ -12,7 +13,8 @@ use Rattle.cows.specs.Places.{Frame, inside, leftOf, rightOf, plug, Way, fill, 
 use Rattle.cows.specs.Format.{nodes}
 use Rattle.cows.specs.Records.{opens, ahead}
 use Rattle.cows.proofs.Format.{length-nodes}
-use Rattle.cows.proofs.Basics.{cond-case}
+use Rattle.cows.proofs.Basics.{bool-case, cond-case}
+use Rattle.cows.proofs.Places.{spot-fits}
 
 unfoldable pub sizes : Term → List ℕ
 sizes (leaf x) = 1 ∷ []
@@ -109,3 +111,70 @@ length-ahead-sizes (f ∷ w) k =
 pub length-left-sizes : (f : Frame) (w : Way) → length (ahead (f ∷ w)) ≡ suc (length (ahead w) + length (leftSizes f))
 unfolding ahead
 length-left-sizes f w = length-append (ahead w) (opens f) ∙ omega (arith, length-left f)
+
+-- A place ahead of the hole stands beside it, with an end ahead of it and a size that does not depend on what fills it, or around it.
+unfoldable pub Beside : Way → ℕ → ℕ → ℕ → Type 0
+Beside w k k′ j = (getD (aheadSizes w k′) j 0 ≡ getD (aheadSizes w k) j 0) × (j + getD (aheadSizes w k) j 0 ≤ length (ahead w))
+
+unfoldable pub Around : Way → ℕ → ℕ → ℕ → Type 0
+Around w k k′ j = (getD (aheadSizes w k′) j 0 + k ≡ getD (aheadSizes w k) j 0 + k′) × (length (ahead w) + k ≤ j + getD (aheadSizes w k) j 0)
+
+plug-grows : (f : Frame) (k k′ : ℕ) → (plugSize f k′ + k ≡ plugSize f k + k′) × (suc (length (leftSizes f)) + k ≤ plugSize f k)
+unfolding plugSize leftSizes
+plug-grows (inside u) k k′ = omega arith
+plug-grows (leftOf j t) k k′ = omega arith
+plug-grows (rightOf j s) k k′ = omega (arith, length-sizes s)
+
+left-fits : (f : Frame) (j : ℕ) → j < length (leftSizes f) → j + getD (leftSizes f) j 0 ≤ length (leftSizes f)
+unfolding leftSizes
+left-fits (inside u) j h = absurd (omega arith)
+left-fits (leftOf i t) j h = absurd (omega arith)
+left-fits (rightOf i s) j h = omega (arith, length-sizes s, sizes-at s j (omega (arith, length-sizes s)), spot-fits s j (omega (arith, length-sizes s)))
+
+module _ (f : Frame) (w : Way) (j : ℕ) where
+  abbrev outside : ℕ → List ℕ
+  outside k = aheadSizes w (plugSize f k)
+
+  first-part : (k : ℕ) → j < length (ahead w) → getD (aheadSizes (f ∷ w) k) j 0 ≡ getD (outside k) j 0
+  unfolding aheadSizes
+  first-part k l = List·getD-append (outside k) _ 0 j (omega (arith, length-ahead-sizes w (plugSize f k)))
+
+  last-part : (k i : ℕ) → j ≡ length (ahead w) + i → getD (aheadSizes (f ∷ w) k) j 0 ≡ getD (plugSize f k ∷ leftSizes f) i 0
+  unfolding aheadSizes
+  last-part k i e =
+      let z : j ≡ length (outside k) + i = omega (arith, length-ahead-sizes w (plugSize f k)) in
+      ap (λ x. getD (aheadSizes (f ∷ w) k) x 0) z ∙ getD-append-add (outside k) _ i 0
+
+ahead-none : length (ahead []) ≡ 0
+unfolding ahead
+ahead-none = refl
+
+pub ahead-or : (w : Way) (k k′ j : ℕ) → j < length (ahead w) → Beside w k k′ j ⊎ Around w k k′ j
+unfolding Beside Around
+ahead-or [] k k′ j h = absurd (omega (arith, ahead-none))
+ahead-or (f ∷ w) k k′ j h =
+    let long = length-left-sizes f w in
+    let (g, b) = plug-grows f k k′ in
+    bool-case _ (ltb j (length (ahead w)))
+    (λ e.
+    let l = ltb-true j (length (ahead w)) e in
+    let x = first-part f w j k l in
+    let y = first-part f w j k′ l in
+    ⊎-elim (λ v. inl (cc′ y x (v .0), omega (arith, x, v .1, long))) (λ v. inr (omega (arith, x, y, v .0, g), omega (arith, x, v .1, long, b))) (ahead-or w (plugSize f k) (plugSize f k′) j l))
+    (λ e.
+    let l = ltb-false j (length (ahead w)) e in
+    bool-case _ (eqb j (length (ahead w)))
+    (λ q.
+    let z = eqb-true j (length (ahead w)) q in
+    let x = last-part f w j k 0 (omega arith) in
+    let y = last-part f w j k′ 0 (omega arith) in
+    inr (omega (arith, x, y, g), omega (arith, x, long, b)))
+    (λ q.
+    let i = j - length (ahead w) - 1 in
+    let z : j ≡ length (ahead w) + suc i = omega (arith, eqb-false j (length (ahead w)) q) in
+    let x = last-part f w j k (suc i) z in
+    let y = last-part f w j k′ (suc i) z in
+    inl (y ∙ sym x, omega (arith, x, z, long, left-fits f i (omega (arith, z, long))))))
+  where
+    cc′ : {a b c d : ℕ} → a ≡ b → c ≡ d → b ≡ d → a ≡ c
+    cc′ p q r = p ∙ (r ∙ sym q)

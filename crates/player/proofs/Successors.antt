@@ -1,4 +1,5 @@
--- The successor of an allowed move (specs/Making): a time in place, with the ends as they were, a floating in place, with the ends lifted, and any other move in the other buffer.
+-- The successor of an allowed move (specs/Making): a time in place, with the ends as they were, a floating in place, with the ends lifted, and any
+-- other move in the other buffer, an expiry with the ends cut.
 use mathlib.Core.Path.{_≡_, refl, sym, ap, subst, _∙_}
 use mathlib.Core.Bool.{Bool, not, cond}
 use mathlib.Core.List.{List, _++_}
@@ -7,22 +8,23 @@ use native.Mathlib.Omega.{arith}
 use lib.ListN.{length, take, drop, take-append-drop}
 use lib.Seq.{take-at, length-take-le}
 use Rattle.cows.specs.Basics.{accept, _>>=_, need}
-use Rattle.cows.specs.Terms.{Term, size}
+use Rattle.cows.specs.Terms.{wait, Term, size}
 use Rattle.cows.specs.Format.{encode}
 use Rattle.cows.specs.Places.{wayTo}
-use Rattle.cows.specs.Moves.{elapse, elapseBy, extrudeAt, successor}
+use Rattle.cows.specs.Moves.{timeoutAt, elapse, extrudeAt, successor}
 use Rattle.cows.specs.Step.{proposed}
 use Rattle.cows.proofs.Basics.{same-accept}
 use Rattle.cows.proofs.Format.{length-encode}
 use Rattle.cows.proofs.Recordwise.{time-gives}
+use Rattle.records.specs.Holds.{Holds}
 use Rattle.records.specs.Ends.{EndsFrom}
 use Rattle.records.specs.Rewrites.{put}
 use Rattle.ways.specs.Known.{Table, Known}
-use Rattle.ways.specs.Ways.{parentOf}
+use Rattle.ways.specs.Ways.{startOf, parentOf}
 use Rattle.ways.proofs.KnownTables.{one-table}
 use Rattle.stepper.proofs.Moved.{put-encode}
 use Rattle.proposals.specs.declared.Move.{Move}
-use Rattle.proposals.specs.declared.Move.the-variants.{Elapse, Extrude}
+use Rattle.proposals.specs.declared.Move.the-variants.{Timeout, Elapse, Extrude}
 use Rattle.proposals.specs.Proposals.{moveOf}
 use Rattle.plans.specs.Plans.{Asks, Gives}
 use Rattle.moves.specs.Places.{planPlace}
@@ -31,8 +33,11 @@ use Rattle.extrude.proofs.Judged.{lift-asked, lift-exchanged, lifted-among}
 use Rattle.player.specs.Turns.{held}
 use Rattle.player.specs.Making.{CanMake, Makes}
 use Rattle.player.proofs.Lasting.{ends-last}
+use Rattle.timeout.proofs.Judged.{allowed-wait}
+use Rattle.player.specs.Cutting.{CutsEnds, EndsCut}
+use Rattle.player.proofs.Expiring.{cuts-ends, cut-ends-from}
 use Rattle.player.proofs.Floating.{lifts-ends, floated-ends}
-use Rattle.player.proofs.Turning.{held-small, own, other}
+use Rattle.player.proofs.Turning.{held-size, held-small, own, other}
 
 module _ (t : List ℕ) (n : ℕ) (ends : List ℕ) (m : Move) (from records : ℕ) (to : List ℕ) (k : CanMake t n ends m from records to) where
   abbrev next : Term
@@ -106,3 +111,27 @@ module _ (t : List ℕ) (n : ℕ) (ends : List ℕ) (m : Move) (from records : �
         makes-in b b t′ t′ to′ ends′ (own b t′ to′)
         (kept-next t′ ends′ e
         (floated-ends now next a from (lift-exchanged (held n t) ends a from to float-asks) (held n t) ends (k .asks .known .table) (held records t′) ends′ (record { is = e; right = k .within .right }) h l))
+
+  -- an expiry, whose ends are cut
+  module _ (a : ℕ) (is : m ≡ Timeout a) where
+    expired : timeoutAt now a ≡ accept next
+    unfolding proposed need _>>=_ successor
+    expired = subst (λ x. proposed (moveOf x) now ≡ accept next) is (k .asks .accepted)
+
+    cut-place : from ≡ startOf a (wayTo now a)
+    cut-place = k .asks .place-is ∙ ap (λ x. planPlace x now) is
+
+    pub cut-asked : CutsEnds ends n a from
+    cut-asked =
+        let (i, l, e, r) = allowed-wait now a next expired in
+        let h = k .asks .known .table in
+        subst (CutsEnds ends n a) (sym cut-place) (cuts-ends (held n t) ends now h a (wait i) l e n (held-size n t ends now (k .inside) h))
+
+    pub makes-cut : (b : Bool) (t′ to′ ends′ : List ℕ) → Gives (proposed (moveOf m)) (held n t) ends to to′ → EndsCut ends n a from ends′ → length ends′ ≡ length ends → Makes b t n ends m records t′ to′ ends′ (not b)
+    makes-cut b t′ to′ ends′ g c l =
+        let (i, p, e, r) = allowed-wait now a next expired in
+        let h = k .asks .known .table in
+        let o = held-next to′ _ (g now next h (k .asks .accepted) ∙ put-encode to next (k .asks .room)) in
+        makes-there b t′ to′ ends′ g
+        (cut-ends-from (held n t) ends now h a (wait i) p e n (held-size n t ends now (k .inside) h) ends′ (subst (λ x. EndsCut ends n a x ends′) cut-place c) (held records to′)
+        (subst (Holds (held records to′)) r (record { is = o; right = k .within .right })) l)

@@ -1,5 +1,6 @@
 // Player: a list of moves on a table, each on the table that the accepted ones before it left; the load of a table.
 mod buffers;
+mod cutting;
 mod loads;
 mod making;
 mod nights;

@@ -3,7 +3,7 @@ use mathlib.Core.Path.{sym}
 use native.Mathlib.Omega.{arith}
 use lib.Seq.{length-take-le}
 use Rattle.player.proofs.Turning.{held-few}
-use Rattle.player.proofs.Successors.{make-inside, makes-there, makes-time, float-inside, float-ends, makes-float}
+use Rattle.player.proofs.Successors.{make-inside, makes-there, makes-time, float-inside, float-ends, makes-float, cut-asked, makes-cut}
 use Rattle.player.proofs.making.make.Statement.{statement}
 use Rattle.player.proofs.making.make.Tie as tie
 
@@ -26,8 +26,13 @@ make-spec =
     (λ c. omega (arith, c .before .before .before .before .before .pre .inside))
     (λ c. sym (length-take-le _ _ (c .before .before .before .before .before .before .pre .inside)))
     (λ c κs. c .before .before .before .before .before .before .before .before .pre .asks)
-    (λ c. omega (arith, make-inside _ _ _ _ _ _ _ (c .before .before .before .before .before .before .before .before .before .before .before .pre), c .before .to))
-    (λ c. sym (length-take-le _ _ (omega (arith, make-inside _ _ _ _ _ _ _ (c .before .before .before .before .before .before .before .before .before .before .before .before .pre), c .before .before .to))))
-    (λ c κs. held-few _ _ (c .before .before .before .before .before .before .before .before .before .before .before .before .before .args .ends .now) (make-inside _ _ _ _ _ _ _ (c .before .before .before .before .before .before .before .before .before .before .before .before .before .pre) .1) (omega (arith, c .before .before .before .before .before .before .before .before .before .before .before .before .before .pre .room, c .before .before .before .to)) (c .before .before .before .before .before .before .before .before .before .before .before .before .before .pre .ends-room))
+    (λ c. search needs)
+    (λ c κs. cut-asked _ _ _ _ _ _ _ (c .before .before .before .before .before .before .before .before .before .before .before .before .before .before .before .pre) _ (c .before .before .m3 .given .1))
     (λ c. search needs) (λ c. search needs) (λ c. search needs)
-    (λ c. makes-there _ _ _ _ _ _ _ (c .before .before .before .before .before .before .before .before .before .before .before .before .before .before .before .before .pre) (c .before .before .before .before .before .before .before .before .before .before .before .before .before .before .before .before .args .second) _ _ _ (c .before .before .before .before .before .before .before .write .ensures) (c .before .before .ends2 .ensures)))
+    (λ c.
+    makes-cut _ _ _ _ _ _ _ (c .before .before .before .before .before .before .before .before .before .before .before .before .before .before .before .before .before .before .pre) _ (c .before .before .before .before .before .m3 .given .1) (c .before .before .before .before .before .before .before .before .before .before .before .before .before .before .before .before .before .before .args .second) _ _ _ (c .before .before .before .before .before .before .before .before .before .write .ensures) (c .before .before .cut-ends .ensures) (omega (arith, c .before .ends2)))
+    (λ c. omega (arith, make-inside _ _ _ _ _ _ _ (c .before .before .before .before .before .before .before .before .before .before .before .before .pre), c .before .before .to))
+    (λ c. sym (length-take-le _ _ (omega (arith, make-inside _ _ _ _ _ _ _ (c .before .before .before .before .before .before .before .before .before .before .before .before .before .pre), c .before .before .before .to))))
+    (λ c κs. held-few _ _ (c .before .before .before .before .before .before .before .before .before .before .before .before .before .before .args .ends .now) (make-inside _ _ _ _ _ _ _ (c .before .before .before .before .before .before .before .before .before .before .before .before .before .before .pre) .1) (omega (arith, c .before .before .before .before .before .before .before .before .before .before .before .before .before .before .pre .room, c .before .before .before .before .to)) (c .before .before .before .before .before .before .before .before .before .before .before .before .before .before .pre .ends-room))
+    (λ c. search needs) (λ c. search needs) (λ c. search needs)
+    (λ c. makes-there _ _ _ _ _ _ _ (c .before .before .before .before .before .before .before .before .before .before .before .before .before .before .before .before .before .pre) (c .before .before .before .before .before .before .before .before .before .before .before .before .before .before .before .before .before .args .second) _ _ _ (c .before .before .before .before .before .before .before .before .write .ensures) (c .before .before .ends3 .ensures)))
