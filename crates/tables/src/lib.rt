@@ -123,7 +123,8 @@ fn find_refusal(s: &[u8], ends: &mut [u16]) -> Verdict
 }
 
 // Tables of any number of records, of up to 256, and of up to 32: the quick test comes first, as large as the table asks. What a small one does not accept is left
-// to the next larger, and what the largest does not accept is searched.
+// to the next larger, and what the largest does not accept is searched. That and the search are called from two places, so that neither stands in the frame of the
+// other: a function called once is inlined with its arrays.
 fn judge_most(s: &[u8], ends: &mut [u16]) -> Verdict
     requires { ⌜ WholeRecords (now s) × (length (now s) / 16 + 1 < length (now ends)) ⌝ }
     ensures { λ v. ⌜ Checked (now (s .entry)) (now (ends .exit)) (verdictReply v) ⌝ }
@@ -141,7 +142,10 @@ fn judge_few(s: &[u8], ends: &mut [u16]) -> Verdict
     if quick::few_right(s, ends) {
         return Verdict::Accepted(s.len() / 16);
     }
-    judge_most(s, ends)
+    if quick::most_right(s, ends) {
+        return Verdict::Accepted(s.len() / 16);
+    }
+    find_refusal(s, ends)
 }
 
 fn judge_least(s: &[u8], ends: &mut [u16]) -> Verdict

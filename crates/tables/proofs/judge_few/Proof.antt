@@ -14,4 +14,8 @@ judge-few-spec =
     record { reply = judge-all _ (Accepted _) (whole-length _ (c .before .before .before .before .before .before .before .pre .0)) (p .right) (p .reply); end = λ e. p .end })
     (λ c κs. search needs)
     (λ c. search needs)
+    (λ c. let p = c .before .before .before .most-right .ensures (c .if2 .taken) in
+    record { reply = judge-all _ (Accepted _) (whole-length _ (c .before .before .before .before .before .before .before .before .before .before .before .before .pre .0)) (p .right) (p .reply); end = λ e. p .end })
+    (λ c κs. search needs)
+    (λ c. search needs)
     (λ c. search needs))
