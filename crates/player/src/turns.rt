@@ -49,16 +49,16 @@ fn judged(s: &[u8], ends: &[u16], m: Move) -> Tried
 {
     let plan = moves::judge(s, ends, m);
     let judgement = plan.judgement;
-    let reply = answer(judgement, limits::MAX_BYTES);
-    if reply.answer != 0 {
+    let step = answer(judgement, limits::MAX_BYTES);
+    if step.answer != 0 {
         return Tried {
-            reply,
+            reply: step,
             from: 0,
             counts: tally::zeros(),
         };
     }
     Tried {
-        reply,
+        reply: step,
         from: plan.from,
         counts: tally::counts(m, copied(s, ends, m)),
     }
