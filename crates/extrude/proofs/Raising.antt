@@ -9,7 +9,7 @@ use lib.Dec.{eqb}
 use borrow.Author.Tests.{eqb-true, eqb-false}
 use Rattle.cows.proofs.Basics.{bool-case}
 use Rattle.records.specs.Rewrites.{put}
-use Rattle.extrude.specs.Extruding.{raised, lifted, LiftsEnds, EndsLifted}
+use Rattle.extrude.specs.Extruding.{raised, lifted, EndsLifted}
 
 -- bytes up by one record: the first step and each of the others
 pub raised-start : (t : List ℕ) (high : ℕ) → t ≡ raised t high high

@@ -7,10 +7,10 @@ use Prim.Native.Nat.{ℕ, suc, _+_, _-_, _/_, _≤_, _<_}
 use native.Mathlib.Omega.{arith}
 use lib.Dec.{ltb}
 use borrow.Author.Tests.{ltb-true, ltb-false, lt-ltb, le-ltb}
-use lib.ListN.{length, getD, length-append, List·getD-append}
+use lib.ListN.{length, getD, List·getD-append}
 use lib.Seq.{getD-append-add}
 use Rattle.cows.specs.Terms.{Prefix, Term, under, size, below}
-use Rattle.cows.specs.Places.{Way, fill, Spot, spotAt, descend, wayTo, sub}
+use Rattle.cows.specs.Places.{Way, spotAt, descend, wayTo, sub}
 use Rattle.cows.specs.Records.{ahead}
 use Rattle.cows.specs.Moves.{continue}
 use Rattle.cows.proofs.Basics.{bool-case}
@@ -18,7 +18,7 @@ use Rattle.cows.proofs.Places.{size-pos, fill-spot, descend-here, spot-under, a
 use Rattle.cows.proofs.Ways.{length-ahead}
 use Rattle.records.specs.Holds.{Holds}
 use Rattle.records.specs.Ends.{EndsFrom}
-use Rattle.ways.specs.Known.{Table, EndPlaces}
+use Rattle.ways.specs.Known.{Table}
 use Rattle.ways.specs.Ways.{startOf}
 use Rattle.ways.proofs.KnownTables.{table-size, table-ended}
 use Rattle.plans.specs.Cutting.{Span}

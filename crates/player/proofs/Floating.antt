@@ -1,6 +1,6 @@
 -- After a floating (extrude, EndsLifted) the ends are those of the successor: by the sizes of its terms.
-use mathlib.Core.Path.{_≡_, refl, sym, ap, _∙_}
-use mathlib.Core.List.{List, [], _∷_, _++_, append-assoc}
+use mathlib.Core.Path.{_≡_, sym, ap, _∙_}
+use mathlib.Core.List.{List, _∷_, _++_, append-assoc}
 use Prim.Native.Nat.{ℕ, suc, _+_, _-_, _≤_, _<_}
 use native.Mathlib.Omega.{arith}
 use lib.Dec.{ltb, eqb}
@@ -8,7 +8,7 @@ use borrow.Author.Tests.{ltb-true, ltb-false, eqb-true, eqb-false}
 use lib.ListN.{length, getD, length-append, List·getD-append}
 use lib.Seq.{getD-append-add}
 use Rattle.cows.specs.Terms.{delimitation, Term, under, size}
-use Rattle.cows.specs.Places.{plug, fill, sub}
+use Rattle.cows.specs.Places.{plug, sub}
 use Rattle.cows.specs.Records.{ahead}
 use Rattle.cows.proofs.Basics.{bool-case}
 use Rattle.cows.proofs.Places.{spot-fits}

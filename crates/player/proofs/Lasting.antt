@@ -1,12 +1,11 @@
 -- Time changes no shape: the ends of a table's terms are those of its successor, and play keeps them.
 use mathlib.Core.Path.{_≡_, refl, sym, ap, _∙_}
 use mathlib.Core.List.{List, [], _∷_}
-use mathlib.Core.Option.{Option, some}
-use Prim.Native.Nat.{ℕ, zero, suc, _+_, _-_, _*_, _/_, _≤_, _<_}
+use Prim.Native.Nat.{ℕ, zero, suc, _+_, _-_, _≤_, _<_}
 use native.Mathlib.Omega.{arith}
 use lib.Dec.{ltb}
 use borrow.Author.Tests.{ltb-true, ltb-false}
-use lib.ListN.{length, getD, drop}
+use lib.ListN.{length, getD}
 use Rattle.cows.specs.Terms.{Term, leaf, under, both, size}
 use Rattle.cows.specs.Kinds.{kind, prefix, liveKind}
 use Rattle.cows.specs.Places.{inside, leftOf, rightOf, Way, Spot, descend, spotAt, sub}

@@ -10,7 +10,6 @@ use lib.ListN.{length, getD, length-append, List·getD-append}
 use lib.Seq.{getD-append-add}
 use Rattle.cows.specs.Terms.{Term, leaf, under, both, size}
 use Rattle.cows.specs.Places.{Frame, inside, leftOf, rightOf, plug, Way, fill, Spot, descend, spotAt, sub}
-use Rattle.cows.specs.Format.{nodes}
 use Rattle.cows.specs.Records.{opens, ahead}
 use Rattle.cows.proofs.Format.{length-nodes}
 use Rattle.cows.proofs.Basics.{bool-case, cond-case}

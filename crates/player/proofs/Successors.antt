@@ -1,14 +1,14 @@
 -- The successor of an allowed move (specs/Making): a time in place, with the ends as they were, a floating in place, with the ends lifted, and any
 -- other move in the other buffer, an expiry with the ends cut.
-use mathlib.Core.Path.{_≡_, refl, sym, ap, subst, _∙_}
+use mathlib.Core.Path.{_≡_, sym, ap, subst, _∙_}
 use mathlib.Core.Bool.{Bool, not, cond}
 use mathlib.Core.List.{List, _++_}
 use Prim.Native.Nat.{ℕ, _+_, _*_, _/_, _≤_, _<_}
 use native.Mathlib.Omega.{arith}
-use lib.ListN.{length, take, drop, take-append-drop}
+use lib.ListN.{length, drop, take-append-drop}
 use lib.Seq.{take-at, length-take-le}
 use Rattle.cows.specs.Basics.{accept, _>>=_, need}
-use Rattle.cows.specs.Terms.{wait, Term, size}
+use Rattle.cows.specs.Terms.{wait, Term}
 use Rattle.cows.specs.Format.{encode}
 use Rattle.cows.specs.Places.{wayTo}
 use Rattle.cows.specs.Moves.{timeoutAt, elapse, extrudeAt, successor}
@@ -18,8 +18,7 @@ use Rattle.cows.proofs.Format.{length-encode}
 use Rattle.cows.proofs.Recordwise.{time-gives}
 use Rattle.records.specs.Holds.{Holds}
 use Rattle.records.specs.Ends.{EndsFrom}
-use Rattle.records.specs.Rewrites.{put}
-use Rattle.ways.specs.Known.{Table, Known}
+use Rattle.ways.specs.Known.{Table}
 use Rattle.ways.specs.Ways.{startOf, parentOf}
 use Rattle.ways.proofs.KnownTables.{one-table}
 use Rattle.stepper.proofs.Moved.{put-encode}

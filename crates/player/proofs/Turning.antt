@@ -2,34 +2,30 @@
 use mathlib.Core.Path.{_≡_, refl, sym, ap, subst, _∙_}
 use mathlib.Core.Logic.{_≢_}
 use mathlib.Core.Bool.{Bool, true, false, not, cond}
-use mathlib.Core.List.{List, [], _∷_, _++_}
+use mathlib.Core.List.{List, [], _∷_}
 use mathlib.Core.Option.{Option, some}
-use Prim.Native.Nat.{ℕ, zero, suc, _+_, _*_, _/_, _≤_, _<_}
+use Prim.Native.Nat.{ℕ, _+_, _*_, _/_, _≤_, _<_}
 use native.Mathlib.Omega.{arith}
-use lib.ListN.{length, getD, take, drop, length-append, length-drop}
-use lib.Seq.{take-at, length-take-le}
+use lib.ListN.{length, getD}
+use lib.Seq.{length-take-le}
 use types.Run.{OneOf, miss}
 use denote.Enum.Declared.{tagOf}
 use Rattle.cows.specs.Basics.{Result, refuse, accept, _>>=_, need}
 use Rattle.cows.specs.Terms.{Term, under, replication, size, prefixed, replicates, below}
 use Rattle.cows.specs.Places.{sub}
-use Rattle.cows.specs.Format.{encode}
 use Rattle.cows.specs.Active.{wanted}
 use Rattle.cows.specs.Within.{Within}
 use Rattle.cows.specs.Allows.{StandsLive}
-use Rattle.cows.specs.Moves.{Move, elapse, unfoldAt, successor}
+use Rattle.cows.specs.Moves.{Move, unfoldAt, successor}
 use Rattle.cows.specs.Moves as meaning
 use Rattle.cows.specs.Step.{proposed, stepTerm, replyTo}
 use Rattle.cows.specs.Load.{load, copies}
 use Rattle.cows.specs.Run.{noTally, sum, adds, RunState, judgement, enter, turn, kept}
 use Rattle.cows.proofs.Basics.{bind-accept, same-accept, same-some}
-use Rattle.cows.proofs.Format.{length-encode}
 use Rattle.cows.proofs.Stands.{looks, prefixed-is, wanted-live}
 use Rattle.cows.proofs.Step as steps
 use Rattle.cows.proofs.Bounds.{step-from-one}
 use Rattle.cows.proofs.Preserving.{step-within}
-use Rattle.records.specs.Holds.{Holds}
-use Rattle.records.specs.Ends.{EndsFrom}
 use Rattle.ways.specs.Known.{Table, Known}
 use Rattle.ways.proofs.KnownTables.{one-table, table-size}
 use Rattle.tables.specs.declared.Reply.{Reply}

@@ -12,7 +12,7 @@ use borrow.Author.Tests.{ltb-false, lt-ltb, le-ltb}
 use Rattle.cows.specs.Basics.{placeIf, Result, refuse, accept, _>>=_, _>>_, forbid}
 use Rattle.cows.specs.Terms.{Term}
 use Rattle.cows.specs.Tables.{judge}
-use Rattle.cows.specs.Run.{RunState, start, movesOf, playFrom, judgePlay, playedReply, playedTally, playedOutput, playedReplies}
+use Rattle.cows.specs.Run.{start, movesOf, playFrom, judgePlay, playedReply, playedTally, playedOutput, playedReplies}
 use Rattle.cows.specs.Run as meaning
 use Rattle.cows.proofs.Basics.{or-false, accept-bind}
 use Rattle.cows.proofs.Lists.{length-replies}
