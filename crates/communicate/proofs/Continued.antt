@@ -30,17 +30,17 @@ module _ (t : Term) (a b : ℕ) {x : Basic} {v : Prefix} (l : a < size t) (ea : 
   abbrev u : Term
   u = silence t b
 
-  silence-inside : a < size u
+  pub silence-inside : a < size u
   silence-inside = omega (arith, silence-size t b x eb)
 
-  under-silent : sub u a ≡ under v (below (sub u a))
+  pub under-silent : sub u a ≡ under v (below (sub u a))
   under-silent = silence-under t a b l ea eb
 
   -- the choice begins where it did
   from-is : from ≡ length (ahead (aroundChoice (wayTo t a)))
   from-is = start-is t a v l ea
 
-  silence-start : startOf a (wayTo u a) ≡ from
+  pub silence-start : startOf a (wayTo u a) ≡ from
   silence-start = start-is u a v silence-inside under-silent ∙ (silence-from t a b l ea eb ∙ sym from-is)
 
   pub silence-enclosed : (d : ℕ) → enclosed d (wayTo u a) ≡ enclosed d (wayTo t a)

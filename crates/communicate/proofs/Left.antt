@@ -58,6 +58,7 @@ pub record Met (t : Term) (a b : ℕ) (r : Term) : Type 0 where
   pub pairs : Substitution
   pub matched : Matched t a b receive invoke pairs
   pub leaves : Left t a b pairs r
+  pub is : bind pairs (continue (silence t b) a) ≡ r
 
 -- the variables bound are the pattern's, and those are distinct
 keys-member : {ws vs : List ℕ} {σ : Substitution} → Matches ws vs σ → (y : ℕ) → any (λ (p : ℕ × ℕ). eqb (p .0) y) σ ≡ true → member y ws ≡ true
@@ -149,4 +150,4 @@ accepted-met t r a b w e =
     let y = wanted-live invokes t b m _ (invokes-is (sub t b) m) em in
     let h : Matched t a b q m σ =
     record { receiver = x .at .placed; receives = x .at .stands; sender = y .at .placed; invokes = y .at .stands; fits = matched-binds (fit q m) σ eσ; scopes = es } in
-    record { receive = q; invoke = m; pairs = σ; matched = h; leaves = subst (Left t a b σ) is (left t a b q m σ w h) }
+    record { receive = q; invoke = m; pairs = σ; matched = h; leaves = subst (Left t a b σ) is (left t a b q m σ w h); is = is }

@@ -1,5 +1,5 @@
 -- After a cut (specs/Cutting) the ends are those of the successor: by the sizes of its terms.
-use mathlib.Core.Path.{_≡_, refl, sym, ap, subst, _∙_}
+use mathlib.Core.Path.{_≡_, refl, sym, ap, _∙_}
 use mathlib.Core.Logic.{_⊎_, inl, inr}
 use mathlib.Core.Bool.{cond}
 use mathlib.Core.List.{List, [], _++_}
@@ -18,17 +18,14 @@ use Rattle.cows.proofs.Places.{size-pos, fill-spot, descend-here, spot-under, a
 use Rattle.cows.proofs.Ways.{length-ahead}
 use Rattle.records.specs.Holds.{Holds}
 use Rattle.records.specs.Ends.{EndsFrom}
-use Rattle.ways.specs.Known.{Table}
 use Rattle.ways.specs.Ways.{startOf}
-use Rattle.ways.proofs.KnownTables.{table-size, table-ended}
-use Rattle.plans.specs.Cutting.{Span}
-use Rattle.plans.proofs.Continuing.{Cuts, start, size-body, cuts, continue-at, continue-size, span}
+use Rattle.plans.proofs.Continuing.{Cuts, start, size-body, cuts, continue-at, continue-size}
 use Rattle.player.specs.Cutting.{innerOf, outerOf, CutsEnds, EndsCut}
 use Rattle.player.proofs.Sizes.{sizes, sizes-at, length-sizes, aheadSizes, behindSizes, sizes-fill, length-ahead-sizes, Beside, Around, ahead-or}
-use Rattle.player.proofs.Lasting.{behind-last, ends-by-places}
+use Rattle.player.proofs.Lasting.{Ended, ends-by-places}
 
 -- the prefix u at place a goes, with the whole choice around it at place c
-module _ (s ends : List ℕ) (t : Term) (z : Table s ends t) (a : ℕ) (u : Prefix) (l : a < size t) (e : sub t a ≡ under u (below (sub t a))) where
+module _ (ends : List ℕ) (t : Term) (z : Ended ends t) (a : ℕ) (u : Prefix) (l : a < size t) (e : sub t a ≡ under u (below (sub t a))) where
   abbrev c : ℕ
   c = startOf a (wayTo t a)
 
@@ -102,7 +99,7 @@ module _ (s ends : List ℕ) (t : Term) (z : Table s ends t) (a : ℕ) (u : Pref
 
   -- the numbers of the cut
   end-at : (j : ℕ) → j < size t → getD ends j 0 ≡ j + size (sub t j)
-  end-at j h = table-ended s ends t z j h
+  end-at j h = z .places j h
 
   numbers : (getD ends a 0 ≡ a + suc new) × (getD ends c 0 ≡ c + old) × (size r + old ≡ size t + new) × Cuts t a c
   numbers = (end-at a l ∙ ap (λ x. a + x) (size-body t a u l e), end-at c inside-c, omega (arith, continue-size t a u l e, size-body t a u l e), cuts t a u l e)
@@ -113,11 +110,19 @@ module _ (s ends : List ℕ) (t : Term) (z : Table s ends t) (a : ℕ) (u : Pref
   pub cuts-ends : (n : ℕ) → n ≡ size t → CutsEnds ends n a c
   unfolding Beside Around
   cuts-ends n h = record {
-    span = subst (λ x. Span ends x a c) (table-size s ends t z ∙ sym h) (span s ends t z a u l e c refl);
-    room = omega (arith, h, table-size s ends t z, z .end .room);
+    span = let (x, y, _, v) = numbers in let b = size-body t a u l e in record {
+      few = omega (arith, h, z .few);
+      low = v .low;
+      inside = omega (arith, h);
+      room = omega (arith, h, z .room);
+      some = omega (arith, x);
+      inner = omega (arith, x, y, v, b);
+      outer = omega (arith, y, v, h);
+    };
+    room = omega (arith, h, z .room);
     later = λ k m.
         bool-case _ (ltb k (size t)) (λ q. omega (arith, end-at k (ltb-true k (size t) q)))
-        (λ q. omega (arith, behind-last s ends t z k (ltb-false k (size t) q) (omega (arith, h))));
+        (λ q. omega (arith, z .behind k (ltb-false k (size t) q) (omega (arith, h))));
     around = λ k m q. go k m q (ahead-or w old new k (omega (arith, place)));
   }
     where
@@ -168,14 +173,14 @@ module _ (s ends : List ℕ) (t : Term) (z : Table s ends t) (a : ℕ) (u : Pref
     places-last j lo hi =
         let (g, d, _) = gone in
         let (x, y, t′, v) = numbers in
-        let f = behind-last s ends t z (j + outerOf ends a c) (omega (arith, g, t′)) (omega (arith, g, t′)) in
+        let f = z .behind (j + outerOf ends a c) (omega (arith, g, t′)) (omega (arith, g, t′)) in
         h .behind j (omega (arith, d, t′, v)) (omega (arith, g, t′)) ∙ omega (arith, f, g, t′)
 
     pub cut-ends-from : (next : List ℕ) → Holds next r → length ends′ ≡ length ends → EndsFrom next ends′ 0
     cut-ends-from next o len =
         let (g, d, less) = gone in
         let (x, y, t′, v) = numbers in
-        ends-by-places next ends′ r o (omega (arith, t′, less, z .within .small)) (omega (arith, t′, less, len, table-size s ends t z, z .end .room))
+        ends-by-places next ends′ r o (omega (arith, t′, less, z .few)) (omega (arith, t′, less, len, z .room))
         (λ j k.
         bool-case _ (ltb j c) (λ q. places-ahead j (ltb-true j c q) k)
         (λ q.

@@ -44,6 +44,17 @@ behind-last s ends t h m lo hi =
     let n = table-size s ends t h in
     h .end .end m (omega arith) (omega (arith, n)) ∙ (end-over s m (omega (arith, n)) ∙ ap (λ x. x + 1) n)
 
+-- `ends` has the ends of the terms of t, as large as a table may be, and one past the number of its records behind them
+pub record Ended (ends : List ℕ) (t : Term) : Type 0 where
+  pub places : EndPlaces ends t
+  pub behind : (m : ℕ) → size t ≤ m → m ≤ size t + 1 → getD ends m 0 ≡ size t + 1
+  pub few : size t ≤ 2048
+  pub room : size t + 1 < length ends
+
+pub ended-table : (s ends : List ℕ) (t : Term) → Table s ends t → Ended ends t
+ended-table s ends t z =
+    record { places = table-ended s ends t z; behind = behind-last s ends t z; few = z .within .small; room = omega (arith, table-size s ends t z, z .end .room) }
+
 -- the ends of a table, by the sizes of its terms
 pub ends-by-places : (next ends : List ℕ) (u : Term) → Holds next u → size u ≤ 2048 → size u + 1 < length ends → EndPlaces ends u → ((m : ℕ) → size u ≤ m → m ≤ size u + 1 → getD ends m 0 ≡ size u + 1)
     → EndsFrom next ends 0

@@ -1,21 +1,23 @@
 -- The successor of an allowed move (specs/Making): a time in place, with the ends as they were, a floating in place, with the ends lifted, and any
--- other move in the other buffer, an expiry with the ends cut.
+-- other move in the other buffer, an expiry or a meeting that binds nothing with the ends cut.
 use mathlib.Core.Path.{_≡_, sym, ap, subst, _∙_}
 use mathlib.Core.Bool.{Bool, not, cond}
-use mathlib.Core.List.{List, _++_}
-use Prim.Native.Nat.{ℕ, _+_, _*_, _/_, _≤_, _<_}
+use mathlib.Core.List.{List, [], _∷_, _++_}
+use Prim.Native.Nat.{ℕ, _+_, _*_, _-_, _/_, _≤_, _<_}
 use native.Mathlib.Omega.{arith}
-use lib.ListN.{length, drop, take-append-drop}
+use lib.ListN.{length, getD, drop, take-append-drop}
 use lib.Seq.{take-at, length-take-le}
 use Rattle.cows.specs.Basics.{accept, _>>=_, need}
-use Rattle.cows.specs.Terms.{wait, Term}
+use Rattle.cows.specs.Terms.{wait, Term, under, size, below, receiveOf}
 use Rattle.cows.specs.Format.{encode}
-use Rattle.cows.specs.Places.{wayTo}
-use Rattle.cows.specs.Moves.{timeoutAt, elapse, extrudeAt, successor}
+use Rattle.cows.specs.Places.{wayTo, sub}
+use Rattle.cows.specs.Moves.{Substitution, silence, continue, bind, timeoutAt, elapse, extrudeAt, successor}
 use Rattle.cows.specs.Step.{proposed}
 use Rattle.cows.proofs.Basics.{same-accept}
 use Rattle.cows.proofs.Format.{length-encode}
 use Rattle.cows.proofs.Recordwise.{time-gives}
+use Rattle.cows.proofs.Silence.{silence-size}
+use Rattle.cows.proofs.Remains.{silence-part}
 use Rattle.records.specs.Holds.{Holds}
 use Rattle.records.specs.Ends.{EndsFrom}
 use Rattle.ways.specs.Known.{Table}
@@ -23,7 +25,7 @@ use Rattle.ways.specs.Ways.{startOf, parentOf}
 use Rattle.ways.proofs.KnownTables.{one-table}
 use Rattle.stepper.proofs.Moved.{put-encode}
 use Rattle.proposals.specs.declared.Move.{Move}
-use Rattle.proposals.specs.declared.Move.the-variants.{Timeout, Elapse, Extrude}
+use Rattle.proposals.specs.declared.Move.the-variants.{Communicate, Timeout, Elapse, Extrude}
 use Rattle.proposals.specs.Proposals.{moveOf}
 use Rattle.plans.specs.Plans.{Asks, Gives}
 use Rattle.moves.specs.Places.{planPlace}
@@ -31,7 +33,9 @@ use Rattle.extrude.specs.Extruding.{lifted, LiftsEnds, EndsLifted}
 use Rattle.extrude.proofs.Judged.{lift-asked, lift-exchanged, lifted-among}
 use Rattle.player.specs.Turns.{held}
 use Rattle.player.specs.Making.{CanMake, Makes}
-use Rattle.player.proofs.Lasting.{ends-last}
+use Rattle.player.proofs.Lasting.{Ended, ended-table, ends-last}
+use Rattle.communicate.proofs.Continued.{silence-inside, under-silent, silence-start}
+use Rattle.communicate.proofs.Left.{Met, accepted-met}
 use Rattle.timeout.proofs.Judged.{allowed-wait}
 use Rattle.player.specs.Cutting.{CutsEnds, EndsCut}
 use Rattle.player.proofs.Expiring.{cuts-ends, cut-ends-from}
@@ -124,7 +128,7 @@ module _ (t : List ℕ) (n : ℕ) (ends : List ℕ) (m : Move) (from records : �
     cut-asked =
         let (i, l, e, r) = allowed-wait now a next expired in
         let h = k .asks .known .table in
-        subst (CutsEnds ends n a) (sym cut-place) (cuts-ends (held n t) ends now h a (wait i) l e n (held-size n t ends now (k .inside) h))
+        subst (CutsEnds ends n a) (sym cut-place) (cuts-ends ends now (ended-table (held n t) ends now h) a (wait i) l e n (held-size n t ends now (k .inside) h))
 
     pub makes-cut : (b : Bool) (t′ to′ ends′ : List ℕ) → Gives (proposed (moveOf m)) (held n t) ends to to′ → EndsCut ends n a from ends′ → length ends′ ≡ length ends → Makes b t n ends m records t′ to′ ends′ (not b)
     makes-cut b t′ to′ ends′ g c l =
@@ -132,5 +136,66 @@ module _ (t : List ℕ) (n : ℕ) (ends : List ℕ) (m : Move) (from records : �
         let h = k .asks .known .table in
         let o = held-next to′ _ (g now next h (k .asks .accepted) ∙ put-encode to next (k .asks .room)) in
         makes-there b t′ to′ ends′ g
-        (cut-ends-from (held n t) ends now h a (wait i) p e n (held-size n t ends now (k .inside) h) ends′ (subst (λ x. EndsCut ends n a x ends′) cut-place c) (held records to′)
+        (cut-ends-from ends now (ended-table (held n t) ends now h) a (wait i) p e n (held-size n t ends now (k .inside) h) ends′ (subst (λ x. EndsCut ends n a x ends′) cut-place c) (held records to′)
         (subst (Holds (held records to′)) r (record { is = o; right = k .within .right })) l)
+
+  -- a meeting that binds nothing, whose ends are cut: the invoke becomes nil, which changes no size
+  module _ (a b : ℕ) (is : m ≡ Communicate a b) where
+    parties : Met now a b next
+    unfolding proposed need _>>=_ successor
+    parties = accepted-met now next a b (k .asks .known .table .within) (subst (λ x. proposed (moveOf x) now ≡ accept next) is (k .asks .accepted))
+
+    abbrev silent : Term
+    silent = silence now b
+
+    meeting-place : from ≡ startOf a (wayTo now a)
+    meeting-place = k .asks .place-is ∙ ap (λ x. planPlace x now) is
+
+    silent-ended : Ended ends silent
+    silent-ended =
+        let h = ended-table (held n t) ends now (k .asks .known .table) in
+        let p = parties .matched in
+        let z = silence-size now b _ (p .invokes) in
+        record {
+          places = λ j l. h .places j (omega (arith, z)) ∙ ap (λ x. j + x) (sym (silence-part now a b (p .receiver) (p .receives) (p .invokes) j));
+          behind = λ j lo hi. h .behind j (omega (arith, z)) (omega (arith, z)) ∙ ap (λ x. x + 1) (sym z);
+          few = omega (arith, z, h .few);
+          room = omega (arith, z, h .room);
+        }
+
+    silent-start : from ≡ startOf a (wayTo silent a)
+    silent-start = let p = parties .matched in meeting-place ∙ sym (silence-start now a b (p .receiver) (p .receives) (p .invokes))
+
+    silent-size : n ≡ size silent
+    silent-size = held-size n t ends now (k .inside) (k .asks .known .table) ∙ sym (silence-size now b _ (parties .matched .invokes))
+
+    silent-prefix : (a < size silent) × (sub silent a ≡ under (receiveOf (parties .receive)) (below (sub silent a)))
+    silent-prefix = let p = parties .matched in
+        (silence-inside now a b (p .receiver) (p .receives) (p .invokes), under-silent now a b (p .receiver) (p .receives) (p .invokes))
+
+    pub meeting-asked : CutsEnds ends n a from
+    meeting-asked = let (l, e) = silent-prefix in subst (CutsEnds ends n a) (sym silent-start) (cuts-ends ends silent silent-ended a _ l e n silent-size)
+
+    -- as many records are left as by the cut alone: nothing was bound
+    none-bound : (σ : Substitution) → length σ ≡ 0 → bind σ (continue silent a) ≡ next → continue silent a ≡ next
+    unfolding bind
+    none-bound [] z q = q
+    none-bound (x ∷ σ) z q = absurd (omega (arith, z))
+
+    ends-here : (getD ends a 0 ≡ a + size (sub now a)) × (getD ends from 0 ≡ from + size (sub now (startOf a (wayTo now a)))) × (n ≡ size now)
+    ends-here =
+        let h = ended-table (held n t) ends now (k .asks .known .table) in
+        let q = held-size n t ends now (k .inside) (k .asks .known .table) in
+        (h .places a (parties .matched .receiver), h .places from (omega (arith, q, meeting-asked .span)) ∙ ap (λ x. from + size (sub now x)) meeting-place, q)
+
+    unbound : records ≡ n - (getD ends from 0 - from) + (getD ends a 0 - a - 1) → continue silent a ≡ next
+    unbound e = none-bound (parties .pairs) (omega (arith, e, k .count, meeting-asked .span, parties .leaves .count, ends-here)) (parties .is)
+
+    pub makes-met : (c : Bool) (t′ to′ ends′ : List ℕ) → Gives (proposed (moveOf m)) (held n t) ends to to′ → records ≡ n - (getD ends from 0 - from) + (getD ends a 0 - a - 1)
+        → EndsCut ends n a from ends′ → length ends′ ≡ length ends → Makes c t n ends m records t′ to′ ends′ (not c)
+    makes-met c t′ to′ ends′ g few h l =
+        let (p, e) = silent-prefix in
+        let o = held-next to′ _ (g now next (k .asks .known .table) (k .asks .accepted) ∙ put-encode to next (k .asks .room)) in
+        makes-there c t′ to′ ends′ g
+        (cut-ends-from ends silent silent-ended a _ p e n silent-size ends′ (subst (λ x. EndsCut ends n a x ends′) silent-start h) (held records to′)
+        (subst (Holds (held records to′)) (sym (unbound few)) (record { is = o; right = k .within .right })) l)

@@ -1,9 +1,9 @@
 use borrow.Author.Needs.{needs}
-use mathlib.Core.Path.{sym}
+use mathlib.Core.Path.{sym, _∙_}
 use native.Mathlib.Omega.{arith}
 use lib.Seq.{length-take-le}
 use Rattle.player.proofs.Turning.{held-few}
-use Rattle.player.proofs.Successors.{make-inside, makes-there, makes-time, float-inside, float-ends, makes-float, cut-asked, makes-cut}
+use Rattle.player.proofs.Successors.{make-inside, makes-there, makes-time, float-inside, float-ends, makes-float, cut-asked, makes-cut, meeting-asked, makes-met}
 use Rattle.player.proofs.making.make.Statement.{statement}
 use Rattle.player.proofs.making.make.Tie as tie
 
@@ -12,15 +12,14 @@ make-spec =
     tie.close
     (tie.spec
     (λ c. search needs)
-    (λ c κs. (c .before .before .before .before .before .before .before .before .pre .inside, c .before .before .before .before .before .before .before .before .pre .asks .known))
+    (λ c κs. let x = c .before .before .before .before .before .before .before .before .pre in (x .inside, x .asks .known))
     (λ c. search needs) (λ c. search needs)
     (λ c. makes-time _ _ _ _ _ _ _ (c .before .before .before .before .before .before .before .before .before .before .before .pre) _ (c .before .before .before .before .before .before .m .given .1) (c .before .before .before .before .before .before .before .before .before .before .before .args .second) _ _ (c .before .before .lower-waits .ensures))
     (λ c. search needs)
     (λ c κs. let (b, _, i) = float-inside _ _ _ _ _ _ _ (c .before .before .before .before .before .before .before .before .pre) _ (c .before .before .m2 .given .1) in (b, i))
     (λ c κs. float-ends _ _ _ _ _ _ _ (c .before .before .before .before .before .before .before .before .before .before .before .before .pre) _ (c .before .before .before .before .before .before .m2 .given .1))
     (λ c. search needs) (λ c. search needs)
-    (λ c.
-    makes-float _ _ _ _ _ _ _ (c .before .before .before .before .before .before .before .before .before .before .before .before .before .before .before .pre) _ (c .before .before .before .before .before .before .before .before .before .m2 .given .1) (c .before .before .before .before .before .before .before .before .before .before .before .before .before .before .before .args .second) _ _ _ (c .before .before .before .before .before .before .lift-in .ensures) (c .before .before .lift-ends .ensures) (omega (arith, c .before .ends)))
+    (λ c. makes-float _ _ _ _ _ _ _ (c .before .before .before .before .before .before .before .before .before .before .before .before .before .before .before .pre) _ (c .before .before .before .before .before .before .before .before .before .m2 .given .1) (c .before .before .before .before .before .before .before .before .before .before .before .before .before .before .before .args .second) _ _ _ (c .before .before .before .before .before .before .lift-in .ensures) (c .before .before .lift-ends .ensures) (omega (arith, c .before .ends)))
     (λ c. omega (arith, make-inside _ _ _ _ _ _ _ (c .before .before .before .before .before .pre)))
     (λ c. omega (arith, make-inside _ _ _ _ _ _ _ (c .before .before .before .before .before .pre)))
     (λ c. omega (arith, c .before .before .before .before .before .pre .inside))
@@ -29,10 +28,15 @@ make-spec =
     (λ c. search needs)
     (λ c κs. cut-asked _ _ _ _ _ _ _ (c .before .before .before .before .before .before .before .before .before .before .before .before .before .before .before .pre) _ (c .before .before .m3 .given .1))
     (λ c. search needs) (λ c. search needs) (λ c. search needs)
-    (λ c.
-    makes-cut _ _ _ _ _ _ _ (c .before .before .before .before .before .before .before .before .before .before .before .before .before .before .before .before .before .before .pre) _ (c .before .before .before .before .before .m3 .given .1) (c .before .before .before .before .before .before .before .before .before .before .before .before .before .before .before .before .before .before .args .second) _ _ _ (c .before .before .before .before .before .before .before .before .before .write .ensures) (c .before .before .cut-ends .ensures) (omega (arith, c .before .ends2)))
-    (λ c. omega (arith, make-inside _ _ _ _ _ _ _ (c .before .before .before .before .before .before .before .before .before .before .before .before .pre), c .before .before .to))
-    (λ c. sym (length-take-le _ _ (omega (arith, make-inside _ _ _ _ _ _ _ (c .before .before .before .before .before .before .before .before .before .before .before .before .before .pre), c .before .before .before .to))))
-    (λ c κs. held-few _ _ (c .before .before .before .before .before .before .before .before .before .before .before .before .before .before .args .ends .now) (make-inside _ _ _ _ _ _ _ (c .before .before .before .before .before .before .before .before .before .before .before .before .before .before .pre) .1) (omega (arith, c .before .before .before .before .before .before .before .before .before .before .before .before .before .before .pre .room, c .before .before .before .before .to)) (c .before .before .before .before .before .before .before .before .before .before .before .before .before .before .pre .ends-room))
+    (λ c. makes-cut _ _ _ _ _ _ _ (c .before .before .before .before .before .before .before .before .before .before .before .before .before .before .before .before .before .before .pre) _ (c .before .before .before .before .before .m3 .given .1) (c .before .before .before .before .before .before .before .before .before .before .before .before .before .before .before .before .before .before .args .second) _ _ _ (c .before .before .before .before .before .before .before .before .before .write .ensures) (c .before .before .cut-ends .ensures) (omega (arith, c .before .ends2)))
+    (λ c. search needs)
+    (λ c κs. meeting-asked _ _ _ _ _ _ _ (c .before .before .before .before .before .before .before .before .before .before .before .before .before .before .before .before .pre) _ _ (c .before .before .m4 .given .1) .span)
+    (λ c κs. meeting-asked _ _ _ _ _ _ _ (c .before .before .before .before .before .before .before .before .before .before .before .before .before .before .before .before .before .before .before .pre) _ _ (c .before .before .before .before .before .m4 .given .1))
     (λ c. search needs) (λ c. search needs) (λ c. search needs)
-    (λ c. makes-there _ _ _ _ _ _ _ (c .before .before .before .before .before .before .before .before .before .before .before .before .before .before .before .before .before .pre) (c .before .before .before .before .before .before .before .before .before .before .before .before .before .before .before .before .before .args .second) _ _ _ (c .before .before .before .before .before .before .before .before .write .ensures) (c .before .before .ends3 .ensures)))
+    (λ c.
+    makes-met _ _ _ _ _ _ _ (c .before .before .before .before .before .before .before .before .before .before .before .before .before .before .before .before .before .before .before .before .before .before .pre) _ _ (c .before .before .before .before .before .before .before .before .m4 .given .1) (c .before .before .before .before .before .before .before .before .before .before .before .before .before .before .before .before .before .before .before .before .before .before .args .second) _ _ _ (c .before .before .before .before .before .before .before .before .before .before .before .before .before .write .ensures) (sym (c .before .before .before .before .if1 .taken) ∙ c .before .before .before .before .before .left .ensures) (c .before .before .cut-ends2 .ensures) (omega (arith, c .before .ends3)))
+    (λ c. omega (arith, make-inside _ _ _ _ _ _ _ (c .before .before .before .before .before .before .before .before .before .before .before .before .before .pre), c .before .before .before .to))
+    (λ c. sym (length-take-le _ _ (omega (arith, make-inside _ _ _ _ _ _ _ (c .before .before .before .before .before .before .before .before .before .before .before .before .before .before .pre), c .before .before .before .before .to))))
+    (λ c κs. let x = c .before .before .before .before .before .before .before .before .before .before .before .before .before .before .before in held-few _ _ (x .args .ends .now) (make-inside _ _ _ _ _ _ _ (x .pre) .1) (omega (arith, x .pre .room, c .before .before .before .before .before .to)) (x .pre .ends-room))
+    (λ c. search needs) (λ c. search needs) (λ c. search needs)
+    (λ c. makes-there _ _ _ _ _ _ _ (c .before .before .before .before .before .before .before .before .before .before .before .before .before .before .before .before .before .before .pre) (c .before .before .before .before .before .before .before .before .before .before .before .before .before .before .before .before .before .before .args .second) _ _ _ (c .before .before .before .before .before .before .before .before .before .write .ensures) (c .before .before .ends4 .ensures)))
