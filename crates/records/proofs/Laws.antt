@@ -2,17 +2,13 @@
 use mathlib.Core.Path.{_≡_, refl, sym, ap}
 use mathlib.Core.Logic.{_≢_}
 use mathlib.Core.Bool.{Bool, true, false}
-use mathlib.Core.List.{[], _∷_}
-use Prim.Native.Nat.{ℕ, zero, suc, _+_, _≤_, _<_}
+use Prim.Native.Nat.{ℕ, _+_, _≤_, _<_}
 use native.Mathlib.Omega.{arith}
-use lib.ListN.{getD}
-use mir.Syntax.{w64}
-use mir.Val.{Fits, boolByte}
+use mir.Val.{boolByte}
 use mathlib.Core.Option.{Option, none, some}
 use Rattle.cows.specs.Basics.{oneIf}
 use Rattle.records.specs.declared.Found.the-variants.{At, Nothing}
 use Rattle.records.specs.Answers.{foundOf, placeOr}
-use Rattle.records.specs.Ends.{pickEnd}
 
 pub test-sum : (a b : Bool) → (boolByte a + boolByte b ≡ oneIf a + oneIf b) × (boolByte a + boolByte b ≤ 2)
 test-sum true true = (refl, omega arith)
@@ -20,20 +16,9 @@ test-sum true false = (refl, omega arith)
 test-sum false true = (refl, omega arith)
 test-sum false false = (refl, omega arith)
 
-pub sum-fits : (a b : Bool) → Fits w64 (boolByte a + boolByte b)
-sum-fits a b = omega (arith, test-sum a b)
-
 pub test-small : (b : Bool) → oneIf b ≤ 1
 test-small true = omega arith
 test-small false = omega arith
-
--- the choice among three ends, as a lookup
-pub pick-at : (c x a b : ℕ) → c ≤ 2 → getD (x ∷ a ∷ b ∷ []) c 0 ≡ pickEnd c x a b
-unfolding pickEnd
-pick-at zero x a b h = refl
-pick-at (suc zero) x a b h = refl
-pick-at (suc (suc zero)) x a b h = refl
-pick-at (suc (suc (suc c))) x a b h = absurd (omega arith)
 
 -- a place that the code found, or none
 pub found-at : (o : Option ℕ) (p : ℕ) → At p ≡ foundOf o → o ≡ some p

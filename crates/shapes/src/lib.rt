@@ -1,12 +1,12 @@
 // Shapes: one backward pass over the records of a table that finds the ends of all terms and the height of the term, with a stack, and lists delimitations and
 // users of atoms on the way. A quick test that only ever accepts, without branches on the kind.
+use records::ends::pick_end;
 use records::kinds;
 use records::limits;
 use records::wide8;
 ghost use mathlib.Core.Path.{_≡_};
 ghost use mathlib.Core.Logic.{_≢_};
 ghost use Prim.Native.Nat.{_+_, _*_, _≤_, max};
-ghost use Rattle.records.specs.Ends.{pickEnd};
 ghost use Rattle.shapes.specs.Shaped.{pickHeight, Roomy, Shaped};
 
 // The height of the term of a table, or 0 if the table is not accepted; how many delimitations and how many users of atoms are listed.
@@ -41,14 +41,6 @@ fn greater(a: u32, b: u32) -> u32
     ensures { λ r. ⌜ r ≡ max a b ⌝ }
 {
     if a < b { b } else { a }
-}
-
-// Where a term ends: at x without children, at a with one, at b with two.
-fn pick_end(none: u32, one: u32, two: u32, x: u32, a: u32, b: u32) -> u32
-    requires { ⌜ (none + one + two ≡ 1) × (x ≤ 65535) × (a ≤ 65535) × (b ≤ 65535) ⌝ }
-    ensures { λ r. ⌜ r ≡ pickEnd (one + 2 * two) x a b ⌝ }
-{
-    none * x + one * a + two * b
 }
 
 // The height of a term by those of its children.

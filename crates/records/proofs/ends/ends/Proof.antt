@@ -41,7 +41,7 @@ loop-again c =
       v .0,
       omega arith,
       length-set out _ _ ∙ v .2,
-      ends-more (l .before .before .before .args .s .now) out (l .loop .i) _ _ _ _ (v .3) (w .before .loop-test .taken) (omega arith) (v .4) (ap (λ j. getD out j 0) (w .wide16 .ensures .0)) (k .children .ensures) (c .pick-end .ensures),
+      ends-more (l .before .before .before .args .s .now) out (l .loop .i) _ _ _ _ (v .3) (w .before .loop-test .taken) (omega arith) (v .4) (ap (λ j. getD out j 0) (w .wide16 .ensures .0)) (k .children .ensures) (c .end-by .ensures),
       sym (getD-set-same out _ _ 0 (omega arith)),
     )
 
