@@ -44,4 +44,5 @@ pub +first-deep-spec : {M : Type 1} → statement M
     (λ c κs. search needs)
     (λ c. search needs)
     (λ c κs. let (q, l) = second-standing _ _ _ _ (c .before .before .before .before .before .before .before .before .before .before .before .pre .1) (c .before .before .before .before .before .before .children .ensures .0) (c .before .before .before .before .before .if2 .left) (c .before .before .before .if3 .left) _ (c .wide16 .ensures .0) in (omega (arith, q .inside), q))
-    (λ c. deep-right _ _ _ _ _ (c .before .before .before .before .before .before .before .before .before .before .before .before .pre .1) (c .before .before .before .before .before .before .before .children .ensures .0) (omega (arith, c .before .before .before .before .before .before .before .before .before .if1 .left)) _ (c .before .before .before .before .before .first-deep .ensures) (c .before .before .before .before .before .before .if2 .left) (c .before .before .before .before .if3 .left) (c .before .before .before .if4 .left) _ (c .before .wide16 .ensures .0) _ (c .first-deep2 .ensures)))
+    (λ c. let c₁ = c .before in let c₂ = c₁ .before .before in let c₃ = c₂ .before in let c₄ = c₃ .before in let c₅ = c₄ .before in let c₆ = c₅ .before in let c₇ = c₆ .before .before in let c₈ = c₇ .before .before .before in
+    deep-right _ _ _ _ _ (c₈ .pre .1) (c₆ .children .ensures .0) (omega (arith, c₇ .if1 .left)) _ (c₄ .first-deep .ensures) (c₅ .if2 .left) (c₃ .if3 .left) (c₂ .if4 .left) _ (c₁ .wide16 .ensures .0) _ (c .first-deep2 .ensures)))

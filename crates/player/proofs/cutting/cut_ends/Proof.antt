@@ -18,4 +18,5 @@ cut-ends-spec =
     cut-behind _ _ _ _ (c .before .before .before .before .before .before .before .before .before .before .before .before .before .before .pre) (c .before .before .before .before .before .before .before .before .before .before .before .wide16 .ensures .0) (c .before .before .before .before .before .before .before .before .before .wide162 .ensures .0) (c .before .before .before .before .before .before .before .lower-around .ensures) (c .before .before .before .before .before .before .ends .given) (c .before .before .before .lower-ends .ensures) (c .before .before .ends2 .given))
     (λ c. search needs)
     (λ c.
-    cut-done _ _ _ _ (c .before .before .before .before .before .before .before .before .before .before .before .before .before .before .before .before .before .pre) (c .before .before .before .before .before .before .before .before .before .before .before .before .before .before .wide16 .ensures .0) (c .before .before .before .before .before .before .before .before .before .before .before .before .wide162 .ensures .0) (c .before .before .before .before .before .before .before .before .before .before .lower-around .ensures) (c .before .before .before .before .before .before .before .before .before .ends .given) (c .before .before .before .before .before .before .lower-ends .ensures) (c .before .before .before .before .before .ends2 .given) (c .before .before .lower-ends2 .ensures)))
+    let c₁ = c .before .before in let c₂ = c₁ .before .before .before in let c₃ = c₂ .before in let c₄ = c₃ .before .before .before in let c₅ = c₄ .before in let c₆ = c₅ .before .before in let c₇ = c₆ .before .before in let c₈ = c₇ .before .before .before in
+    cut-done _ _ _ _ (c₈ .pre) (c₇ .wide16 .ensures .0) (c₆ .wide162 .ensures .0) (c₅ .lower-around .ensures) (c₄ .ends .given) (c₃ .lower-ends .ensures) (c₂ .ends2 .given) (c₁ .lower-ends2 .ensures)))

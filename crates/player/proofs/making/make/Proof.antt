@@ -34,7 +34,8 @@ make-spec =
     (λ c κs. meeting-asked _ _ _ _ _ _ _ (c .before .before .before .before .before .before .before .before .before .before .before .before .before .before .before .before .before .before .before .pre) _ _ (c .before .before .before .before .before .m4 .given .1))
     (λ c. search needs) (λ c. search needs) (λ c. search needs)
     (λ c.
-    makes-met _ _ _ _ _ _ _ (c .before .before .before .before .before .before .before .before .before .before .before .before .before .before .before .before .before .before .before .before .before .before .pre) _ _ (c .before .before .before .before .before .before .before .before .m4 .given .1) (c .before .before .before .before .before .before .before .before .before .before .before .before .before .before .before .before .before .before .before .before .before .before .args .second) _ _ _ (c .before .before .before .before .before .before .before .before .before .before .before .before .before .write .ensures) (sym (c .before .before .before .before .if1 .taken) ∙ c .before .before .before .before .before .left .ensures) (c .before .before .cut-ends2 .ensures) (omega (arith, c .before .ends3)))
+    let c₁ = c .before in let c₂ = c₁ .before in let c₃ = c₂ .before .before in let c₄ = c₃ .before in let c₅ = c₄ .before .before .before in let c₆ = c₅ .before .before .before .before .before in let c₇ = c₆ .before .before .before .before .before .before .before .before .before in
+    makes-met _ _ _ _ _ _ _ (c₇ .pre) _ _ (c₅ .m4 .given .1) (c₇ .args .second) _ _ _ (c₆ .write .ensures) (sym (c₃ .if1 .taken) ∙ c₄ .left .ensures) (c₂ .cut-ends2 .ensures) (omega (arith, c₁ .ends3)))
     (λ c. omega (arith, make-inside _ _ _ _ _ _ _ (c .before .before .before .before .before .before .before .before .before .before .before .before .before .pre), c .before .before .before .to))
     (λ c. sym (length-take-le _ _ (omega (arith, make-inside _ _ _ _ _ _ _ (c .before .before .before .before .before .before .before .before .before .before .before .before .before .before .pre), c .before .before .before .before .to))))
     (λ c κs. let x = c .before .before .before .before .before .before .before .before .before .before .before .before .before .before .before in held-few _ _ (x .args .ends .now) (make-inside _ _ _ _ _ _ _ (x .pre) .1) (omega (arith, x .pre .room, c .before .before .before .before .before .to)) (x .pre .ends-room))

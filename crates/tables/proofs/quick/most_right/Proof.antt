@@ -22,6 +22,7 @@ most-right-spec =
     (λ c. search needs)
     (λ c e. c .before .scoped-wide .ensures (c .if3 .taken))
     (λ c. search needs) (λ c. search needs)
-    (λ c κs. (c .before .before .before .before .before .before .before .before .before .before .before .before .before .before .before .before .before .before .before .before .before .before .before .before .before .before .before .before .before .pre .0, c .before .before .before .before .before .before .before .before .before .before .before .before .before .before .before .before .before .before .before .before .before .before .sound .ensures (c .before .before .before .before .before .before .before .before .before .before .before .before .before .before .before .if1 .left), omega arith))
+    (λ c κs. let c₁ = c .before .before .before .before .before .before .before .before .before .before .before .before .before .before .before in let c₂ = c₁ .before .before .before .before .before .before .before in let c₃ = c₂ .before .before .before .before .before .before .before in
+    (c₃ .pre .0, c₂ .sound .ensures (c₁ .if1 .left), omega arith))
     (λ c. search needs)
     (λ c. search needs))

@@ -28,5 +28,5 @@ sound-spec =
       fields = c .before .before .before .before .before .before .before .before .before .before .before .before .before .before .fields-right .ensures (not-false _ (c .before .before .before .before .before .before .before .before .before .before .before .before .before .if1 .left));
       whole = s .whole;
       low = s .low;
-      lists = record { end = s .end; delimitations = s .mark; marks-room = omega (arith, c .before .before .before .before .before .before .before .before .before .before .before .before .before .before .before .before .before .before .before .before .pre .1 .marks-room, c .before .before .before .before .before .before .before .before .shape-of .kept .1 .1 .1 .0); uses = s .user; users-room = omega (arith, c .before .before .before .before .before .before .before .before .before .before .before .before .before .before .before .before .before .before .before .before .pre .1 .users-room, c .before .before .before .before .before .before .before .before .shape-of .kept .1 .1 .1 .1 .0) };
+      lists = let c₁ = c .before .before .before .before .before .before .before .before in let c₂ = c₁ .before .before .before .before .before .before .before .before .before .before .before .before in record { end = s .end; delimitations = s .mark; marks-room = omega (arith, c₂ .pre .1 .marks-room, c₁ .shape-of .kept .1 .1 .1 .0); uses = s .user; users-room = omega (arith, c₂ .pre .1 .users-room, c₁ .shape-of .kept .1 .1 .1 .1 .0) };
     }))
