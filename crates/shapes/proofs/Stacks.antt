@@ -114,3 +114,8 @@ pub stacked-first : (s stack : List ℕ) (k e h i : ℕ) → Stacked s stack k e
 unfolding Stacked
 stacked-first s stack zero e h i q l = absurd (omega arith)
 stacked-first s stack (suc k) e h i q l = q .0
+
+pub stacked-second : (s stack : List ℕ) (k e h i : ℕ) → Stacked s stack k e h i → 1 < k → Entry s e (getD stack k 0 % 65536) (getD stack k 0 / 65536)
+unfolding Stacked
+stacked-second s stack zero e h i q l = absurd (omega arith)
+stacked-second s stack (suc k) e h i q l = stacked-first s stack k _ _ e (q .1) (omega arith)

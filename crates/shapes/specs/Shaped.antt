@@ -15,6 +15,12 @@ use Rattle.ranges.specs.Lists.{Listed}
 unfoldable pub pickHeight : ℕ → ℕ → ℕ → ℕ
 pickHeight c a b = cond (eqb c 0) 1 (cond (eqb c 1) (suc a) (suc (max a b)))
 
+-- The masks that a record of c children has for the place behind it, which is its end if it has none, for its first child's number, of which a record with a
+-- second child wants the height alone, and for its second child's.
+abbrev pub Masks : (c behind first second : ℕ) → Type 0
+Masks c behind first second =
+    (c ≤ 2) × (behind ≡ cond (eqb c 0) 65535 0) × (first ≡ cond (eqb c 0) 0 (cond (eqb c 1) 4294967295 4294901760)) × (second ≡ cond (eqb c 0) 0 (cond (eqb c 1) 0 4294967295))
+
 -- The kinds of all records are known, and there is room for what is found of them.
 pub record Roomy (s ends stack marks users : List ℕ) : Type 0 where
   pub few : length s / 16 ≤ maxRecords

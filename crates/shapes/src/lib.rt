@@ -1,13 +1,14 @@
 // Shapes: one backward pass over the records of a table that finds the ends of all terms and the height of the term, with a stack, and lists delimitations and
 // users of atoms on the way. A quick test that only ever accepts, without branches on the kind.
-use records::ends::pick_end;
 use records::kinds;
 use records::limits;
 use records::wide8;
 ghost use mathlib.Core.Path.{_≡_};
 ghost use mathlib.Core.Logic.{_≢_};
-ghost use Prim.Native.Nat.{_+_, _*_, _≤_, max};
-ghost use Rattle.shapes.specs.Shaped.{pickHeight, Roomy, Shaped};
+ghost use Prim.Native.Nat.{ℕ, _*_, _+_, _%_, _/_, _<_};
+ghost use lib.Bits.{bitAnd};
+ghost use Rattle.records.specs.Ends.{pickEnd};
+ghost use Rattle.shapes.specs.Shaped.{pickHeight, Masks, Roomy, Shaped};
 
 // The height of the term of a table, or 0 if the table is not accepted; how many delimitations and how many users of atoms are listed.
 pub struct Shape {
@@ -19,12 +20,19 @@ pub struct Shape {
 // The most terms on the stack, each above another, and the greatest height.
 const MOST: u32 = limits::MAX_DEPTH as u32;
 
-// Whether a kind has no children, one child, or two, as numbers to multiply by.
-const NONE: [u32; 10] = [1, 1, 1, 0, 0, 0, 0, 0, 0, 0];
+// All bits of a number, and the bits of a height.
+const ALL: u32 = 4294967295;
 
-const ONE: [u32; 10] = [0, 0, 0, 1, 1, 0, 0, 1, 1, 1];
+const HIGH: u32 = 4294901760;
 
-const TWO: [u32; 10] = [0, 0, 0, 0, 0, 1, 1, 0, 0, 0];
+// By kind: how many terms more the stack has after the record, and one; masks of the place behind it, of its first child and of its second, as numbers below.
+const MORE: [u32; 10] = [2, 2, 2, 1, 1, 0, 0, 1, 1, 1];
+
+const BEHIND: [u32; 10] = [65535, 65535, 65535, 0, 0, 0, 0, 0, 0, 0];
+
+const FIRST: [u32; 10] = [0, 0, 0, ALL, ALL, HIGH, HIGH, ALL, ALL, ALL];
+
+const SECOND: [u32; 10] = [0, 0, 0, 0, 0, ALL, ALL, 0, 0, 0];
 
 // Not accepted.
 fn unshaped() -> Shape
@@ -37,22 +45,22 @@ fn unshaped() -> Shape
     }
 }
 
-fn greater(a: u32, b: u32) -> u32
-    ensures { λ r. ⌜ r ≡ max a b ⌝ }
+// A term as a number: its end, and 65,536 times its height. Here that of a record by the place x behind it and the numbers a and b of its children, with the masks
+// of its kind: masks and one comparison take less time than branches or multiplications, and the next record waits for the number.
+fn number_of(behind: u32, first: u32, second: u32, x: u32, a: u32, b: u32) -> u32
+    requires { ⌜ (x < 65536) × (a < 268435456) × (bitAnd b second < 268435456) ⌝ }
+    ensures { λ r. ⌜ ((c : ℕ) → Masks c behind first second → r ≡ pickEnd c x (a % 65536) (b % 65536) + 65536 * pickHeight c (a / 65536) (b / 65536)) ⌝ }
 {
-    if a < b { b } else { a }
-}
-
-// The height of a term by those of its children.
-fn pick_height(one: u32, two: u32, a: u32, b: u32) -> u32
-    requires { ⌜ (one + two ≤ 1) × (a ≤ 65535) × (b ≤ 65535) ⌝ }
-    ensures { λ r. ⌜ r ≡ pickHeight (one + 2 * two) a b ⌝ }
-{
-    1 + greater((one + two) * a, two * b)
+    let p = a & first;
+    let q = (b & second) | (x & behind);
+    if p < q {
+        return q + 65536;
+    }
+    p + q % 65536 + 65536
 }
 
 // Finds the ends of all terms and the height of the term; lists delimitations as marks, and kills, invokes and receives as users. The stack has, below the term
-// that was read last, the end and 65,536 times the height of each term that waits for a parent; the lowest is at 2.
+// that was read last, the number of each term that waits for a parent; the lowest is at 2.
 pub fn shape_of(
     s: &[u8],
     ends: &mut [u16],
@@ -63,16 +71,16 @@ pub fn shape_of(
     requires { ⌜ Roomy (now s) (now ends) (now stack) (now marks) (now users) ⌝ }
     ensures { λ r. ⌜ (r .height ≢ 0 → Shaped (now (s .entry)) (now (ends .exit)) (now (marks .exit)) (now (users .exit)) (r .height) (r .marks) (r .users)) ⌝ }
 {
-    let nones = NONE;
-    let ones = ONE;
-    let twos = TWO;
+    let more = MORE;
+    let behind = BEHIND;
+    let first = FIRST;
+    let second = SECOND;
     let n = s.len() / 16;
     let over = (n + 1) as u16;
     ends[n + 1] = over;
     ends[n] = over;
     let mut have: u32 = 0;
-    let mut end: u32 = 0;
-    let mut high: u32 = 0;
+    let mut term: u32 = 0;
     let mut m = 0;
     let mut u = 0;
     let mut i = n;
@@ -80,30 +88,26 @@ pub fn shape_of(
         i -= 1;
         let kind = s[16 * i];
         let k = wide8(kind);
-        let none = nones[k];
-        let one = ones[k];
-        let two = twos[k];
-        let next = have + 2 * none + one;
+        let next = have + more[k];
         if (next < 2) | (MOST + 1 < next) {
             return unshaped();
         }
         let top = have as usize;
-        let second = stack[top];
-        stack[top + 1] = end + 65536 * high;
-        end = pick_end(none, one, two, i as u32 + 1, end, second % 65536);
-        high = pick_height(one, two, high, second / 65536);
+        let below = stack[top];
+        stack[top + 1] = term;
+        term = number_of(behind[k], first[k], second[k], i as u32 + 1, term, below);
         have = next - 1;
-        ends[i] = end as u16;
+        ends[i] = (term % 65536) as u16;
         marks[m] = i as u16;
         m += (kind == kinds::DELIMITATION) as usize;
         users[u] = i as u16;
         u += ((kinds::KILL <= kind) & (kind <= kinds::RECEIVE)) as usize;
     }
-    if (have != 1) | (MOST < high) {
+    if (have != 1) | (MOST < term / 65536) {
         return unshaped();
     }
     Shape {
-        height: high as usize,
+        height: (term / 65536) as usize,
         marks: m,
         users: u,
     }
