@@ -71,10 +71,10 @@ pub fn shape_of(
     requires { ⌜ Roomy (now s) (now ends) (now stack) (now marks) (now users) ⌝ }
     ensures { λ r. ⌜ (r .height ≢ 0 → Shaped (now (s .entry)) (now (ends .exit)) (now (marks .exit)) (now (users .exit)) (r .height) (r .marks) (r .users)) ⌝ }
 {
-    let more = MORE;
-    let behind = BEHIND;
-    let first = FIRST;
-    let second = SECOND;
+    let mores = MORE;
+    let behinds = BEHIND;
+    let firsts = FIRST;
+    let seconds = SECOND;
     let n = s.len() / 16;
     let over = (n + 1) as u16;
     ends[n + 1] = over;
@@ -88,14 +88,17 @@ pub fn shape_of(
         i -= 1;
         let kind = s[16 * i];
         let k = wide8(kind);
-        let next = have + more[k];
+        let behind = behinds[k];
+        let first = firsts[k];
+        let second = seconds[k];
+        let next = have + mores[k];
         if (next < 2) | (MOST + 1 < next) {
             return unshaped();
         }
         let top = have as usize;
         let below = stack[top];
         stack[top + 1] = term;
-        term = number_of(behind[k], first[k], second[k], i as u32 + 1, term, below);
+        term = number_of(behind, first, second, i as u32 + 1, term, below);
         have = next - 1;
         ends[i] = (term % 65536) as u16;
         marks[m] = i as u16;

@@ -13,12 +13,12 @@ use Rattle.shapes.proofs.shape_of.Statement.{statement}
 use Rattle.shapes.proofs.shape_of.Tie as tie
 
 abbrev Inv-loop : tie.InvT-loop
-Inv-loop s ends₀ stack₀ marks₀ users₀ more behind first second n over have₀ term₀ m₀ u₀ i₀ ends stack marks users have term m u i =
+Inv-loop s ends₀ stack₀ marks₀ users₀ mores behinds firsts seconds n over have₀ term₀ m₀ u₀ i₀ ends stack marks users have term m u i =
     (n ≡ length s / 16) × (length ends ≡ length ends₀) × (length stack ≡ length stack₀) × (length marks ≡ length marks₀) × (length users ≡ length users₀)
     × Passed s ends stack marks users have term m u i
 
 abbrev μ-loop : tie.MeasureT-loop
-μ-loop s ends₀ stack₀ marks₀ users₀ more behind first second n over have₀ term₀ m₀ u₀ i₀ ends stack marks users have term m u i = i
+μ-loop s ends₀ stack₀ marks₀ users₀ mores behinds firsts seconds n over have₀ term₀ m₀ u₀ i₀ ends stack marks users have term m u i = i
 
 abbrev start : tie.After-wide8 Inv-loop μ-loop → tie.Start Inv-loop μ-loop
 start c = c .before .before .before .before .before .before .before .before .before
@@ -83,13 +83,14 @@ shape-of-spec =
     (λ c. omega arith) (λ c. omega arith) (λ c. omega arith) (λ c. omega arith) (λ c. omega arith) (λ c. omega arith)
     (λ c. simp length-set (omega arith))
     (λ c. let x = c .before .before .before .before .before in (refl, refl, refl, refl, refl, pass-start (x .args .s .now) (x .args .ends .now) _ _ _ (x .pre .few) (x .pre .end)))
-    (λ c. omega arith) (λ c. omega arith) (λ c. omega arith) (λ c κs. tt) (λ c. omega arith) (λ c. known c .0) (λ c. omega (arith, known c .1 .0)) (λ c. omega arith) (λ c κs. tt)
+    (λ c. omega arith) (λ c. omega arith) (λ c. omega arith) (λ c κs. tt) (λ c. omega arith) (λ c. known c .0) (λ c. omega arith) (λ c. known c .0) (λ c. omega arith) (λ c. known c .0)
+    (λ c. omega arith) (λ c. known c .0) (λ c. omega (arith, known c .1 .0)) (λ c. omega arith) (λ c κs. tt)
     (λ c. c .before .before .before .before .before .loop .inv .1 ∙ simp length-set)
     (λ c. c .before .before .before .before .before .loop .inv .2) (λ c. c .before .before .before .before .before .loop .inv .3)
     (λ c. c .before .before .before .before .before .loop .inv .4)
     (λ c e. absurd (e (c .unshaped .ensures)))
     (λ c. omega arith) (λ c. omega arith) (λ c. omega arith) (λ c. omega arith) (λ c. omega arith) (λ c. omega arith) (λ c. omega arith)
-    (λ c. known (c .before .before) .0) (λ c. omega arith) (λ c. known (c .before .before) .0) (λ c. omega arith) (λ c. known (c .before .before) .0) (λ c. omega arith) (λ c. omega arith)
+    (λ c. omega arith)
     (λ c κs. (omega arith, omega arith, small (c .before)))
     (λ c. omega (arith, roomy (c .before .before)))
     (λ c. omega arith) (λ c. omega arith) (λ c. omega arith) (λ c. omega arith) (λ c. omega arith) (λ c. omega arith) (λ c. tt)
