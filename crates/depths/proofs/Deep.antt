@@ -1,10 +1,13 @@
 -- The depth of the term at a place, by the terms below it.
-use mathlib.Core.Path.{_≡_, refl, subst, _∙_}
+use mathlib.Core.Path.{_≡_, refl, sym, subst, _∙_}
 use mathlib.Core.Logic.{_≢_}
+use mathlib.Core.Bool.{false}
 use mathlib.Core.List.{List}
-use Prim.Native.Nat.{ℕ, _+_, _*_, _≤_, _<_, max}
+use Prim.Native.Nat.{ℕ, _+_, _*_, _-_, _≤_, _<_, max}
 use native.Mathlib.Omega.{arith}
+use lib.Dec.{ltb}
 use lib.ListN.{getD}
+use borrow.Author.Tests.{le-ltb}
 use Rattle.cows.specs.Terms.{Join, Term, leaf, under, both, size, depth}
 use Rattle.cows.specs.Kinds.{childrenOf}
 use Rattle.cows.proofs.Format.{length-encode}
@@ -26,6 +29,17 @@ standing t h e = record { term = t; stands = h; end = e; inside = omega (arith, 
 -- what is read is no deeper than the table is long
 pub depth-few : {s ends : List ℕ} {i : ℕ} (q : Standing s ends i) (d : ℕ) → ((t : Term) → StandsIn s (16 * i) t → d ≡ depth t) → d ≤ 2048
 depth-few q d f = omega (arith, f (q .term) (q .stands), depth-size (q .term), length-encode (q .term), stands-fits (q .term) (q .stands), q .end .few)
+
+-- where the term at place i ends
+pub end-there : {s ends : List ℕ} (i : ℕ) (t : Term) → StandsIn s (16 * i) t → EndsFrom s ends 0 → getD ends i 0 ≡ i + size t
+end-there {s} {ends} i t h e = e .end i (omega arith) (omega (arith, stands-fits t h, long t)) ∙ end-stands s t i h
+
+pub end-after : {s ends : List ℕ} {i : ℕ} (q : Standing s ends i) → i ≤ getD ends i 0
+end-after q = omega (arith, end-there _ (q .term) (q .stands) (q .end))
+
+-- it is no deeper than it has records
+pub short-shallow : {s ends : List ℕ} {i : ℕ} (q : Standing s ends i) (room : ℕ) → getD ends i 0 - i ≤ room → (t : Term) → StandsIn s (16 * i) t → false ≡ ltb room (depth t)
+short-shallow q room l t h = sym (le-ltb room (depth t) (omega (arith, end-there _ t h (q .end), depth-size t)))
 
 -- The record at place i has c children.
 module _ (s ends : List ℕ) (i c : ℕ) (q : Standing s ends i) (k : c ≡ childrenOf (getD s (16 * i) 0)) where
@@ -50,7 +64,7 @@ module _ (s ends : List ℕ) (i c : ℕ) (q : Standing s ends i) (k : c ≡ chil
   module _ (no : c ≢ 0) (not : c ≢ 1) (p : ℕ) (at : p ≡ getD ends (i + 1) 0) where
     pub second : (o : Join) (l r : Term) → StandsIn s (16 * i) (both o l r) → (p ≡ i + 1 + size l) × StandsIn s (16 * p) r
     second o l r h =
-        let z : p ≡ i + 1 + size l = at ∙ (q .end .end (i + 1) (omega arith) (omega (arith, q .inside)) ∙ end-stands s l (i + 1) (first l (stands-left o l r h))) in
+        let z : p ≡ i + 1 + size l = at ∙ end-there (i + 1) l (first l (stands-left o l r h)) (q .end) in
         (z, stands-right o l r (16 * p) (omega (arith, length-encode l)) h)
 
     pub second-standing : Standing s ends p × (i < p)

@@ -4,6 +4,7 @@ use records::limits;
 use records::wide16;
 ghost use mathlib.Core.Path.{_≡_};
 ghost use Prim.Native.Nat.{_*_, _/_, max};
+ghost use lib.Dec.{ltb};
 ghost use lib.ListN.{length};
 ghost use Rattle.cows.specs.Terms.{Term, depth};
 ghost use Rattle.records.specs.Answers.{placeOr};
@@ -31,6 +32,17 @@ pub fn depth_at(s: &[u8], ends: &[u16], i: usize) -> usize
     }
     let second = depth_at(s, ends, wide16(ends[i + 1]));
     1 + larger(first, second)
+}
+
+// Whether the term at place i is deeper than `room`. A term is no deeper than it has records, so the depth of a short one is not looked for.
+pub fn deeper(s: &[u8], ends: &[u16], i: usize, room: usize) -> bool
+    requires { ⌜ Standing (now s) (now ends) i ⌝ }
+    ensures { λ r. ⌜ ((t : Term) → StandsIn (now (s .entry)) (16 * i) t → r ≡ ltb room (depth t)) ⌝ }
+{
+    if wide16(ends[i]) - i <= room {
+        return false;
+    }
+    room < depth_at(s, ends, i)
 }
 
 // The first record that is too deep in the term at place i, whose own record has the depth d; the number of records if there is none.

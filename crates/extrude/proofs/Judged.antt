@@ -1,7 +1,7 @@
 -- Extrude (specs/Moves, extrudeAt) as it is judged and written.
 use mathlib.Core.Path.{_≡_, refl, sym, ap, subst, _∙_}
 use mathlib.Core.Logic.{_≢_}
-use mathlib.Core.Bool.{true, false, not, _||_}
+use mathlib.Core.Bool.{Bool, true, false, not, _||_}
 use mathlib.Core.Option.{some}
 use mathlib.Core.List.{List, [], _∷_, _++_, append-assoc}
 use Prim.Native.Nat.{ℕ, suc, _+_, _*_, _-_, _/_, _≤_, _<_, max}
@@ -9,7 +9,7 @@ use native.Mathlib.Omega.{arith}
 use lib.Dec.{ltb, eqb}
 use lib.Seq.{take-at, drop-at, drop-drop, take-append-le, drop-append-le}
 use lib.ListN.{length, getD, take, drop, length-append, length-drop, drop-of-length-le}
-use borrow.Author.Tests.{eq-eqb, ne-eqb, eqb-true, eqb-false, not-false, lt-ltb, le-ltb}
+use borrow.Author.Tests.{eq-eqb, ne-eqb, eqb-true, eqb-false, not-false, ltb-true, ltb-false, lt-ltb, le-ltb}
 use Rattle.cows.specs.Basics.{placeIf, refuse, accept, _>>=_, _>>_, forbid}
 use Rattle.cows.specs.Terms.{Prefix, receive, wait, protection, delimitation, replication, choice, parallel, Term, under, size, depth, prefixed, delimits, atom, label, below}
 use Rattle.cows.specs.Kinds.{prefix, root, kindOf, floatsOver, open-kinds}
@@ -199,18 +199,19 @@ module _ (s ends : List ℕ) (a p k : ℕ) (t : Term) (d : ℕ) (h : Lifting s e
   pub beside-standing : getD s (16 * p) 0 ≡ 6 → Standing s ends q
   beside-standing e = standing (sub t q) (holds-stands s t q (h .table .holds) (sibling e .placed)) (h .table .end)
 
-  module _ (e : getD s (16 * p) 0 ≡ 6) (b : ℕ) (g : (u : Term) → StandsIn s (16 * q) u → b ≡ depth u) where
-    beside-depth : b ≡ depth (sibling e .other)
-    beside-depth = g (sub t q) (holds-stands s t q (h .table .holds) (sibling e .placed)) ∙ ap depth (sibling e .stands)
+  -- b is whether it is then too deep, below k records and its own parallel
+  module _ (e : getD s (16 * p) 0 ≡ 6) (b : Bool) (g : (u : Term) → StandsIn s (16 * q) u → b ≡ ltb (255 - k) (depth u)) where
+    beside-deep : b ≡ ltb (255 - k) (depth (sibling e .other))
+    beside-deep = g (sub t q) (holds-stands s t q (h .table .holds) (sibling e .placed)) ∙ ap (λ u. ltb (255 - k) (depth u)) (sibling e .stands)
 
     fits : floatsOver (getD s (16 * p) 0) ≡ true
     fits = rw e (unfold open-kinds in refl)
 
-    pub lift-beside : k + b < 256 → resultOf (Allowed (length s / 16)) ≡ limited (liftAt d t a)
-    lift-beside l = lift-allowed fits (shallow-enough (omega (arith, beside-depth, sibling e .deep body, sibling e .deep (sub t a), old-shallow, depth-here)))
+    pub lift-beside : b ≡ false → resultOf (Allowed (length s / 16)) ≡ limited (liftAt d t a)
+    lift-beside l = lift-allowed fits (shallow-enough (omega (arith, ltb-false (255 - k) _ (sym beside-deep ∙ l), sibling e .deep body, sibling e .deep (sub t a), old-shallow, depth-here)))
 
-    pub lift-deep : 256 ≤ k + b → resultOf Large ≡ limited (liftAt d t a)
-    lift-deep l = lift-large fits (too-deep (omega (arith, beside-depth, sibling e .deep body)))
+    pub lift-deep : b ≡ true → resultOf Large ≡ limited (liftAt d t a)
+    lift-deep l = lift-large fits (too-deep (omega (arith, ltb-true (255 - k) _ (sym beside-deep ∙ l), sibling e .deep body)))
 
 -- Which of the three sets an atom is of, by its class.
 pub class-label : (d : ℕ) → atom d ≡ true → isLabel (classOf d) ≡ label d

@@ -1,5 +1,5 @@
 // Extrude (floating): a live delimitation of a value or a variable changes places with the record above it, a parallel, a protection or a delimitation.
-use depths::depth_at;
+use depths::deeper;
 use plans::Judgement;
 use plans::Plan;
 use plans::refused;
@@ -63,7 +63,8 @@ fn judge_above(s: &[u8], ends: &[u16], a: usize, p: usize, k: usize) -> Judgemen
     if kind != kinds::PARALLEL {
         return Judgement::Allowed(n);
     }
-    if limits::MAX_DEPTH <= k + depth_at(s, ends, beside(p, a, wide16(ends[a]))) {
+    let room = limits::MAX_DEPTH - 1 - k;
+    if deeper(s, ends, beside(p, a, wide16(ends[a])), room) {
         return Judgement::Large;
     }
     Judgement::Allowed(n)

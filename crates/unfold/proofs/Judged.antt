@@ -1,6 +1,6 @@
 -- Unfold (specs/Moves, unfoldAt) as it is judged and written.
 use mathlib.Core.Path.{_≡_, refl, sym, ap, _∙_}
-use mathlib.Core.Bool.{true, false, _||_}
+use mathlib.Core.Bool.{Bool, true, false, _||_}
 use mathlib.Core.Option.{some}
 use mathlib.Core.List.{List, _++_, append-assoc}
 use Prim.Native.Nat.{ℕ, suc, _+_, _*_, _-_, _/_, _≤_, _<_}
@@ -138,33 +138,33 @@ module _ (s : List ℕ) (t : Term) (a : ℕ) (h : LiveAt s t a 9) where
       rw (live-wanted (prefixed replicates) t a tt (under replication (below (sub t a))) refl
       (record { at = record { placed = h .inside; stands = replication-at }; live = h .live }))
 
-  -- the replication ends at place `end`, and its depth is b
-  module _ (ends : List ℕ) (z : Table s ends t) (end b k : ℕ) (e : end ≡ getD ends a 0) (c : k ≡ length (wayTo t a)) (f : ((u : Term) → StandsIn s (16 * a) u → b ≡ depth u)) where
+  -- the replication ends at place `end`, and b is whether it is too deep below k records and the parallel
+  module _ (ends : List ℕ) (z : Table s ends t) (end k : ℕ) (b : Bool) (e : end ≡ getD ends a 0) (c : k ≡ length (wayTo t a)) (f : ((u : Term) → StandsIn s (16 * a) u → b ≡ ltb (255 - k) (depth u))) where
     abbrev n : ℕ
     n = length s / 16 + (end - a)
-
-    abbrev d : ℕ
-    d = k + 1 + b
 
     size-is : n ≡ size (afterUnfold t a)
     size-is = omega (arith, table-size s ends t z, table-ended s ends t z a (h .inside), unfold-size t a (h .inside) replication-at)
 
-    depth-is : d ≡ length (wayTo t a) + 1 + depth (sub t a)
-    depth-is = omega (arith, f (sub t a) (holds-stands s t a (h .holds) (h .inside)))
+    short : k < 256
+    short = omega (arith, way-short t a (z .within .shallow))
 
-    pub unfold-allowed : (r : Plan) → (ltb 2048 n || ltb 256 d) ≡ false → r .judgement ≡ Allowed n → r .from ≡ a → Planned (unfoldAt t a) a r
+    deep-is : b ≡ ltb (255 - k) (depth (sub t a))
+    deep-is = f (sub t a) (holds-stands s t a (h .holds) (h .inside))
+
+    pub unfold-allowed : (r : Plan) → (ltb 2048 n || b) ≡ false → r .judgement ≡ Allowed n → r .from ≡ a → Planned (unfoldAt t a) a r
     unfold-allowed r o j p =
-        let (x, y) = or-false (ltb 2048 n) (ltb 256 d) o in
+        let (x, y) = or-false (ltb 2048 n) b o in
         let small : size (afterUnfold t a) ≤ 2048 = omega (arith, size-is, ltb-false 2048 n x) in
-        let shallow = unfold-shallow t a (h .inside) replication-at (z .within) (omega (arith, depth-is, ltb-false 256 d y)) in
+        let shallow = unfold-shallow t a (h .inside) replication-at (z .within) (omega (arith, short, ltb-false (255 - k) _ (sym deep-is ∙ y))) in
         planned-allowed r (afterUnfold t a) n j unfolds (within-limits (afterUnfold t a) small shallow) size-is p
 
-    pub unfold-large : (r : Plan) → (ltb 2048 n || ltb 256 d) ≡ true → r .judgement ≡ Large → r .from ≡ a → Planned (unfoldAt t a) a r
+    pub unfold-large : (r : Plan) → (ltb 2048 n || b) ≡ true → r .judgement ≡ Large → r .from ≡ a → Planned (unfoldAt t a) a r
     unfolding overLimits
     unfold-large r o j p =
         planned-large r (afterUnfold t a) j unfolds
         (or-both {a = ltb 2048 n} (λ x. lt-ltb 2048 (size (afterUnfold t a)) (omega (arith, size-is, ltb-true 2048 n x)))
-        (λ y. lt-ltb 256 (depth (afterUnfold t a)) (unfold-deep t a (h .inside) replication-at (omega (arith, depth-is, ltb-true 256 d y)))) o) p
+        (λ y. lt-ltb 256 (depth (afterUnfold t a)) (unfold-deep t a (h .inside) replication-at (omega (arith, short, ltb-true (255 - k) _ (sym deep-is ∙ y))))) o) p
 
 -- what an allowed move had
 pub allowed-replication : (t : Term) (a : ℕ) (r : Term) → unfoldAt t a ≡ accept r → (a < size t) × (sub t a ≡ under replication (below (sub t a))) × (r ≡ afterUnfold t a)

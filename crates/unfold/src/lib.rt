@@ -1,5 +1,5 @@
 // Unfold (unfolding): a live replication becomes a parallel of a copy of its body, whose delimited atoms are new ones, and itself.
-use depths::depth_at;
+use depths::deeper;
 use plans::Judgement;
 use plans::Plan;
 use plans::refused;
@@ -19,7 +19,7 @@ ghost use Rattle.records.specs.Rewrites.{put};
 ghost use Rattle.ways.specs.Known.{Table, Known};
 ghost use Rattle.plans.specs.Plans.{Planned, Asks, Gives};
 
-// The move on the replication at place a, which is the place of its plan. The records on the way to it and the parallel stand above it.
+// The move on the replication at place a, which is the place of its plan. The records on the way to it and the parallel then stand above it.
 pub fn judge(s: &[u8], ends: &[u16], a: usize) -> Plan
     requires { ⌜ Known (now s) (now ends) ⌝ }
     ensures { λ r. ⌜ ((t : Term) → Table (now (s .entry)) (now (ends .entry)) t → Planned (unfoldAt t a) a r) ⌝ }
@@ -29,8 +29,8 @@ pub fn judge(s: &[u8], ends: &[u16], a: usize) -> Plan
         return refused(Judgement::Absent(a));
     }
     let size = s.len() / 16 + (wide16(ends[a]) - a);
-    let depth = place.above + 1 + depth_at(s, ends, a);
-    if (limits::MAX_RECORDS < size) | (limits::MAX_DEPTH < depth) {
+    let room = limits::MAX_DEPTH - 1 - place.above;
+    if (limits::MAX_RECORDS < size) | deeper(s, ends, a, room) {
         return Plan {
             judgement: Judgement::Large,
             from: a,

@@ -1,7 +1,6 @@
 use borrow.Author.Needs.{needs}
 use mathlib.Core.Path.{refl, ap}
 use native.Mathlib.Omega.{arith}
-use Rattle.depths.proofs.Deep.{depth-few}
 use Rattle.ways.proofs.KnownTables.{none-live, found-live, found-inside, found-above}
 use Rattle.plans.specs.Plans.{resultOf}
 use Rattle.plans.proofs.Planning.{planned-refused}
@@ -20,15 +19,14 @@ judge-spec =
     (λ c κs. search needs)
     (λ c. let l = c .before .before in let q = l .before .before .before .before .before .pre in let j = judges _ _ _ q (found-inside (l .before .before .place-at .ensures) q (l .if1 .left)) in omega (arith, c .wide16 .ensures))
     (λ c. let l = c .before .before in let q = l .before .before .before .before .before .pre in let j = judges _ _ _ q (found-inside (l .before .before .place-at .ensures) q (l .if1 .left)) in omega (arith, c .wide16 .ensures))
+    (λ c. search needs)
     (λ c. let l = c .before .before .before in let q = l .before .before .before .before .before .pre in let j = judges _ _ _ q (found-inside (l .before .before .place-at .ensures) q (l .if1 .left)) in omega (arith, found-above (l .before .before .place-at .ensures) (q .table) (l .if1 .left)))
     (λ c κs. let l = c .before .before .before in let q = l .before .before .before .before .before .pre in let j = judges _ _ _ q (found-inside (l .before .before .place-at .ensures) q (l .if1 .left)) in j .standing)
-    (λ c. let l = c .before .before .before .before in let q = l .before .before .before .before .before .pre in let j = judges _ _ _ q (found-inside (l .before .before .place-at .ensures) q (l .if1 .left)) in
-    omega (arith, found-above (l .before .before .place-at .ensures) (q .table) (l .if1 .left), depth-few (j .standing) _ (c .depth-at .ensures)))
     (λ c t h.
     let l = c .before .before .before .before .before in
     let f = l .before .before .place-at .ensures in
-    unfold-large _ t _ (found-live f h (l .if1 .left)) _ h _ _ _ (c .before .before .before .wide16 .ensures .0) (found-above f h (l .if1 .left)) (c .before .depth-at .ensures) _ (c .if2 .taken) refl refl)
+    unfold-large _ t _ (found-live f h (l .if1 .left)) _ h _ _ _ (c .before .before .before .wide16 .ensures .0) (found-above f h (l .if1 .left)) (c .before .deeper .ensures) _ (c .if2 .taken) refl refl)
     (λ c t h.
     let l = c .before .before .before .before .before in
     let f = l .before .before .place-at .ensures in
-    unfold-allowed _ t _ (found-live f h (l .if1 .left)) _ h _ _ _ (c .before .before .before .wide16 .ensures .0) (found-above f h (l .if1 .left)) (c .before .depth-at .ensures) _ (c .if2 .left) refl refl))
+    unfold-allowed _ t _ (found-live f h (l .if1 .left)) _ h _ _ _ (c .before .before .before .wide16 .ensures .0) (found-above f h (l .if1 .left)) (c .before .deeper .ensures) _ (c .if2 .left) refl refl))
