@@ -1,4 +1,5 @@
 pub mod HeldBack
+pub mod Bits
 pub mod Marking
 pub mod Conflicting
 pub mod Labelled

@@ -7,8 +7,7 @@ use mathlib.Core.Option.{none, some}
 use Prim.Native.Nat.{ℕ, _+_, _*_, _-_, _/_, _≤_, _<_}
 use native.Mathlib.Omega.{arith}
 use lib.Dec.{ltb, eqb}
-use lib.ListN.{length, getD, set}
-use lib.Seq.{getD-set-same, getD-set-other}
+use lib.ListN.{length, getD}
 use borrow.Author.Tests.{eqb-true, eqb-false, eq-eqb}
 use Rattle.cows.specs.Basics.{foundWith, found}
 use Rattle.cows.specs.Terms.{nil, kill, invoke, receive, wait, protection, delimitation, replication, Term, leaf, under, both, size, label, kills, prefixed, delimits}
@@ -24,7 +23,7 @@ use Rattle.cows.proofs.Stands.{fails-first}
 use Rattle.records.specs.Holds.{Holds}
 use Rattle.records.proofs.StandsIn.{holds-kind, holds-word}
 use Rattle.ways.specs.Known.{Table}
-use Rattle.holding.specs.Holding.{Unmarked, KillsMarked, Parties, Sides}
+use Rattle.holding.specs.Holding.{markOf, Marks, Unmarked, KillsMarked, Parties, Sides}
 use Rattle.ways.proofs.KnownTables.{table-size, table-ended, table-inside}
 use Rattle.ways.proofs.Seeking.{Seeking, seeking-start, seeking-end, seeking-over}
 use Rattle.holding.proofs.HeldBack.{is-kill, kill-label, kills-labelled, held-none, held-delimitation}
@@ -60,8 +59,8 @@ killing k s = foundWith (eqb k) (kills s)
 -- The walk is at place i. Of a label that is not marked no ready kill stands before it; of one that is marked there is a ready kill.
 pub record Marking (marks : List ℕ) (t : Term) (i : ℕ) : Type 0 where
   pub walk : Seeking readyKind (λ s. false) t i
-  pub ahead : (k : ℕ) → label k ≡ true → getD marks (k - 49152) 0 ≡ 0 → Seeking readyKind (killing k) t i
-  pub marked : (k : ℕ) → label k ≡ true → getD marks (k - 49152) 0 ≢ 0 → found (first (readyKill k) t) ≡ true
+  pub ahead : (k : ℕ) → label k ≡ true → markOf marks (k - 49152) ≡ 0 → Seeking readyKind (killing k) t i
+  pub marked : (k : ℕ) → label k ≡ true → markOf marks (k - 49152) ≢ 0 → found (first (readyKill k) t) ≡ true
 
 module _ (marks : List ℕ) (t : Term) where
   pub marking-start : Unmarked marks → Marking marks t 0
@@ -74,7 +73,7 @@ module _ (marks : List ℕ) (t : Term) where
   pub marking-end : (i : ℕ) → Marking marks t i → size t ≤ i → KillsMarked marks t
   unfolding readyKill ready
   marking-end i h l k e =
-      bool-case (not (eqb (getD marks (k - 49152) 0) 0) ≡ found (first (readyKill k) t)) (eqb (getD marks (k - 49152) 0) 0)
+      bool-case (not (eqb (markOf marks (k - 49152)) 0) ≡ found (first (readyKill k) t)) (eqb (markOf marks (k - 49152)) 0)
       (λ z. rw z (sym (none-found _ (seeking-end _ _ t i (h .ahead k e (eqb-true _ _ z)) l))))
       (λ z. rw z (sym (h .marked k e (λ y. clash (eq-eqb _ _ y) z))))
 
@@ -99,24 +98,21 @@ module _ (s ends : List ℕ) (t : Term) (h : Table s ends t) (i : ℕ) (l : i < 
     pub kill-range : (49152 ≤ w) × (w < 65536)
     kill-range = label-range w (kill-label t (h .within .right) w i here)
 
-    module _ (marks : List ℕ) (room : length marks ≡ 16384) where
-      same-mark : getD (set marks (w - 49152) 1) (w - 49152) 0 ≡ 1
-      same-mark = getD-set-same marks (w - 49152) 1 0 (omega (arith, kill-range))
-
-      other-mark : (k : ℕ) → label k ≡ true → eqb k w ≡ false → getD (set marks (w - 49152) 1) (k - 49152) 0 ≡ getD marks (k - 49152) 0
-      other-mark k p n = getD-set-other marks (w - 49152) (k - 49152) 1 0 (λ z. clash (eq-eqb k w (omega (arith, label-range k p, kill-range))) n)
+    module _ (marks marks′ : List ℕ) (set : Marks marks (w - 49152) marks′) where
+      other-mark : (k : ℕ) → label k ≡ true → eqb k w ≡ false → markOf marks′ (k - 49152) ≡ markOf marks (k - 49152)
+      other-mark k p n = set .others (k - 49152) (λ z. clash (eq-eqb k w (omega (arith, label-range k p, kill-range))) n)
 
       past-kill : (test : Term → Bool) → Seeking readyKind test t i → test (sub t i) ≡ false → Seeking readyKind test t (i + 1)
       unfolding size open-kinds
       past-kill test k miss = subst (Seeking readyKind test t) (ap (λ r. i + size r) here) (seeking-over readyKind test t i k placed miss (ap (λ r. readyKind (kindOf r)) here))
 
-      pub marking-kill : Marking marks t i → Marking (set marks (w - 49152) 1) t (i + 1)
+      pub marking-kill : Marking marks t i → Marking marks′ t (i + 1)
       unfolding foundWith kills ready
       marking-kill m =
           record {
             walk = past-kill _ (m .walk) refl;
             ahead = λ k q z. bool-case (Seeking readyKind (killing k) t (i + 1)) (eqb k w)
-                (λ y. absurd (omega (arith, same-mark, ap (λ d. getD (set marks (w - 49152) 1) (d - 49152) 0) (eqb-true k w y))))
+                (λ y. absurd (omega (arith, set .here, ap (λ d. markOf marks′ (d - 49152)) (eqb-true k w y))))
                 (λ n. past-kill _ (m .ahead k q (sym (other-mark k q n) ∙ z)) (ap (killing k) here ∙ n));
             marked = λ k q z. bool-case (found (first (readyKill k) t) ≡ true) (eqb k w)
                 (λ y. is-kill k t i placed (m .walk .active placed) (here ∙ ap (λ d. leaf (kill d)) (sym (eqb-true k w y))))
@@ -157,13 +153,13 @@ module _ (s ends marks : List ℕ) (a b : ℕ) (d : Sides s ends marks a b) (n :
     held-no-label u = held-not (not-so (λ f. let r = label-range k (kills-labelled t (h .table .within .right) k f) in omega arith))
 
     module _ (u : 49152 ≤ k) (v : k < 65536) where
-      mark-is : not (eqb (getD marks (k - 49152) 0) 0) ≡ found (first (readyKill k) t)
+      mark-is : not (eqb (markOf marks (k - 49152)) 0) ≡ found (first (readyKill k) t)
       mark-is = h .marked k (in-labels k u v .2)
 
-      pub held-unmarked : not (eqb (getD marks (k - 49152) 0) 0) ≡ false → heldBack a b n (spotAt t n) ≡ false
+      pub held-unmarked : not (eqb (markOf marks (k - 49152)) 0) ≡ false → heldBack a b n (spotAt t n) ≡ false
       held-unmarked z = held-not (sym mark-is ∙ z)
 
-      pub held-marked : not (eqb (getD marks (k - 49152) 0) 0) ≡ true → (end : ℕ) → end ≡ getD ends n 0 → ((ltb n a && ltb a end) || (ltb n b && ltb b end)) ≡ heldBack a b n (spotAt t n)
+      pub held-marked : not (eqb (markOf marks (k - 49152)) 0) ≡ true → (end : ℕ) → end ≡ getD ends n 0 → ((ltb n a && ltb a end) || (ltb n b && ltb b end)) ≡ heldBack a b n (spotAt t n)
       unfolding encloses
       held-marked z end q =
           rw (held-is, sym mark-is ∙ z, q, table-ended s ends t (h .table) n known) (and-one _)

@@ -1,8 +1,9 @@
 -- Holding back (refusal 14): the labels of which a ready kill stands in a term, and those around a place. Conflicts (15): the other receives on an endpoint.
 use mathlib.Core.Path.{_≡_}
+use mathlib.Core.Logic.{_≢_}
 use mathlib.Core.Bool.{Bool, true, false, not, _&&_}
 use mathlib.Core.List.{List}
-use Prim.Native.Nat.{ℕ, _+_, _*_, _-_, _/_, _<_}
+use Prim.Native.Nat.{ℕ, _+_, _*_, _-_, _/_, _%_, _^_, _<_}
 use lib.Dec.{eqb}
 use lib.ListN.{length, getD}
 use Rattle.cows.specs.Limits.{firstLabel}
@@ -14,13 +15,22 @@ use Rattle.cows.specs.Active.{live}
 use Rattle.cows.specs.Moves.{readyKill}
 use Rattle.ways.specs.Known.{Table, Known}
 
+-- the mark of the label that is number i of the labels: one bit of a word of 64
+unfoldable pub markOf : List ℕ → ℕ → ℕ
+markOf marks i = getD marks (i / 64) 0 / 2 ^ (i % 64) % 2
+
+-- label number i is marked, and the other marks are as they were
+pub record Marks (before : List ℕ) (i : ℕ) (after : List ℕ) : Type 0 where
+  pub here : markOf after i ≡ 1
+  pub others : (j : ℕ) → j ≢ i → markOf after j ≡ markOf before j
+
 -- no label is marked
 abbrev pub Unmarked : List ℕ → Type 0
-Unmarked marks = (i : ℕ) → getD marks i 0 ≡ 0
+Unmarked marks = (i : ℕ) → markOf marks i ≡ 0
 
 -- exactly the labels are marked of which a ready kill stands in the term
 abbrev pub KillsMarked : List ℕ → Term → Type 0
-KillsMarked marks t = (k : ℕ) → label k ≡ true → not (eqb (getD marks (k - firstLabel) 0) 0) ≡ found (first (readyKill k) t)
+KillsMarked marks t = (k : ℕ) → label k ≡ true → not (eqb (markOf marks (k - firstLabel)) 0) ≡ found (first (readyKill k) t)
 
 -- Places a and b are live, and the ready kills of the table are marked.
 pub record Parties (s ends marks : List ℕ) (a b : ℕ) (t : Term) : Type 0 where
@@ -34,7 +44,7 @@ pub record Sides (s ends marks : List ℕ) (a b : ℕ) : Type 0 where
   pub known : Known s ends
   pub left : a < length s / 16
   pub right : b < length s / 16
-  pub room : length marks ≡ 16384
+  pub room : length marks ≡ 256
 
 -- no delimitation of a label encloses place a
 abbrev pub Unlabelled : Term → ℕ → Type 0

@@ -16,7 +16,7 @@ ghost use mathlib.Core.Bool.{true, false, not};
 ghost use mathlib.Core.List.{List};
 ghost use Prim.Native.Nat.{ℕ, _-_, _/_, _<_, _≤_};
 ghost use lib.Dec.{eqb};
-ghost use lib.ListN.{length, getD, set};
+ghost use lib.ListN.{length};
 ghost use Rattle.cows.specs.Limits.{firstLabel};
 ghost use Rattle.cows.specs.Terms.{Term};
 ghost use Rattle.cows.specs.Kinds.{readyKind};
@@ -25,7 +25,7 @@ ghost use Rattle.cows.specs.Active.{live};
 ghost use Rattle.cows.specs.Moves.{heldBack};
 ghost use Rattle.records.specs.Answers.{foundOf};
 ghost use Rattle.ways.specs.Known.{Table, Known};
-ghost use Rattle.holding.specs.Holding.{Unmarked, KillsMarked, Parties, Sides};
+ghost use Rattle.holding.specs.Holding.{markOf, Marks, Unmarked, KillsMarked, Parties, Sides};
 
 // Whether the way to a ready record may pass a record of this kind.
 pub fn ready_kind(kind: u8) -> bool
@@ -34,25 +34,27 @@ pub fn ready_kind(kind: u8) -> bool
     (kinds::CHOICE <= kind) & (kind <= kinds::REPLICATION)
 }
 
-// Marks the label k.
-fn mark(k: Label, marks: &mut [u8])
-    requires { ⌜ (firstLabel ≤ k .0) × (length (now marks) ≡ 16384) ⌝ }
-    ensures { λ _. ⌜ now (marks .exit) ≡ set (now (marks .entry)) (k .0 - firstLabel) 1 ⌝ }
+// Marks the label k. There is one bit for each label.
+fn mark(k: Label, marks: &mut [u64])
+    requires { ⌜ (firstLabel ≤ k .0) × (length (now marks) ≡ 256) ⌝ }
+    ensures { λ _. ⌜ Marks (now (marks .entry)) (k .0 - firstLabel) (now (marks .exit)) ⌝ }
 {
-    marks[label_index(k)] = 1;
+    let i = label_index(k);
+    marks[i / 64] |= 1 << (i % 64);
 }
 
 // Whether the label k is marked.
-fn marked(k: Label, marks: &[u8]) -> bool
-    requires { ⌜ (firstLabel ≤ k .0) × (length (now marks) ≡ 16384) ⌝ }
-    ensures { λ r. ⌜ r ≡ not (eqb (getD (now (marks .entry)) (k .0 - firstLabel) 0) 0) ⌝ }
+fn marked(k: Label, marks: &[u64]) -> bool
+    requires { ⌜ (firstLabel ≤ k .0) × (length (now marks) ≡ 256) ⌝ }
+    ensures { λ r. ⌜ r ≡ not (eqb (markOf (now (marks .entry)) (k .0 - firstLabel)) 0) ⌝ }
 {
-    marks[label_index(k)] != 0
+    let i = label_index(k);
+    (marks[i / 64] >> (i % 64)) % 2 != 0
 }
 
 // Marks the label of each ready kill, in one walk over the ready records.
-fn mark_kills(s: &[u8], ends: &[u16], marks: &mut [u8])
-    requires { ⌜ Known (now s) (now ends) × (length (now marks) ≡ 16384) ⌝ }
+fn mark_kills(s: &[u8], ends: &[u16], marks: &mut [u64])
+    requires { ⌜ Known (now s) (now ends) × (length (now marks) ≡ 256) ⌝ }
     ensures { λ _. ⌜ ((t : Term) → Table (now (s .entry)) (now (ends .entry)) t → Unmarked (now (marks .entry)) → KillsMarked (now (marks .exit)) t) ⌝ }
 {
     let n = s.len() / 16;
@@ -98,7 +100,7 @@ fn any_kill(s: &[u8], ends: &[u16]) -> bool
 }
 
 // Whether the record at place n delimits a marked label and encloses place a or place b.
-fn held(s: &[u8], ends: &[u16], a: usize, b: usize, marks: &[u8], n: usize) -> bool
+fn held(s: &[u8], ends: &[u16], a: usize, b: usize, marks: &[u64], n: usize) -> bool
     requires { ⌜ Sides (now s) (now ends) (now marks) a b × (n < length (now s) / 16) ⌝ }
     ensures { λ r. ⌜ ((t : Term) → Parties (now (s .entry)) (now (ends .entry)) (now (marks .entry)) a b t → r ≡ heldBack a b n (spotAt t n)) ⌝ }
 {
@@ -117,7 +119,7 @@ fn held(s: &[u8], ends: &[u16], a: usize, b: usize, marks: &[u8], n: usize) -> b
 }
 
 // The first place that the marks hold back.
-fn first_marked(s: &[u8], ends: &[u16], a: usize, b: usize, marks: &[u8]) -> Found
+fn first_marked(s: &[u8], ends: &[u16], a: usize, b: usize, marks: &[u64]) -> Found
     requires { ⌜ Sides (now s) (now ends) (now marks) a b ⌝ }
     ensures { λ r. ⌜ ((t : Term) → Parties (now (s .entry)) (now (ends .entry)) (now (marks .entry)) a b t → r ≡ foundOf (first (heldBack a b) t)) ⌝ }
 {
@@ -143,7 +145,7 @@ pub fn first_held(s: &[u8], ends: &[u16], a: usize, b: usize) -> Found
     if !any_kill(s, ends) {
         return Found::Nothing;
     }
-    let mut marks = [0u8; 16384];
+    let mut marks = [0u64; 256];
     mark_kills(s, ends, &mut marks);
     first_marked(s, ends, a, b, &marks)
 }

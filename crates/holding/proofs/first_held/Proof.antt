@@ -3,10 +3,11 @@ use mathlib.Core.Path.{sym, ap}
 use Prim.Native.Nat.{ℕ}
 use lib.ListN.{replicate, length-replicate}
 use borrow.Author.Tests.{not-true}
-use Rattle.cows.proofs.Basics.{or-false, getD-zeros}
+use Rattle.cows.proofs.Basics.{or-false}
 use Rattle.records.specs.Answers.{foundOf}
 use Rattle.ways.proofs.KnownTables.{table-inside}
 use Rattle.holding.specs.Holding.{Sides}
+use Rattle.holding.proofs.Bits.{zeros-unmarked}
 use Rattle.holding.proofs.Labelled.{unlabelled-held}
 use Rattle.holding.proofs.Marking.{none-held}
 use Rattle.holding.proofs.first_held.Statement.{statement}
@@ -25,8 +26,8 @@ first-held-spec =
     (λ c κs. search needs)
     (λ c t h va vb.
     let z = c .before .before .before .before .before .before .before in
-    let sides : Sides _ _ (replicate 16384 0) _ _ = record { known = z .pre .0; left = z .pre .1; right = z .pre .2; room = length-replicate {A = ℕ} 16384 0 } in
-    let clear = getD-zeros 16384 in
-    ap foundOf (sym (none-held _ _ _ _ _ sides t (record { table = h; left = va; right = vb; marked = c .before .any-kill .ensures (not-true _ (c .if2 .taken)) t (replicate 16384 0) h clear }) clear)))
+    let sides : Sides _ _ (replicate 256 0) _ _ = record { known = z .pre .0; left = z .pre .1; right = z .pre .2; room = length-replicate {A = ℕ} 256 0 } in
+    let clear = zeros-unmarked 256 in
+    ap foundOf (sym (none-held _ _ _ _ _ sides t (record { table = h; left = va; right = vb; marked = c .before .any-kill .ensures (not-true _ (c .if2 .taken)) t (replicate 256 0) h clear }) clear)))
     (λ c. search needs) (λ c κs. search needs) (λ c. search needs) (λ c κs. search needs)
-    (λ c t h va vb. c .first-marked .ensures t (record { table = h; left = va; right = vb; marked = c .before .before .before .mark-kills .ensures t h (getD-zeros 16384) })))
+    (λ c t h va vb. c .first-marked .ensures t (record { table = h; left = va; right = vb; marked = c .before .before .before .mark-kills .ensures t h (zeros-unmarked 256) })))

@@ -16,7 +16,7 @@ use Rattle.holding.proofs.mark_kills.Statement.{statement}
 use Rattle.holding.proofs.mark_kills.Tie as tie
 
 abbrev Inv-loop : tie.InvT-loop
-Inv-loop s ends marks₀ n i₀ marks i = (i ≤ n) × (length marks ≡ 16384) × ((t : Term) → Table s ends t → Unmarked marks₀ → Marking marks t i)
+Inv-loop s ends marks₀ n i₀ marks i = (i ≤ n) × (length marks ≡ 256) × ((t : Term) → Table s ends t → Unmarked marks₀ → Marking marks t i)
 
 abbrev μ-loop : tie.MeasureT-loop
 μ-loop s ends marks₀ n i₀ marks i = n - i
@@ -47,7 +47,7 @@ mark-kills-spec =
     let k = is-label _ _ (sym (a .atom-at .ensures) ∙ i .atom .given .1) in (
       omega arith,
       search needs,
-      λ t h b. rw (c .before .before .mark .ensures) (marking-kill _ _ t h (o .loop .i) (omega arith) (a .before .if1 .taken) _ (k .0) _ (o .loop .inv .1) (o .loop .inv .2 t h b)),
+      λ t h b. marking-kill _ _ t h (o .loop .i) (omega arith) (a .before .if1 .taken) _ (k .0) _ _ (c .before .before .mark .ensures) (o .loop .inv .2 t h b),
     ))
     (λ c κs. search needs) (λ c. search needs) (λ c. omega arith)
     (λ c.
