@@ -1,4 +1,4 @@
-// Depths: how deep the term at a place is, and the first record that is too deep (refusal 4), each by recursion over the records.
+// Depths: whether the term at a place is too deep, and the first record that is (refusal 4), each by recursion over the records.
 use records::children;
 use records::limits;
 use records::wide16;
@@ -17,24 +17,7 @@ pub fn larger(a: usize, b: usize) -> usize
     if a < b { b } else { a }
 }
 
-// The depth of the term at place i, its own record's being 1.
-pub fn depth_at(s: &[u8], ends: &[u16], i: usize) -> usize
-    requires { ⌜ Standing (now s) (now ends) i ⌝ }
-    ensures { λ r. ⌜ ((t : Term) → StandsIn (now (s .entry)) (16 * i) t → r ≡ depth t) ⌝ }
-{
-    let c = children(s[16 * i]);
-    if c == 0 {
-        return 1;
-    }
-    let first = depth_at(s, ends, i + 1);
-    if c == 1 {
-        return 1 + first;
-    }
-    let second = depth_at(s, ends, wide16(ends[i + 1]));
-    1 + larger(first, second)
-}
-
-// Whether the term at place i is deeper than `room`. A term is no deeper than it has records, so the depth of a short one is not looked for.
+// Whether the term at place i is deeper than `room`. A term is no deeper than it has records, so a short one is not gone into.
 pub fn deeper(s: &[u8], ends: &[u16], i: usize, room: usize) -> bool
     requires { ⌜ Standing (now s) (now ends) i ⌝ }
     ensures { λ r. ⌜ ((t : Term) → StandsIn (now (s .entry)) (16 * i) t → r ≡ ltb room (depth t)) ⌝ }
@@ -42,7 +25,16 @@ pub fn deeper(s: &[u8], ends: &[u16], i: usize, room: usize) -> bool
     if wide16(ends[i]) - i <= room {
         return false;
     }
-    room < depth_at(s, ends, i)
+    if room == 0 {
+        return true;
+    }
+    if deeper(s, ends, i + 1, room - 1) {
+        return true;
+    }
+    if children(s[16 * i]) == 1 {
+        return false;
+    }
+    deeper(s, ends, wide16(ends[i + 1]), room - 1)
 }
 
 // The first record that is too deep in the term at place i, whose own record has the depth d; the number of records if there is none.
