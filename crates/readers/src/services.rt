@@ -29,25 +29,28 @@ pub fn service(s: &[u8], ends: &[u16], at: usize, end: usize) -> usize
     n
 }
 
-// The guard at a place, with the same answers: a choice of two guards, a nil, or a prefix with a service behind it. What is none of these is a fault.
+// The guard at a place, with the same answers: a choice of two guards, a nil, or a prefix with a service behind it. What is none of these is a fault. The second
+// guard of a choice is read in the same call.
 fn guard(s: &[u8], ends: &[u16], at: usize) -> usize
     requires { ⌜ Readable (now s) (now ends) at ⌝ }
     ensures { λ r. ⌜ (r ≤ length (now (s .entry)) / 16) × ReadGuard (now (s .entry)) at (getD (now (ends .entry)) at 0) r ⌝ }
 {
     let n = s.len() / 16;
-    let k = s[16 * at];
-    if k == kinds::CHOICE {
-        let first = guard(s, ends, at + 1);
+    let mut g = at;
+    let mut k = s[16 * at];
+    while k == kinds::CHOICE {
+        let first = guard(s, ends, g + 1);
         if first != n {
             return first;
         }
-        return guard(s, ends, wide16(ends[at + 1]));
+        g = wide16(ends[g + 1]);
+        k = s[16 * g];
     }
     if k == kinds::NIL {
         return n;
     }
     if (k == kinds::RECEIVE) | (k == kinds::WAIT) {
-        return service(s, ends, at + 1, wide16(ends[at]));
+        return service(s, ends, g + 1, wide16(ends[g]));
     }
-    at
+    g
 }

@@ -1,8 +1,10 @@
--- The readers call each other with fewer records left; each branch is a law of proofs/Reading. The service reader's loop keeps what it has passed.
+-- The readers call each other with fewer records left; each branch is a law of proofs/Reading. The service reader's loop keeps what it has passed, the guard reader's
+-- what the guard that it stands at says of the first.
 use mathlib.Core.Path.{_≡_, refl, sym, _∙_}
-use Prim.Native.Nat.{ℕ, _+_, _*_, _-_, _/_, _<_}
+use Prim.Native.Nat.{ℕ, _+_, _*_, _-_, _/_, _≤_, _<_}
 use native.Mathlib.Omega.{arith}
-use lib.ListN.{length}
+use lib.ListN.{length, getD}
+use Rattle.readers.specs.Reads.{Readable, ReadGuard}
 use Rattle.readers.proofs.Reading.{choice-in, reads-left, reads-right, reads-below, guard-first, guard-second, guard-nil, guard-prefix, guard-fault}
 use Rattle.readers.proofs.Reading.{Going, going-first, going-all, inside-in, reads-choice, going-next, going-found, going-over}
 use borrow.Fn.Kinds.{In}
@@ -36,6 +38,12 @@ service-at t = and 2 service-kinds.ps (is 2 service-kinds.ps μ-service t) servi
 abbrev service-below : ℕ → In 2 service-kinds.ps
 service-below t = and 2 service-kinds.ps (falls 2 service-kinds.ps _<_ μ-service t) service.Pre
 
+abbrev guard-Inv-loop : guard-lts.InvT-loop
+guard-Inv-loop s ends at n g₀ k₀ g k = (at ≤ g) × (k ≡ getD s (16 * g) 0) × Readable s ends g × ((v : ℕ) → ReadGuard s g (getD ends g 0) v → ReadGuard s at (getD ends at 0) v)
+
+abbrev guard-μ-loop : guard-lts.MeasureT-loop
+guard-μ-loop s ends at n g₀ k₀ g k = n - g
+
 abbrev service-Inv-loop : service-lts.InvT-loop
 service-Inv-loop s ends at end n i₀ i = (n ≡ length s / 16) × Going s ends at end i
 
@@ -45,30 +53,40 @@ service-μ-loop s ends at end n i₀ i = end - i
 pub +guard+service-spec : {M : Type 1} → statement M
 +guard+service-spec =
     close μ-guard μ-service
-    (λ t. guard-lts.spec (guard-below t, guard.Post, wide16-reads.Asked, wide16-reads.Learnt, service-below t, service.Post) (guard-at t) guard.Post
+    (λ t. guard-lts.spec (guard-below t, guard.Post, wide16-reads.Asked, wide16-reads.Learnt, service-below t, service.Post) (guard-at t) guard.Post guard-Inv-loop guard-μ-loop
     (λ c. omega (arith, c .before .before .pre .1 .inside))
     (λ c. omega (arith, c .before .before .before .pre .1 .inside))
-    (λ c. omega (arith, c .before .before .before .before .pre .1 .inside))
-    (λ c κs. let r = c .before .before .before .before .pre .1 in (omega (arith, r .inside), reads-left r (c .if1 .taken)))
-    (λ c. let b = c .before .before in let x = c .before .guard .ensures in
-    (x .0, guard-first (b .before .before .before .before .pre .1) _ (b .if1 .taken) (x .1) (c .if2 .taken)))
-    (λ c. omega (arith, c .before .before .before .before .before .before .pre .1 .inside))
-    (λ c. omega (arith, c .before .before .before .before .before .before .pre .1 .inside))
-    (λ c. let r = c .before .before .before .before .before .before .before .pre .1 in omega (arith, r .inside, r .end .room))
+    (λ c. (omega arith, refl, c .before .before .before .pre .1, λ v x. x))
+    (λ c. omega (arith, c .before .loop .inv .2 .inside))
+    (λ c κs. let v = c .before .loop .inv in (omega (arith, v .0, v .2 .inside), reads-left (v .2) (sym (v .1) ∙ c .loop-test .taken)))
+    (λ c. let l = c .before .before in let v = l .before .loop .inv in let x = c .before .guard .ensures in
+    (x .0, v .3 _ (guard-first (v .2) _ (sym (v .1) ∙ l .loop-test .taken) (x .1) (c .if1 .taken))))
+    (λ c. omega (arith, c .before .before .before .loop .inv .2 .inside))
+    (λ c. omega (arith, c .before .before .before .loop .inv .2 .inside))
+    (λ c. let r = c .before .before .before .before .loop .inv .2 in omega (arith, r .inside, r .end .room))
     (λ c κs. tt)
-    (λ c κs. let b = c .before .before .before .before in let r = b .before .before .before .before .pre .1 in
-    (omega (arith, r .inside, choice-in r (b .if1 .taken) .between, c .wide16 .ensures .0), reads-right r _ (c .wide16 .ensures .0) (b .if1 .taken)))
-    (λ c. let b = c .before .before .before in let g = b .before in let x = c .guard2 .ensures in
-    (x .0, guard-second (g .before .before .before .before .before .pre .1) _ _ _ (c .before .wide16 .ensures .0) (g .before .if1 .taken) (g .guard .ensures .1) (b .if2 .left) (x .1)))
-    (λ c. (omega arith, guard-nil (c .before .before .before .before .before .pre .1) (c .if3 .taken)))
-    (λ c. omega (arith, c .before .before .before .before .before .before .pre .1 .inside))
-    (λ c. omega (arith, c .before .before .before .before .before .before .pre .1 .inside))
-    (λ c. let r = c .before .before .before .before .before .before .before .pre .1 in omega (arith, r .inside, r .end .room))
+    (λ c. let l = c .before .before .before .before in let v = l .before .loop .inv in omega (arith, reads-right (v .2) _ (c .wide16 .ensures .0) (sym (v .1) ∙ l .loop-test .taken) .inside))
+    (λ c. let w = c .before in let l = w .before .before .before .before in let v = l .before .loop .inv in
+    omega (arith, reads-right (v .2) _ (w .wide16 .ensures .0) (sym (v .1) ∙ l .loop-test .taken) .inside))
+    (λ c. let w = c .before in let l = w .before .before .before .before in let v = l .before .loop .inv in
+    omega (arith, v .2 .inside, choice-in (v .2) (sym (v .1) ∙ l .loop-test .taken) .between, w .wide16 .ensures .0))
+    (λ c. let w = c .before in let g = w .before .before .before in let l = g .before in let v = l .before .loop .inv in let e = sym (v .1) ∙ l .loop-test .taken in (
+      omega (arith, v .0, choice-in (v .2) e .between, w .wide16 .ensures .0),
+      refl,
+      reads-right (v .2) _ (w .wide16 .ensures .0) e,
+      λ u x. v .3 u (guard-second (v .2) _ _ u (w .wide16 .ensures .0) e (g .guard .ensures .1) (w .before .before .if1 .left) x),
+    ))
+    (λ c. let v = c .before .before .loop .inv in (omega arith, v .3 _ (guard-nil (v .2) (sym (v .1) ∙ c .if2 .taken))))
+    (λ c. omega (arith, c .before .before .before .loop .inv .2 .inside))
+    (λ c. omega (arith, c .before .before .before .loop .inv .2 .inside))
+    (λ c. let r = c .before .before .before .before .loop .inv .2 in omega (arith, r .inside, r .end .room))
     (λ c κs. tt)
-    (λ c κs. let r = c .before .before .before .before .before .before .before .before .pre .1 in (omega (arith, r .inside), reads-below r _ (c .wide162 .ensures .0) (c .before .before .if4 .taken)))
-    (λ c. let b = c .before .before .before in let x = c .service .ensures in
-    (x .0, guard-prefix (b .before .before .before .before .before .before .pre .1) _ _ (c .before .wide162 .ensures .0) (b .if4 .taken) (x .1)))
-    (λ c. let r = c .before .before .before .before .before .before .pre .1 in (omega (arith, r .inside), guard-fault r (c .before .before .if1 .left) (c .before .if3 .left) (c .if4 .left))))
+    (λ c κs. let x = c .before .before in let v = x .before .before .before .loop .inv in
+    (omega (arith, v .0, v .2 .inside), reads-below (v .2) _ (c .wide162 .ensures .0) (rw (v .1) at (x .if3 .taken))))
+    (λ c. let x = c .before .before .before in let v = x .before .before .before .loop .inv in let y = c .service .ensures in
+    (y .0, v .3 _ (guard-prefix (v .2) _ _ (c .before .wide162 .ensures .0) (rw (v .1) at (x .if3 .taken)) (y .1))))
+    (λ c. let l = c .before .before in let v = l .before .loop .inv in
+    (omega (arith, v .2 .inside), v .3 _ (guard-fault (v .2) (λ e. l .loop-test .left (v .1 ∙ e)) (λ e. c .before .if2 .left (v .1 ∙ e)) (rw (v .1) at (c .if3 .left))))))
     (λ t. service-lts.spec (guard-below t, guard.Post, wide16-reads.Asked, wide16-reads.Learnt) (service-at t) service.Post service-Inv-loop service-μ-loop
     (λ c. let r = c .before .before .pre .1 in (refl, going-first (r .0) (r .1)))
     (λ c. omega (arith, inside-in (c .before .loop .inv .1) (c .loop-test .taken) .placed))
