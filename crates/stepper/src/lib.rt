@@ -45,6 +45,10 @@ fn step_with(table: &[u8], m: &[u8], ends: &mut [u16], out: &mut [u8]) -> Reply
 pub fn step(table: &[u8], m: &[u8], out: &mut [u8]) -> Reply
     ensures { λ r. ⌜ Stepped (now (table .entry)) (now (m .entry)) (now (out .entry)) (now (out .exit)) r × Demand2 (now (table .entry)) (now (m .entry)) (now (out .entry)) (now (out .exit)) r ⌝ }
 {
+    if table.len() <= 512 {
+        let mut least = [0u16; 34];
+        return step_with(table, m, &mut least, out);
+    }
     if table.len() <= 4096 {
         let mut few = [0u16; 258];
         return step_with(table, m, &mut few, out);

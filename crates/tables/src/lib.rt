@@ -188,6 +188,10 @@ pub fn check_ends(table: &[u8], ends: &mut [u16]) -> Reply
 pub fn check(table: &[u8]) -> Reply
     ensures { λ r. ⌜ r ≡ checkReply (judge (now (table .entry))) ⌝ }
 {
+    if table.len() <= 512 {
+        let mut least = [0u16; 34];
+        return check_ends(table, &mut least);
+    }
     if table.len() <= 4096 {
         let mut few = [0u16; 258];
         return check_ends(table, &mut few);
