@@ -27,7 +27,7 @@ elapse-planned t d some s ends h r j q =
     (table-size s ends t h ∙ sym (elapse-keeps of-size d t)) q
 
 -- bytes from the output's start on
-put-first : (out bs : List ℕ) → length bs ≤ length out → put out 0 bs ≡ bs ++ drop (length bs) out
+pub put-first : (out bs : List ℕ) → length bs ≤ length out → put out 0 bs ≡ bs ++ drop (length bs) out
 unfolding put
 put-first out bs h = sets-eq bs out 0 (omega arith) ∙ ap (λ n. bs ++ drop n out) (let z : 0 + length bs ≡ length bs = omega arith in z)
 

@@ -4,33 +4,20 @@ use mathlib.Core.Logic.{_≢_}
 use mathlib.Core.List.{List, [], _∷_, _++_, append-assoc, append-nil, flatMap}
 use Prim.Native.Nat.{ℕ, _+_, _*_, _-_, _≤_, _<_}
 use native.Mathlib.Omega.{arith}
-use lib.ListN.{length, drop, getD, length-append, length-drop}
-use lib.Seq.{sets-eq, take-at, drop-at, drop-drop, drop-append-add}
+use lib.ListN.{length, drop, getD, length-append}
+use lib.Seq.{sets-eq, take-at, drop-at, drop-append-add}
 use Rattle.cows.specs.Terms.{receive, wait, protection, delimitation, replication, choice, parallel, Term, leaf, under, both, below, size}
-use Rattle.cows.specs.Kinds.{prefix, join, root, kindOf, open-kinds}
+use Rattle.cows.specs.Kinds.{root, kindOf, open-kinds}
 use Rattle.cows.specs.Format.{bytes2, word, layout, record16, encode}
 use Rattle.cows.specs.Moves.{lower, elapse}
-use Rattle.cows.proofs.Cut.{flatMap-append}
 use Rattle.cows.proofs.Fields.{kind-wait, interval-wait}
 use Rattle.cows.proofs.Format.{length-encode}
-use Rattle.cows.proofs.Places.{size-pos}
 use Rattle.cows.proofs.Rows.{length-record16}
 use Rattle.records.specs.Ends.{EndsFrom}
 use Rattle.records.specs.Rewrites.{put, StandsIn, unchanged}
 use Rattle.records.proofs.Pieces.{word-piece}
-use Rattle.records.proofs.Shapes.{end-stands}
-use Rattle.records.proofs.StandsIn.{long, encode-leaf, encode-under, encode-both, stands-kind, stands-record, stands-fits}
-use Rattle.ways.specs.Known.{Table, Known}
-
--- the tables of terms one behind the other, of each what f makes of it
-abbrev tables : (Term → Term) → List Term → List ℕ
-tables f ts = flatMap (λ t. encode (f t)) ts
-
--- the first bytes of the first of them, and the terms that these leave of it
-tables-first : (f : Term → Term) (t : Term) (b : List ℕ) (ts rest : List Term) → encode (f t) ≡ b ++ tables f ts → tables f (t ∷ rest) ≡ b ++ tables f (ts ++ rest)
-unfolding flatMap
-tables-first f t b ts rest e =
-    ap (λ x. x ++ tables f rest) e ∙ (append-assoc b (tables f ts) (tables f rest) ∙ ap (λ x. b ++ x) (sym (flatMap-append (λ t. encode (f t)) ts rest)))
+use Rattle.records.proofs.StandsIn.{encode-under, stands-kind, stands-record}
+use Rattle.elapse.proofs.Walking.{tables, tables-first, Still, Through, childTerms, encode-children, Ahead, ahead-start, ahead-none, First, first, ahead-past, next-bytes}
 
 -- Time at the first of them: it makes `after` of the first bytes, `before`, and passes on to what these leave.
 record Elapses (d : ℕ) (t : Term) (before after : List ℕ) (left : List Term) : Type 0 where
@@ -38,27 +25,8 @@ record Elapses (d : ℕ) (t : Term) (before after : List ℕ) (left : List Term)
   is : encode (elapse d t) ≡ after ++ tables (elapse d) left
   same : length after ≡ length before
 
--- the kinds that time leaves as they are, and those that it goes through
-abbrev Still : Term → Type 0
-Still t = 4 ≤ kindOf t → 9 ≤ kindOf t
-
-abbrev Through : Term → Type 0
-Through t = (5 ≤ kindOf t) × (kindOf t ≢ 9)
-
-abbrev childTerms : Term → List Term
-childTerms (leaf x) = []
-childTerms (under u t) = t ∷ []
-childTerms (both j l r) = l ∷ r ∷ []
-
--- a table is its first record and its children's tables
-encode-children : (t : Term) → encode t ≡ record16 (root t) ++ tables unchanged (childTerms t)
-unfolding root flatMap
-encode-children (leaf x) = encode-leaf x ∙ sym (append-nil _)
-encode-children (under u t) = encode-under u t ∙ ap (λ x. record16 (prefix u) ++ x) (sym (append-nil (encode t)))
-encode-children (both j l r) = encode-both j l r ∙ ap (λ x. record16 (join j) ++ (encode l ++ x)) (sym (append-nil (encode r)))
-
 module _ (d : ℕ) where
-  elapse-still : (t : Term) → Still t → elapse d t ≡ t
+  pub elapse-still : (t : Term) → Still t → elapse d t ≡ t
   unfolding elapse lower open-kinds
   elapse-still (leaf x) h = refl
   elapse-still (under (receive p o ws) t) h = refl
@@ -103,6 +71,10 @@ elapses-wait d n t = record {
   same = length-encode (under (wait (n - d)) t) ∙ sym (length-encode (under (wait n) t));
 }
 
+-- the interval of a wait that stands in a table
+pub stands-interval : (s : List ℕ) (k n : ℕ) (t : Term) → StandsIn s k (under (wait n) t) → word s (k + 14) ≡ n
+stands-interval s k n t h = sym (word-piece s k 14 (omega arith)) ∙ (ap (λ b. word b 14) (stands-record (under (wait n) t) h) ∙ interval-wait n t)
+
 -- bytes written over as many others
 put-over : (a b c e : List ℕ) (j : ℕ) → length a ≡ j → length e ≡ length b → put (a ++ (b ++ c)) j e ≡ a ++ (e ++ c)
 unfolding put
@@ -113,30 +85,28 @@ put-over a b c e j at same =
     sets-eq e l j (omega (arith, length-append a (b ++ c), length-append b c)) ∙ rw (z, take-at a (b ++ c) j at) (append-assoc a e c)
 
 -- an interval written over that of a wait, among other bytes
-put-interval : (n m : ℕ) (t : Term) (a c : List ℕ) (j : ℕ) → 14 + length a ≡ j → put (a ++ (encode (under (wait n) t) ++ c)) j (bytes2 m) ≡ a ++ (encode (under (wait m) t) ++ c)
+pub put-interval : (n m : ℕ) (t : Term) (a c : List ℕ) (j : ℕ) → 14 + length a ≡ j → put (a ++ (encode (under (wait n) t) ++ c)) j (bytes2 m) ≡ a ++ (encode (under (wait m) t) ++ c)
 unfolding waitStart bytes2
 put-interval n m t a c j at =
     let e : (k : ℕ) → a ++ (encode (under (wait k) t) ++ c) ≡ (a ++ waitStart) ++ (bytes2 k ++ (encode t ++ c)) = λ k. rw (encode-wait k t) (simp append-assoc) in
     rw (e n, e m) (put-over (a ++ waitStart) (bytes2 n) (encode t ++ c) (bytes2 m) j (omega (arith, length-append a waitStart)) refl)
 
--- The walk is at place p: `done` is written, the terms `ahead` and the bytes behind the table are as they were, and the successor is what is done and what
+-- The walk is at place p: `done` is written, the terms ahead and the bytes behind the table are as they were, and the successor is what is done and what
 -- time makes of the terms ahead.
 pub record Lapsing (s : List ℕ) (d : ℕ) (t : Term) (behind out : List ℕ) (p : ℕ) : Type 0 where
   pub done : List ℕ
-  pub ahead : List Term
+  pub ahead : Ahead s p
   pub at : length done ≡ 16 * p
-  pub stand : drop (16 * p) s ≡ tables unchanged ahead
-  pub now : out ≡ done ++ (tables unchanged ahead ++ behind)
-  pub whole : encode (elapse d t) ≡ done ++ tables (elapse d) ahead
+  pub now : out ≡ done ++ (tables unchanged (ahead .terms) ++ behind)
+  pub whole : encode (elapse d t) ≡ done ++ tables (elapse d) (ahead .terms)
 
 module _ (s : List ℕ) (d : ℕ) (t : Term) (behind : List ℕ) where
   pub lapsing-start : (out : List ℕ) → s ≡ encode t → out ≡ s ++ behind → Lapsing s d t behind out 0
-  unfolding flatMap
+  unfolding flatMap ahead-start
   lapsing-start out h e = record {
     done = [];
-    ahead = t ∷ [];
+    ahead = ahead-start s t h;
     at = refl;
-    stand = h ∙ sym (append-nil (encode t));
     now = e ∙ ap (λ x. x ++ behind) (h ∙ sym (append-nil (encode t)));
     whole = sym (append-nil (encode (elapse d t)));
   }
@@ -144,52 +114,32 @@ module _ (s : List ℕ) (d : ℕ) (t : Term) (behind : List ℕ) where
   module _ (out : List ℕ) (p : ℕ) (h : Lapsing s d t behind out p) where
     pub lapsing-end : length s ≤ 16 * p → out ≡ encode (elapse d t) ++ behind
     unfolding flatMap
-    lapsing-end l = go (h .ahead) (h .stand) (h .now) (h .whole)
-      where
-        go : (ts : List Term) → drop (16 * p) s ≡ tables unchanged ts → out ≡ h .done ++ (tables unchanged ts ++ behind) → encode (elapse d t) ≡ h .done ++ tables (elapse d) ts → out ≡ encode (elapse d t) ++ behind
-        go [] y e w = e ∙ ap (λ x. x ++ behind) (sym (w ∙ append-nil (h .done)))
-        go (r ∷ rs) y e w = absurd (omega (arith, ap length y, length-drop (16 * p) s, length-append (encode r) (tables unchanged rs), long r))
-
-    -- the first of the terms ahead, in the table as it was and in what is written
-    record First : Type 0 where
-      term : Term
-      rest : List Term
-      is : h .ahead ≡ term ∷ rest
-      stands : StandsIn s (16 * p) term
-      lies : StandsIn out (16 * p) term
-
-    first : 16 * p < length s → First
-    unfolding flatMap
-    first l = go (h .ahead) refl
-      where
-        go : (ts : List Term) → h .ahead ≡ ts → First
-        go [] e = absurd (omega (arith, ap length (h .stand ∙ ap (tables unchanged) e), length-drop (16 * p) s))
-        go (r ∷ rs) e = record {
-          term = r;
-          rest = rs;
-          is = e;
-          stands = record { rest = tables unchanged rs; is = h .stand ∙ ap (tables unchanged) e };
-          lies = record {
-            rest = tables unchanged rs ++ behind;
-            is = ap (drop (16 * p)) (h .now) ∙ (drop-at (h .done) _ (16 * p) (h .at) ∙ (ap (λ x. tables unchanged x ++ behind) e ∙ append-assoc (encode r) (tables unchanged rs) behind));
-          };
-        }
+    lapsing-end l =
+        let z = ahead-none s p (h .ahead) l in
+        (h .now ∙ ap (λ x. h .done ++ (tables unchanged x ++ behind)) z) ∙ ap (λ x. x ++ behind) (sym (h .whole ∙ (ap (λ x. h .done ++ tables (elapse d) x) z ∙ append-nil (h .done))))
 
     module _ (l : 16 * p < length s) where
-      abbrev f : First
-      f = first l
+      abbrev f : First s p (h .ahead)
+      f = first s p (h .ahead) l
+
+      -- it stands in what is written too
+      lies : StandsIn out (16 * p) (f .term)
+      unfolding flatMap
+      lies = record {
+        rest = tables unchanged (f .rest) ++ behind;
+        is =
+            ap (drop (16 * p)) (h .now)
+            ∙ (drop-at (h .done) _ (16 * p) (h .at) ∙ (ap (λ x. tables unchanged x ++ behind) (f .is) ∙ append-assoc (encode (f .term)) (tables unchanged (f .rest)) behind));
+      }
 
       -- time passes on
       onward : {b a : List ℕ} {ts : List Term} {next : ℕ} {after : List ℕ} → Elapses d (f .term) b a ts → 16 * next ≡ 16 * p + length b → after ≡ h .done ++ (a ++ (tables unchanged (ts ++ f .rest) ++ behind))
           → Lapsing s d t behind after next
+      unfolding ahead-past
       onward {b} {a} {ts} {next} q n e = record {
         done = h .done ++ a;
-        ahead = ts ++ f .rest;
+        ahead = ahead-past s p (h .ahead) f b ts (q .was) n;
         at = omega (arith, length-append (h .done) a, h .at, q .same);
-        stand =
-            rw n (sym (drop-drop (length b) (16 * p) s)
-            ∙ (ap (drop (length b)) (h .stand ∙ (ap (tables unchanged) (f .is) ∙ tables-first unchanged (f .term) b ts (f .rest) (q .was)))
-            ∙ drop-at b _ (length b) refl));
         now = e ∙ sym (append-assoc (h .done) a _);
         whole = h .whole ∙ (ap (λ x. h .done ++ x) (ap (tables (elapse d)) (f .is) ∙ tables-first (elapse d) (f .term) a ts (f .rest) (q .is)) ∙ sym (append-assoc (h .done) a _));
       }
@@ -203,35 +153,24 @@ module _ (s : List ℕ) (d : ℕ) (t : Term) (behind : List ℕ) where
       kept {b} {ts} q n = onward q n (apart b ts (q .was))
 
       here-kind : getD out (16 * p) 0 ≡ kindOf (f .term)
-      here-kind = stands-kind (f .term) (f .lies)
+      here-kind = stands-kind (f .term) lies
 
       pub lapsing-through : (5 ≤ getD out (16 * p) 0) × (getD out (16 * p) 0 ≢ 9) → Lapsing s d t behind out (p + 1)
       lapsing-through k = kept (elapses-through d (f .term) (omega (arith, here-kind))) (omega (arith, length-record16 (root (f .term))))
 
       module _ {ends : List ℕ} (e : EndsFrom s ends 0) {next : ℕ} (at : next ≡ getD ends p 0) where
-        next-is : next ≡ p + size (f .term)
-        next-is = at ∙ (e .end p (omega arith) (omega (arith, stands-fits (f .term) (f .stands), long (f .term))) ∙ end-stands s (f .term) p (f .stands))
-
-        next-bytes : 16 * next ≡ 16 * p + length (encode (f .term))
-        next-bytes = omega (arith, next-is, length-encode (f .term))
-
-        next-fits : (p < next) × (16 * next ≤ length s)
-        next-fits = omega (arith, next-is, size-pos (f .term), next-bytes, stands-fits (f .term) (f .stands))
+        as-far : 16 * next ≡ 16 * p + length (encode (f .term))
+        as-far = next-bytes s p (h .ahead) f e at
 
         pub lapsing-still : (4 ≤ getD out (16 * p) 0 → 9 ≤ getD out (16 * p) 0) → Lapsing s d t behind out next
-        lapsing-still k = kept (elapses-still d (f .term) (λ m. omega (arith, here-kind, k (omega (arith, here-kind))))) next-bytes
+        lapsing-still k = kept (elapses-still d (f .term) (λ m. omega (arith, here-kind, k (omega (arith, here-kind))))) as-far
 
         pub lapsing-wait : getD out (16 * p) 0 ≡ 4 → {w : ℕ} {after : List ℕ} → w ≡ word out (16 * p + 14) - d → after ≡ put out (16 * p + 14) (bytes2 w) → Lapsing s d t behind after next
         lapsing-wait k {w} {after} v o =
             let (n, q) = kind-wait (f .term) (sym here-kind ∙ k) in
             let r = below (f .term) in
-            let i : word out (16 * p + 14) ≡ n =
-            sym (word-piece out (16 * p) 14 (omega arith)) ∙ (ap (λ b. word b 14) (stands-record (f .term) (f .lies) ∙ ap (λ x. record16 (root x)) q) ∙ interval-wait n r) in
+            let i = stands-interval out (16 * p) n r (subst (StandsIn out (16 * p)) q lies) in
             let (a, c) : Elapses d (f .term) (encode (f .term)) (encode (under (wait (n - d)) r)) [] × (encode (f .term) ≡ encode (under (wait n) r)) =
             (subst (λ x. Elapses d x (encode x) (encode (under (wait (n - d)) r)) []) (sym q) (elapses-wait d n r), ap encode q) in
-            onward a next-bytes
+            onward a as-far
             (o ∙ (ap (λ x. put x (16 * p + 14) (bytes2 w)) (apart (encode (f .term)) [] (a .was)) ∙ rw (c, v, i) (put-interval n (n - d) r (h .done) (tables unchanged (f .rest) ++ behind) (16 * p + 14) (omega (arith, h .at)))))
-
--- where the walk goes on behind a term, for code that knows of some table
-pub lapsing-next : (s ends : List ℕ) (d : ℕ) {behind out : List ℕ} (p : ℕ) (q : Known s ends) → ((t : Term) → Table s ends t → Lapsing s d t behind out p) → 16 * p < length s → {next : ℕ} → next ≡ getD ends p 0 → (p < next) × (16 * next ≤ length s)
-lapsing-next s ends d p q v l at = next-fits s d (q .term) _ _ p (v (q .term) (q .table)) l (q .table .end) at

@@ -1,2 +1,4 @@
 pub mod Judged
+pub mod Walking
 pub mod Lapsing
+pub mod Listing

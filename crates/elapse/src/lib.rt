@@ -1,4 +1,6 @@
 // Elapse (time): every live wait falls by d, and to 0 if it holds less.
+pub mod waits;
+
 use plans::Judgement;
 use plans::Plan;
 use plans::refused;

@@ -8,7 +8,8 @@ use lib.ListN.{take-append-drop}
 use lib.Seq.{length-take-le}
 use Rattle.cows.specs.Terms.{Term}
 use Rattle.ways.specs.Known.{Table}
-use Rattle.elapse.proofs.Lapsing.{Lapsing, lapsing-start, lapsing-end, lapsing-next, lapsing-still, lapsing-wait, lapsing-through}
+use Rattle.elapse.proofs.Walking.{ahead-next}
+use Rattle.elapse.proofs.Lapsing.{Lapsing, lapsing-start, lapsing-end, lapsing-still, lapsing-wait, lapsing-through}
 use Rattle.elapse.proofs.lower_waits.Statement.{statement}
 use Rattle.elapse.proofs.lower_waits.Tie as tie
 
@@ -31,17 +32,17 @@ lower-waits-spec =
     let l = length-take-le _ _ i in
     (omega arith, omega (arith, l, k .few), omega (arith, l, k .room), refl, l, λ u h. lapsing-start _ _ u _ _ (h .holds .is) (sym (take-append-drop (16 * c .before .before .args .n) _))))
     (λ c. search needs) (λ c. search needs) (λ c. search needs) (λ c. search needs) (λ c κs. search needs)
-    (λ c. let v = c .before .before .before .before .before .loop .inv in omega (arith, lapsing-next _ _ _ _ (c .before .before .before .before .before .before .before .before .pre .1) (v .5) (omega arith) (c .before .wide16 .ensures .0)))
+    (λ c. let v = c .before .before .before .before .before .loop .inv in omega (arith, let k = c .before .before .before .before .before .before .before .before .pre .1 in ahead-next _ _ _ k (v .5 (k .term) (k .table) .ahead) (omega arith) (c .before .wide16 .ensures .0)))
     (λ c.
     let v = c .before .before .before .before .before .loop .inv in
     let e = c .before .wide16 .ensures .0 in
-    (omega (arith, lapsing-next _ _ _ _ (c .before .before .before .before .before .before .before .before .pre .1) (v .5) (omega arith) e), v .1, v .2, v .3, v .4, λ u h. lapsing-still _ _ u _ _ _ (v .5 u h) (omega arith) (h .end) e (λ k. omega arith)))
+    (omega (arith, let k = c .before .before .before .before .before .before .before .before .pre .1 in ahead-next _ _ _ k (v .5 (k .term) (k .table) .ahead) (omega arith) e), v .1, v .2, v .3, v .4, λ u h. lapsing-still _ _ u _ _ _ (v .5 u h) (omega arith) (h .end) e (λ k. omega arith)))
     (λ c. search needs) (λ c. search needs) (λ c κs. search needs) (λ c κs. search needs) (λ c. search needs) (λ c. search needs) (λ c κs. search needs)
-    (λ c. let v = c .before .before .before .before .before .before .before .before .before .before .before .before .before .loop .inv in omega (arith, lapsing-next _ _ _ _ (c .before .before .before .before .before .before .before .before .before .before .before .before .before .before .before .before .pre .1) (v .5) (omega arith) (c .before .before .before .before .before .before .before .before .before .wide16 .ensures .0)))
+    (λ c. let v = c .before .before .before .before .before .before .before .before .before .before .before .before .before .loop .inv in omega (arith, let k = c .before .before .before .before .before .before .before .before .before .before .before .before .before .before .before .before .pre .1 in ahead-next _ _ _ k (v .5 (k .term) (k .table) .ahead) (omega arith) (c .before .before .before .before .before .before .before .before .before .wide16 .ensures .0)))
     (λ c.
     let v = c .before .before .before .before .before .before .before .before .before .before .before .before .before .loop .inv in
     let e = c .before .before .before .before .before .before .before .before .before .wide16 .ensures .0 in (
-      omega (arith, lapsing-next _ _ _ _ (c .before .before .before .before .before .before .before .before .before .before .before .before .before .before .before .before .pre .1) (v .5) (omega arith) e),
+      omega (arith, let k = c .before .before .before .before .before .before .before .before .before .before .before .before .before .before .before .before .pre .1 in ahead-next _ _ _ k (v .5 (k .term) (k .table) .ahead) (omega arith) e),
       v .1,
       v .2,
       search needs,
@@ -49,11 +50,11 @@ lower-waits-spec =
       λ u h.
           lapsing-wait _ _ u _ _ _ (v .5 u h) (omega arith) (h .end) e (c .before .before .before .before .before .before .before .if2 .taken) (search needs) (c .before .before .put-word .ensures),
     ))
-    (λ c. let v = c .before .before .before .before .before .before .before .loop .inv in omega (arith, lapsing-next _ _ _ _ (c .before .before .before .before .before .before .before .before .before .before .pre .1) (v .5) (omega arith) (c .before .before .before .wide16 .ensures .0)))
+    (λ c. let v = c .before .before .before .before .before .before .before .loop .inv in omega (arith, let k = c .before .before .before .before .before .before .before .before .before .before .pre .1 in ahead-next _ _ _ k (v .5 (k .term) (k .table) .ahead) (omega arith) (c .before .before .before .wide16 .ensures .0)))
     (λ c.
     let v = c .before .before .before .before .before .before .before .loop .inv in
     let e = c .before .before .before .wide16 .ensures .0 in
-    (omega (arith, lapsing-next _ _ _ _ (c .before .before .before .before .before .before .before .before .before .before .pre .1) (v .5) (omega arith) e), v .1, v .2, v .3, v .4, λ u h. lapsing-still _ _ u _ _ _ (v .5 u h) (omega arith) (h .end) e (λ k. omega arith)))
+    (omega (arith, let k = c .before .before .before .before .before .before .before .before .before .before .pre .1 in ahead-next _ _ _ k (v .5 (k .term) (k .table) .ahead) (omega arith) e), v .1, v .2, v .3, v .4, λ u h. lapsing-still _ _ u _ _ _ (v .5 u h) (omega arith) (h .end) e (λ k. omega arith)))
     (λ c. search needs) (λ c. search needs)
     (λ c. let v = c .before .before .before .before .before .before .before .loop .inv in (omega arith, v .1, v .2, v .3, v .4, λ u h. lapsing-through _ _ u _ _ _ (v .5 u h) (omega arith) (omega arith)))
     (λ c. search needs)
