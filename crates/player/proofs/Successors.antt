@@ -1,9 +1,9 @@
 -- The successor of an allowed move (specs/Making): a time in place, with the ends as they were, a floating in place, with the ends lifted, and any
 -- other move in the other buffer, an expiry or a meeting that binds nothing with the ends cut.
-use mathlib.Core.Path.{_≡_, sym, ap, subst, _∙_}
-use mathlib.Core.Bool.{Bool, not, cond}
+use mathlib.Core.Path.{_≡_, refl, sym, ap, subst, _∙_}
+use mathlib.Core.Bool.{Bool, true, false, not, cond}
 use mathlib.Core.List.{List, [], _∷_, _++_}
-use Prim.Native.Nat.{ℕ, _+_, _*_, _-_, _/_, _≤_, _<_}
+use Prim.Native.Nat.{ℕ, _+_, _*_, _-_, _≤_, _<_}
 use native.Mathlib.Omega.{arith}
 use lib.ListN.{length, getD, drop, take-append-drop}
 use lib.Seq.{take-at, length-take-le}
@@ -29,10 +29,13 @@ use Rattle.proposals.specs.declared.Move.the-variants.{Communicate, Timeout, El
 use Rattle.proposals.specs.Proposals.{moveOf}
 use Rattle.plans.specs.Plans.{Asks, Gives}
 use Rattle.moves.specs.Places.{planPlace}
+use Rattle.elapse.specs.Waits.{waitPlaces, Lists, Listed}
+use Rattle.elapse.proofs.Listing.{waits-elapse}
 use Rattle.extrude.specs.Extruding.{lifted, LiftsEnds, EndsLifted}
 use Rattle.extrude.proofs.Judged.{lift-asked, lift-exchanged, lifted-among}
+use Rattle.player.specs.declared.turns.Kept.{Kept}
 use Rattle.player.specs.Turns.{held}
-use Rattle.player.specs.Making.{CanMake, Makes}
+use Rattle.player.specs.Making.{CanList, CanMake, Makes}
 use Rattle.player.proofs.Lasting.{Ended, ended-table, ends-last}
 use Rattle.communicate.proofs.Continued.{silence-inside, under-silent, silence-start}
 use Rattle.communicate.proofs.Left.{Met, accepted-met}
@@ -40,9 +43,23 @@ use Rattle.timeout.proofs.Judged.{allowed-wait}
 use Rattle.player.specs.Cutting.{CutsEnds, EndsCut}
 use Rattle.player.proofs.Expiring.{cuts-ends, cut-ends-from}
 use Rattle.player.proofs.Floating.{lifts-ends, floated-ends}
-use Rattle.player.proofs.Turning.{held-size, held-small, own, other}
+use Rattle.player.proofs.Turning.{held-size, held-small, own, other, unlisted}
 
-module _ (t : List ℕ) (n : ℕ) (ends : List ℕ) (m : Move) (from records : ℕ) (to : List ℕ) (k : CanMake t n ends m from records to) where
+-- the live waits of a kept table, listed before or now
+module _ (kept : Kept) (t ends to : List ℕ) (k : CanList kept t ends to) where
+  pub list-room : (16 * kept .records ≤ length t) × (2 * kept .records ≤ length to)
+  list-room = (k .inside, omega (arith, held-small (kept .records) t ends (k .inside) (k .known), k .room))
+
+  pub listed-before : kept .listed ≡ true → (v : Term) → Table (held (kept .records) t) ends v → Lists to (kept .waits) (waitPlaces v)
+  listed-before l v h = subst (λ x. Lists to (kept .waits) (waitPlaces x)) (one-table (held (kept .records) t) ends (k .known .term) v (k .known .table) h) (k .lists l)
+
+module _ (kept : Kept) (t ends : List ℕ) (m : Move) (from records : ℕ) (to : List ℕ) (k : CanMake kept t ends m from records to) where
+  abbrev n : ℕ
+  n = kept .records
+
+  abbrev side : Bool
+  side = kept .second
+
   abbrev next : Term
   next = k .asks .successor
 
@@ -60,28 +77,48 @@ module _ (t : List ℕ) (n : ℕ) (ends : List ℕ) (m : Move) (from records : �
   kept-next : (x ends′ : List ℕ) → held records x ≡ encode next → EndsFrom (held records x) ends′ 0 → Table (held records x) ends′ next
   kept-next x ends′ e h = record { holds = record { is = e; right = k .within .right }; within = k .within; end = h }
 
-  makes-in : (b then : Bool) (x t′ to′ ends′ : List ℕ) → cond then (cond b t′ to′) (cond b to′ t′) ≡ x → Table (held records x) ends′ next → Makes b t n ends m records t′ to′ ends′ then
-  makes-in b then x t′ to′ ends′ c h v u hv e =
-      let o : next ≡ u = same-accept (sym (k .asks .accepted) ∙ (ap (proposed (moveOf m)) (one-table (held n t) ends now v (k .asks .known .table) hv) ∙ e)) in
-      rw c (subst (Table (held records x) ends′) o h)
+  same-next : (v u : Term) → Table (held n t) ends v → proposed (moveOf m) v ≡ accept u → next ≡ u
+  same-next v u h e = same-accept (sym (k .asks .accepted) ∙ (ap (proposed (moveOf m)) (one-table (held n t) ends now v (k .asks .known .table) h) ∙ e))
+
+  makes-in : (r : Kept) (x t′ to′ ends′ : List ℕ) → r .records ≡ records → cond (r .second) (cond side t′ to′) (cond side to′ t′) ≡ x → Table (held records x) ends′ next
+      → (r .listed ≡ true → Lists (cond (r .second) (cond side to′ t′) (cond side t′ to′)) (r .waits) (waitPlaces next)) → Makes kept t ends m records t′ to′ ends′ r
+  makes-in r x t′ to′ ends′ n c h w = record {
+    count = n;
+    table = λ v u hv e. rw c (subst (Table (held records x) ends′) (same-next v u hv e) h);
+    lists = λ l v u hv e. subst (λ x. Lists (cond (r .second) (cond side to′ t′) (cond side t′ to′)) (r .waits) (waitPlaces x)) (same-next v u hv e) (w l);
+  }
 
   -- written to the other buffer, its ends made anew
-  pub makes-there : (b : Bool) (t′ to′ ends′ : List ℕ) → Gives (proposed (moveOf m)) (held n t) ends to to′ → EndsFrom (held records to′) ends′ 0 → Makes b t n ends m records t′ to′ ends′ (not b)
-  makes-there b t′ to′ ends′ g h =
+  abbrev there : Kept
+  there = record { second = not side; listed = false; records = records; waits = 0 }
+
+  pub makes-there : (t′ to′ ends′ : List ℕ) → Gives (proposed (moveOf m)) (held n t) ends to to′ → EndsFrom (held records to′) ends′ 0 → Makes kept t ends m records t′ to′ ends′ there
+  makes-there t′ to′ ends′ g h =
       let e = g now next (k .asks .known .table) (k .asks .accepted) ∙ put-encode to next (k .asks .room) in
-      makes-in b (not b) to′ t′ to′ ends′ (other b t′ to′) (kept-next to′ ends′ (held-next to′ _ e) h)
+      makes-in there to′ t′ to′ ends′ refl (other side t′ to′) (kept-next to′ ends′ (held-next to′ _ e) h) unlisted
 
   -- a time, in place
+  table-first : t ≡ encode now ++ drop (16 * n) t
+  table-first = sym (take-append-drop (16 * n) t) ∙ ap (λ x. x ++ drop (16 * n) t) (k .asks .known .table .holds .is)
+
+  pub time-asked : (list : List ℕ) (w : ℕ) → ((v : Term) → Table (held n t) ends v → Lists list w (waitPlaces v)) → Listed t list w
+  time-asked list w l = record { term = now; stands = record { rest = drop (16 * n) t; is = table-first }; lists = l now (k .asks .known .table) }
+
   module _ (d : ℕ) (is : m ≡ Elapse d) where
     time-next : elapse d now ≡ next
     unfolding proposed need _>>=_ successor
     time-next = time-gives now next d (subst (λ x. proposed (moveOf x) now ≡ accept next) is (k .asks .accepted)) .1
 
-    pub makes-time : (b : Bool) (t′ to′ : List ℕ) → ((v : Term) → Table (held n t) ends v → t′ ≡ encode (elapse d v) ++ drop (16 * n) t) → Makes b t n ends m records t′ to′ ends b
-    makes-time b t′ to′ g =
-        let e = held-next t′ _ (g now (k .asks .known .table) ∙ ap (λ x. encode x ++ drop (16 * n) t) time-next) in
-        makes-in b b t′ t′ to′ ends (own b t′ to′)
-        (kept-next t′ ends e (ends-last (held n t) (held records t′) ends now d (k .asks .known .table) (record { is = e ∙ ap encode (sym time-next); right = rw time-next (k .within .right) })))
+    pub makes-time : (t′ to′ : List ℕ) (w : ℕ) → ((v : Term) → Table (held n t) ends v → Lists to′ w (waitPlaces v))
+        → ((v : Term) (rest : List ℕ) → t ≡ encode v ++ rest → Lists to′ w (waitPlaces v) → t′ ≡ encode (elapse d v) ++ rest)
+        → Makes kept t ends m records t′ to′ ends (record { second = side; listed = true; records = records; waits = w })
+    unfolding waitPlaces
+    makes-time t′ to′ w l g =
+        let h = k .asks .known .table in
+        let e = held-next t′ _ (g now (drop (16 * n) t) table-first (l now h) ∙ ap (λ x. encode x ++ drop (16 * n) t) time-next) in
+        makes-in (record { second = side; listed = true; records = records; waits = w }) t′ t′ to′ ends refl (own side t′ to′)
+        (kept-next t′ ends e (ends-last (held n t) (held records t′) ends now d h (record { is = e ∙ ap encode (sym time-next); right = rw time-next (k .within .right) })))
+        (λ _. rw (own side to′ t′) (subst (Lists to′ w) (sym (waits-elapse d 0 now) ∙ ap waitPlaces time-next) (l now h)))
 
   -- a floating, in place
   module _ (a : ℕ) (is : m ≡ Extrude a) where
@@ -102,18 +139,20 @@ module _ (t : List ℕ) (n : ℕ) (ends : List ℕ) (m : Move) (from records : �
     unfolding float-asks
     float-ends = lifts-ends now next a from (lift-exchanged (held n t) ends a from to float-asks) (held n t) ends (k .asks .known .table)
 
-    pub makes-float : (b : Bool) (t′ to′ ends′ : List ℕ) → t′ ≡ lifted t a from → EndsLifted ends a from ends′ → length ends′ ≡ length ends → Makes b t n ends m records t′ to′ ends′ b
+    pub makes-float : (t′ ends′ : List ℕ) → t′ ≡ lifted t a from → EndsLifted ends a from ends′ → length ends′ ≡ length ends
+        → Makes kept t ends m records t′ to ends′ (record { second = side; listed = false; records = records; waits = 0 })
     unfolding float-asks
-    makes-float b t′ to′ ends′ g h l =
+    makes-float t′ ends′ g h l =
         let (before, within, _) = float-inside in
         let o : t′ ≡ encode next ++ drop (16 * n) t =
         g
         ∙ (ap (λ x. lifted x a from) (sym (take-append-drop (16 * n) t))
         ∙ (lifted-among (held n t) (drop (16 * n) t) a from before within ∙ ap (λ x. x ++ drop (16 * n) t) (lift-asked (held n t) ends a from to float-asks .1))) in
         let e = held-next t′ _ o in
-        makes-in b b t′ t′ to′ ends′ (own b t′ to′)
+        makes-in (record { second = side; listed = false; records = records; waits = 0 }) t′ t′ to ends′ refl (own side t′ to)
         (kept-next t′ ends′ e
         (floated-ends now next a from (lift-exchanged (held n t) ends a from to float-asks) (held n t) ends (k .asks .known .table) (held records t′) ends′ (record { is = e; right = k .within .right }) h l))
+        unlisted
 
   -- an expiry, whose ends are cut
   module _ (a : ℕ) (is : m ≡ Timeout a) where
@@ -130,12 +169,12 @@ module _ (t : List ℕ) (n : ℕ) (ends : List ℕ) (m : Move) (from records : �
         let h = k .asks .known .table in
         subst (CutsEnds ends n a) (sym cut-place) (cuts-ends ends now (ended-table (held n t) ends now h) a (wait i) l e n (held-size n t ends now (k .inside) h))
 
-    pub makes-cut : (b : Bool) (t′ to′ ends′ : List ℕ) → Gives (proposed (moveOf m)) (held n t) ends to to′ → EndsCut ends n a from ends′ → length ends′ ≡ length ends → Makes b t n ends m records t′ to′ ends′ (not b)
-    makes-cut b t′ to′ ends′ g c l =
+    pub makes-cut : (t′ to′ ends′ : List ℕ) → Gives (proposed (moveOf m)) (held n t) ends to to′ → EndsCut ends n a from ends′ → length ends′ ≡ length ends → Makes kept t ends m records t′ to′ ends′ there
+    makes-cut t′ to′ ends′ g c l =
         let (i, p, e, r) = allowed-wait now a next expired in
         let h = k .asks .known .table in
         let o = held-next to′ _ (g now next h (k .asks .accepted) ∙ put-encode to next (k .asks .room)) in
-        makes-there b t′ to′ ends′ g
+        makes-there t′ to′ ends′ g
         (cut-ends-from ends now (ended-table (held n t) ends now h) a (wait i) p e n (held-size n t ends now (k .inside) h) ends′ (subst (λ x. EndsCut ends n a x ends′) cut-place c) (held records to′)
         (subst (Holds (held records to′)) r (record { is = o; right = k .within .right })) l)
 
@@ -191,11 +230,11 @@ module _ (t : List ℕ) (n : ℕ) (ends : List ℕ) (m : Move) (from records : �
     unbound : records ≡ n - (getD ends from 0 - from) + (getD ends a 0 - a - 1) → continue silent a ≡ next
     unbound e = none-bound (parties .pairs) (omega (arith, e, k .count, meeting-asked .span, parties .leaves .count, ends-here)) (parties .is)
 
-    pub makes-met : (c : Bool) (t′ to′ ends′ : List ℕ) → Gives (proposed (moveOf m)) (held n t) ends to to′ → records ≡ n - (getD ends from 0 - from) + (getD ends a 0 - a - 1)
-        → EndsCut ends n a from ends′ → length ends′ ≡ length ends → Makes c t n ends m records t′ to′ ends′ (not c)
-    makes-met c t′ to′ ends′ g few h l =
+    pub makes-met : (t′ to′ ends′ : List ℕ) → Gives (proposed (moveOf m)) (held n t) ends to to′ → records ≡ n - (getD ends from 0 - from) + (getD ends a 0 - a - 1)
+        → EndsCut ends n a from ends′ → length ends′ ≡ length ends → Makes kept t ends m records t′ to′ ends′ there
+    makes-met t′ to′ ends′ g few h l =
         let (p, e) = silent-prefix in
         let o = held-next to′ _ (g now next (k .asks .known .table) (k .asks .accepted) ∙ put-encode to next (k .asks .room)) in
-        makes-there c t′ to′ ends′ g
+        makes-there t′ to′ ends′ g
         (cut-ends-from ends silent silent-ended a _ p e n silent-size ends′ (subst (λ x. EndsCut ends n a x ends′) silent-start h) (held records to′)
         (subst (Holds (held records to′)) (sym (unbound few)) (record { is = o; right = k .within .right })) l)

@@ -36,6 +36,7 @@ use Rattle.proposals.proofs.Move as kinds
 use Rattle.stepper.specs.Replies.{replyOf, replyIn}
 use Rattle.stepper.proofs.Stepping.{table-known}
 use Rattle.stepper.proofs.Moved.{reply-fitted, asks}
+use Rattle.elapse.specs.Waits.{waitPlaces, Lists}
 use Rattle.plans.specs.declared.Plan.{Plan}
 use Rattle.plans.specs.Plans.{resultOf, Planned, Asks}
 use Rattle.moves.specs.Places.{planPlace}
@@ -178,9 +179,19 @@ pub other : (b : Bool) (t to : List ℕ) → cond (not b) (cond b t to) (cond b 
 other true t to = refl
 other false t to = refl
 
--- A turn of the table of n records in t, the second buffer if b is true.
-module _ (b : Bool) (n : ℕ) (t ends to : List ℕ) (g : Turns b n t ends to) where
-  turn-table : (q : RunState) → KeepsRun q (cond b to t) (cond b t to) ends (record { second = b; records = n }) → Table (held n t) ends (q .table)
+-- nothing is said to be listed
+pub unlisted : {A : Type 0} → false ≡ true → A
+unlisted e = absurd (let z : _≡_ {A = ℕ} 0 1 = cc in omega arith)
+
+-- A turn of the table that is kept in t.
+module _ (k : Kept) (t ends to : List ℕ) (g : Turns k t ends to) where
+  abbrev b : Bool
+  b = k .second
+
+  abbrev n : ℕ
+  n = k .records
+
+  turn-table : (q : RunState) → KeepsRun q (cond b to t) (cond b t to) ends k → Table (held n t) ends (q .table)
   turn-table q h = subst (λ x. Table (held n x) ends (q .table)) (own b t to) (h .table)
 
   -- the two buffers are as long as any table
@@ -195,15 +206,21 @@ module _ (b : Bool) (n : ℕ) (t ends to : List ℕ) (g : Turns b n t ends to) w
   turn-known = table-known _ _ _ (turn-table (g .run) (g .keeps))
 
   pub turn-inside : (n ≤ 2048) × (16 * n ≤ length t)
-  turn-inside = let k : n ≤ 2048 = omega (arith, g .keeps .count, g .keeps .table .within .small) in (k, omega (arith, k, rooms))
+  turn-inside = let few : n ≤ 2048 = omega (arith, g .keeps .count, g .keeps .table .within .small) in (few, omega (arith, few, rooms))
+
+  -- the list of the live waits, if there is one
+  turn-lists : k .listed ≡ true → (v : Term) → Table (held n t) ends v → Lists to (k .waits) (waitPlaces v)
+  turn-lists l v h =
+      let e = one-table (held n t) ends (g .run .table) v (turn-table (g .run) (g .keeps)) h in
+      subst (λ x. Lists to (k .waits) (waitPlaces x)) e (subst (λ x. Lists x (k .waits) (waitPlaces (g .run .table))) (own b to t) (g .keeps .lists l))
 
   module _ (m : code.Move) (r : Tried) (j : Judges (held n t) ends m r) where
-    -- a refused move: the table stays as it is
+    -- a refused move: all stays as it is
     module _ (z : r .reply .answer ≢ 0) where
       abbrev refusedReply : Reply
       refusedReply = record { answer = r .reply .answer; place = r .reply .place; records = n }
 
-      refused-is : (q : RunState) → KeepsRun q (cond b to t) (cond b t to) ends (record { second = b; records = n }) → (turn q (moveOf m) ≡ q) × (refusedReply ≡ replyOf (kept q (judgement q (moveOf m))))
+      refused-is : (q : RunState) → KeepsRun q (cond b to t) (cond b t to) ends k → (turn q (moveOf m) ≡ q) × (refusedReply ≡ replyOf (kept q (judgement q (moveOf m))))
       unfolding replyTo kept
       refused-is q h =
           let e = j .judged q (turn-table q h) .replies in
@@ -211,12 +228,12 @@ module _ (b : Bool) (n : ℕ) (t ends to : List ℕ) (g : Turns b n t ends to) w
           let y : r .reply ≡ record { answer = a; place = p; records = 0 } = e ∙ ap (λ v. replyOf (replyTo v)) x in (
             turn-refused q (moveOf m) a p x,
             ap (λ (v : Reply). record { answer = v .answer; place = v .place; records = n }) y
-                ∙ (ap (λ (k : ℕ). record { answer = a; place = p; records = k }) (h .count) ∙ sym (ap (λ v. replyOf (kept q v)) x)),
+                ∙ (ap (λ (c : ℕ). record { answer = a; place = p; records = c }) (h .count) ∙ sym (ap (λ v. replyOf (kept q v)) x)),
           )
 
-      pub turned-refused : Turned b n (moveOf m) t ends to t ends to (record { reply = refusedReply; kept = record { second = b; records = n }; counts = r .counts })
+      pub turned-refused : Turned k (moveOf m) t ends to t ends to (record { reply = refusedReply; kept = k; counts = r .counts })
       turned-refused = record {
-        keeps = λ q h. subst (λ x. KeepsRun x (cond b to t) (cond b t to) ends (record { second = b; records = n })) (sym (refused-is q h .0)) h;
+        keeps = λ q h. subst (λ x. KeepsRun x (cond b to t) (cond b t to) ends k) (sym (refused-is q h .0)) h;
         replies = λ q h. refused-is q h .1;
         counted = λ q h. j .judged q (turn-table q h) .counted;
         few = j .judged (g .run) (turn-table (g .run) (g .keeps)) .few;
@@ -239,7 +256,7 @@ module _ (b : Bool) (n : ℕ) (t ends to : List ℕ) (g : Turns b n t ends to) w
       unfolding judgement
       next-within q h = step-within (q .table) (accepted-is q h .0) (moveOf m) 32768 (h .within) (accepted-is q h .1)
 
-      pub can-make : CanMake t n ends m (r .from) (r .reply .records) to
+      pub can-make : CanMake k t ends m (r .from) (r .reply .records) to
       can-make =
           let a = j .asks z to (rooms .1) in
           let q = runOf (a .known) in
@@ -249,23 +266,24 @@ module _ (b : Bool) (n : ℕ) (t ends to : List ℕ) (g : Turns b n t ends to) w
             asks = a;
             within = subst Within (sym e) (next-within q h);
             count = ap (λ (x : Reply). x .records) (reply-is q h) ∙ ap size (sym e);
+            lists = λ l. turn-lists l _ h;
             inside = turn-inside .1;
             room = rooms .1;
             ends-room = g .keeps .ends-room;
           }
 
-      pub turned-made : (t′ ends′ to′ : List ℕ) (then : Bool) → length t′ ≡ length t → length ends′ ≡ length ends → length to′ ≡ length to
-          → Makes b t n ends m (r .reply .records) t′ to′ ends′ then
-          → Turned b n (moveOf m) t ends to t′ ends′ to′ (record { reply = r .reply; kept = record { second = then; records = r .reply .records }; counts = r .counts })
+      pub turned-made : (t′ ends′ to′ : List ℕ) (then : Kept) → length t′ ≡ length t → length ends′ ≡ length ends → length to′ ≡ length to → Makes k t ends m (r .reply .records) t′ to′ ends′ then
+          → Turned k (moveOf m) t ends to t′ ends′ to′ (record { reply = r .reply; kept = then; counts = r .counts })
       unfolding kept
       turned-made t′ ends′ to′ then lt le lo made = record {
         keeps = λ q h.
-            let k = turn-table q h in
-            let (v, ev) = accepted-move q (moveOf m) (accepted-is q k .0) (accepted-is q k .1) in
-            let o = turn-accepted q (moveOf m) (accepted-is q k .0) v (accepted-is q k .1) ev in
+            let i = turn-table q h in
+            let (v, ev) = accepted-move q (moveOf m) (accepted-is q i .0) (accepted-is q i .1) in
+            let o = turn-accepted q (moveOf m) (accepted-is q i .0) v (accepted-is q i .1) ev in
             record {
-              table = rw o (made (q .table) (accepted-is q k .0) k (proposed-is q k));
-              count = ap (λ (x : Reply). x .records) (reply-is q k) ∙ (rw o);
+              table = rw (o, made .count) (made .table (q .table) (accepted-is q i .0) i (proposed-is q i));
+              count = made .count ∙ (ap (λ (x : Reply). x .records) (reply-is q i) ∙ (rw o));
+              lists = λ l. rw o (made .lists l (q .table) (accepted-is q i .0) i (proposed-is q i));
               first-room = cond-room b t′ to′ (omega (arith, lt, rooms)) (omega (arith, lo, rooms));
               second-room = cond-room b to′ t′ (omega (arith, lo, rooms)) (omega (arith, lt, rooms));
               ends-room = omega (arith, le, g .keeps .ends-room);
@@ -283,9 +301,12 @@ kept-records q m = go (judgement q m) refl
     go (refuse n p) e = rw (turn-refused q m n p e)
     go (accept s) e = let (v, ev) = accepted-move q m s e in rw (turn-accepted q m s v e ev)
 
--- what is kept, by its two fields
-pub kept-fields : (m : Option Move) (k : Kept) (x y ends x′ y′ ends′ : List ℕ) (r : Next) (b : Bool) → k .second ≡ b → GoesOn m (record { second = b; records = k .records }) x y ends x′ y′ ends′ r → GoesOn m k x y ends x′ y′ ends′ r
-kept-fields m k x y ends x′ y′ ends′ r b e h = subst (λ c. GoesOn m (record { second = c; records = k .records }) x y ends x′ y′ ends′ r) (sym e) h
+-- the buffer of the table, and the other one, by where the table is kept
+pub going-in : (b : Bool) (k : Kept) (x y ends : List ℕ) → k .second ≡ b → Going x y ends k → Turns k (cond b y x) ends (cond b x y)
+going-in true k x y ends e h = subst (λ c. Going (cond c x y) (cond c y x) ends k) (sym e) h
+going-in false k x y ends e h = subst (λ c. Going (cond c y x) (cond c x y) ends k) (sym e) h
 
-pub going-fields : (x y ends : List ℕ) (k : Kept) (b : Bool) → k .second ≡ b → Going x y ends k → Going x y ends (record { second = b; records = k .records })
-going-fields x y ends k b e h = subst (λ c. Going x y ends (record { second = c; records = k .records })) e h
+pub goes-on-in : (b : Bool) (m : Option Move) (k : Kept) (x y ends x′ y′ ends′ : List ℕ) (r : Next) → k .second ≡ b → Turned k m (cond b y x) ends (cond b x y) (cond b y′ x′) ends′ (cond b x′ y′) r
+    → GoesOn m k x y ends x′ y′ ends′ r
+goes-on-in true m k x y ends x′ y′ ends′ r e h = subst (λ c. GoesOn m k (cond c x y) (cond c y x) ends (cond c x′ y′) (cond c y′ x′) ends′ r) e h
+goes-on-in false m k x y ends x′ y′ ends′ r e h = subst (λ c. GoesOn m k (cond c y x) (cond c x y) ends (cond c y′ x′) (cond c x′ y′) ends′ r) e h

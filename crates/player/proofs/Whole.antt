@@ -29,6 +29,7 @@ use Rattle.player.specs.declared.nights.Moved.{Moved}
 use Rattle.player.specs.declared.Played.{Played}
 use Rattle.player.specs.Turns.{held, KeepsRun}
 use Rattle.player.specs.Nights.{CanPlay, NightOver, Clear, refusedWith, PlayGives, Plays, PlaysTerm}
+use Rattle.player.proofs.Turning.{unlisted}
 use Rattle.player.proofs.Writing.{put-eq}
 
 -- before the first move: the table copied to the output, whose first 32,768 bytes are the first of two buffers, is kept there
@@ -57,13 +58,14 @@ module _ (table ends moves out slots whole : List ℕ) (o : Clear table ends mov
       ∙ (ap (take (16 * (length table / 16))) whole-is ∙ take-at table (drop (0 + length table) out) (16 * (length table / 16)) (o .known .whole)))
 
   abbrev first : Kept
-  first = record { second = false; records = length table / 16 }
+  first = record { second = false; listed = false; records = length table / 16; waits = 0 }
 
   pub keeps-first : (t : Term) → Table table ends t → KeepsRun (start t) (take 32768 whole) zeros ends first
   unfolding start
   keeps-first t h = record {
     table = subst (λ s. Table s ends t) held-is h;
     count = table-size table ends t h;
+    lists = unlisted;
     first-room = part-whole;
     second-room = zeros-long;
     ends-room = o .ends-room;

@@ -1,6 +1,6 @@
 -- One move of a list: what is asked and given by its judgement, and by keeping the successor in one of two buffers.
 use mathlib.Core.Path.{_≡_}
-use mathlib.Core.Bool.{Bool, cond}
+use mathlib.Core.Bool.{true, cond}
 use mathlib.Core.List.{List}
 use mathlib.Core.Option.{Option, some}
 use Prim.Native.Nat.{ℕ, _*_, _≤_, _<_}
@@ -13,6 +13,7 @@ use Rattle.cows.specs.Step.{proposed, stepTerm, replyTo}
 use Rattle.cows.specs.Load.{copies}
 use Rattle.cows.specs.Run.{RunState, judgement, turn, kept}
 use Rattle.ways.specs.Known.{Table, Known}
+use Rattle.elapse.specs.Waits.{waitPlaces, Lists}
 use Rattle.proposals.specs.declared.Move as code
 use Rattle.proposals.specs.Proposals.{moveOf}
 use Rattle.plans.specs.Plans.{Asks}
@@ -51,10 +52,11 @@ pub record Judges (s ends : List ℕ) (m : code.Move) (r : Tried) : Type 0 where
 abbrev pub held : ℕ → List ℕ → List ℕ
 held n x = take (16 * n) x
 
--- The table of the run q is kept: in one of the buffers, with its ends and its number of records.
+-- The table of the run q is kept: in one of the buffers, with its ends and its number of records. If its live waits are listed, the other buffer lists them.
 pub record KeepsRun (q : RunState) (x y ends : List ℕ) (k : Kept) : Type 0 where
   pub table : Table (held (k .records) (cond (k .second) y x)) ends (q .table)
   pub count : k .records ≡ size (q .table)
+  pub lists : k .listed ≡ true → Lists (cond (k .second) x y) (k .waits) (waitPlaces (q .table))
   pub first-room : length x ≡ maxBytes
   pub second-room : length y ≡ maxBytes
   pub ends-room : 2049 < length ends
@@ -71,9 +73,9 @@ pub record GoesOn (m : Option Move) (k : Kept) (x y ends x′ y′ ends′ : Lis
   pub counted : (q : RunState) → KeepsRun q x y ends k → sumOf (tallyOf (q .tally)) (r .counts) ≡ tallyOf (turn q m .tally)
   pub few : Small (r .counts) 1
 
--- A turn of the table of n records in t, the second buffer if b is true: `to` is the other one. What it asks and gives is that of a move on the kept table.
-abbrev pub Turns : Bool → ℕ → (t ends to : List ℕ) → Type 0
-Turns b n t ends to = Going (cond b to t) (cond b t to) ends (record { second = b; records = n })
+-- A turn of the table that is kept in t; `to` is the other buffer. What it asks and gives is that of a move on the kept table.
+abbrev pub Turns : Kept → (t ends to : List ℕ) → Type 0
+Turns k t ends to = Going (cond (k .second) to t) (cond (k .second) t to) ends k
 
-abbrev pub Turned : Bool → ℕ → Option Move → (t ends to t′ ends′ to′ : List ℕ) → Next → Type 0
-Turned b n m t ends to t′ ends′ to′ r = GoesOn m (record { second = b; records = n }) (cond b to t) (cond b t to) ends (cond b to′ t′) (cond b t′ to′) ends′ r
+abbrev pub Turned : Kept → Option Move → (t ends to t′ ends′ to′ : List ℕ) → Next → Type 0
+Turned k m t ends to t′ ends′ to′ r = GoesOn m k (cond (k .second) to t) (cond (k .second) t to) ends (cond (k .second) to′ t′) (cond (k .second) t′ to′) ends′ r

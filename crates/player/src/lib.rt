@@ -52,7 +52,9 @@ fn play_known(
     let night = nights::night(
         Kept {
             second: false,
+            listed: false,
             records: table.len() / 16,
+            waits: 0,
         },
         moves,
         &mut out[..size],

@@ -11,10 +11,12 @@ ghost use Rattle.ways.specs.Known.{Known};
 ghost use Rattle.proposals.specs.Proposals.{moveOf};
 ghost use Rattle.player.specs.Turns.{Accepted, Copied, Judges, Turns, Turned, Going, GoesOn};
 
-// What is kept from move to move: which buffer the table is in, and its records.
+// What is kept from move to move: which buffer the table is in, and its records; whether the other buffer lists its live waits, and how many.
 pub struct Kept {
     pub second: bool,
+    pub listed: bool,
     pub records: usize,
+    pub waits: usize,
 }
 
 // A judged move: the reply to it, the place of its plan, and what it counts.
@@ -64,11 +66,12 @@ fn judged(s: &[u8], ends: &[u16], m: Move) -> Tried
     }
 }
 
-// A move on the table of n records in t, the second buffer or the first; `to` is the other one.
-fn turn(second: bool, t: &mut [u8], n: usize, ends: &mut [u16], m: Move, to: &mut [u8]) -> Next
-    requires { ⌜ Turns second n (now t) (now ends) (now to) ⌝ }
-    ensures { λ r. ⌜ Turned second n (moveOf m) (now (t .entry)) (now (ends .entry)) (now (to .entry)) (now (t .exit)) (now (ends .exit)) (now (to .exit)) r ⌝ }
+// A move on the table that is kept in t, the second buffer or the first; `to` is the other one.
+fn turn(kept: Kept, t: &mut [u8], ends: &mut [u16], m: Move, to: &mut [u8]) -> Next
+    requires { ⌜ Turns kept (now t) (now ends) (now to) ⌝ }
+    ensures { λ r. ⌜ Turned kept (moveOf m) (now (t .entry)) (now (ends .entry)) (now (to .entry)) (now (t .exit)) (now (ends .exit)) (now (to .exit)) r ⌝ }
 {
+    let n = kept.records;
     let size = 16 * n;
     let tried = judged(&t[..size], ends, m);
     let reply = tried.reply;
@@ -80,18 +83,14 @@ fn turn(second: bool, t: &mut [u8], n: usize, ends: &mut [u16], m: Move, to: &mu
                 place: reply.place,
                 records: n,
             },
-            kept: Kept { second, records: n },
+            kept,
             counts,
         };
     }
-    let records = reply.records;
-    let then = make(second, t, n, ends, m, tried.from, records, to);
+    let then = make(kept, t, ends, m, tried.from, reply.records, to);
     Next {
         reply,
-        kept: Kept {
-            second: then,
-            records,
-        },
+        kept: then,
         counts,
     }
 }
@@ -101,9 +100,8 @@ pub fn move_on(kept: Kept, x: &mut [u8], y: &mut [u8], ends: &mut [u16], m: Move
     requires { ⌜ Going (now x) (now y) (now ends) kept ⌝ }
     ensures { λ r. ⌜ GoesOn (moveOf m) kept (now (x .entry)) (now (y .entry)) (now (ends .entry)) (now (x .exit)) (now (y .exit)) (now (ends .exit)) r ⌝ }
 {
-    let n = kept.records;
     if kept.second {
-        return turn(true, y, n, ends, m, x);
+        return turn(kept, y, ends, m, x);
     }
-    turn(false, x, n, ends, m, y)
+    turn(kept, x, ends, m, y)
 }

@@ -10,14 +10,14 @@ pub turn-spec : {M : Type 1} → statement M
 turn-spec =
     tie.close
     (tie.spec
-    (λ c. let z = c .before .before .before in omega (arith, turn-inside (z .args .second) (z .args .n) _ _ _ (z .pre)))
-    (λ c. let z = c .before .before .before in turn-inside (z .args .second) (z .args .n) _ _ _ (z .pre) .1)
-    (λ c. let z = c .before .before .before .before in sym (length-take-le _ _ (turn-inside (z .args .second) (z .args .n) _ _ _ (z .pre) .1)))
-    (λ c κs. let z = c .before .before .before .before .before in turn-known (z .args .second) (z .args .n) _ _ _ (z .pre))
+    (λ c. let z = c .before .before .before in omega (arith, turn-inside _ _ _ _ (z .pre)))
+    (λ c. let z = c .before .before .before in turn-inside _ _ _ _ (z .pre) .1)
+    (λ c. let z = c .before .before .before .before in sym (length-take-le _ _ (turn-inside _ _ _ _ (z .pre) .1)))
+    (λ c κs. let z = c .before .before .before .before .before in turn-known _ _ _ _ (z .pre))
     (λ c. search needs) (λ c. search needs)
-    (λ c. let z = c .before .before .before .before .before .before .before .before .before .before in turned-refused (z .args .second) (z .args .n) _ _ _ (z .pre) (z .args .m) _ (c .before .before .before .before .judged .ensures) (c .if1 .taken))
-    (λ c κs. let z = c .before .before .before .before .before .before .before .before .before .before .before .before .before in can-make (z .args .second) (z .args .n) _ _ _ (z .pre) (z .args .m) _ (c .before .before .before .before .before .before .before .judged .ensures) (c .before .before .before .if1 .left))
+    (λ c. let z = c .before .before .before .before .before .before .before .before .before .before in turned-refused _ _ _ _ (z .pre) (z .args .m) _ (c .before .before .before .before .judged .ensures) (c .if1 .taken))
+    (λ c κs. let z = c .before .before .before .before .before .before .before .before .before .before .before .before .before in can-make _ _ _ _ (z .pre) (z .args .m) _ (c .before .before .before .before .before .before .before .judged .ensures) (c .before .before .before .if1 .left))
     (λ c. search needs) (λ c. search needs) (λ c. search needs)
     (λ c.
     let z = c .before .before .before .before .before .before .before .before .before .before .before .before .before .before .before .before .before .before .before .before in
-    turned-made (z .args .second) (z .args .n) _ _ _ (z .pre) (z .args .m) _ (c .before .before .before .before .before .before .before .before .before .before .before .before .before .before .judged .ensures) (c .before .before .before .before .before .before .before .before .before .before .if1 .left) _ _ _ _ (omega (arith, c .before .before .before .before .before .t)) (omega (arith, c .before .before .before .ends)) (omega (arith, c .before .to)) (c .before .before .before .before .before .before .make .ensures)))
+    turned-made _ _ _ _ (z .pre) (z .args .m) _ (c .before .before .before .before .before .before .before .before .before .before .before .before .before .before .judged .ensures) (c .before .before .before .before .before .before .before .before .before .before .if1 .left) _ _ _ _ (omega (arith, c .before .before .before .before .before .t)) (omega (arith, c .before .before .before .ends)) (omega (arith, c .before .to)) (c .before .before .before .before .before .before .make .ensures)))
