@@ -1,5 +1,4 @@
-// The live waits of a table, listed by their places, two bytes each: what lowers them need not go over the table again. The list is right for every table
-// with the same shape around the same waits.
+// The live waits of a table, listed by their places, two bytes each: with the list time does not go over the table, and the list is right after it too.
 use crate::lower;
 use records::copying::put_word;
 use records::kinds;

@@ -1,6 +1,7 @@
 pub mod Sizes
 pub mod Lasting
 pub mod Floating
+pub mod Waiting
 pub mod Lowering
 pub mod Expiring
 pub mod Loading

@@ -1,10 +1,12 @@
 -- The successor of an allowed move (specs/Making): a time in place, with the ends as they were, a floating in place, with the ends lifted, and any
 -- other move in the other buffer, an expiry or a meeting that binds nothing with the ends cut.
 use mathlib.Core.Path.{_≡_, refl, sym, ap, subst, _∙_}
-use mathlib.Core.Bool.{Bool, true, false, not, cond}
+use mathlib.Core.Bool.{Bool, true, false, not, cond, _&&_}
 use mathlib.Core.List.{List, [], _∷_, _++_}
 use Prim.Native.Nat.{ℕ, _+_, _*_, _-_, _≤_, _<_}
 use native.Mathlib.Omega.{arith}
+use lib.Dec.{eqb}
+use borrow.Author.Tests.{eqb-true}
 use lib.ListN.{length, getD, drop, take-append-drop}
 use lib.Seq.{take-at, length-take-le}
 use Rattle.cows.specs.Basics.{accept, _>>=_, need}
@@ -12,8 +14,10 @@ use Rattle.cows.specs.Terms.{wait, Term, under, size, below, receiveOf}
 use Rattle.cows.specs.Format.{encode}
 use Rattle.cows.specs.Places.{wayTo, sub}
 use Rattle.cows.specs.Moves.{Substitution, silence, continue, bind, timeoutAt, elapse, extrudeAt, successor}
+use Rattle.cows.specs.Moves as meaning
 use Rattle.cows.specs.Step.{proposed}
-use Rattle.cows.proofs.Basics.{same-accept}
+use Rattle.cows.proofs.Allows.{successor-allows}
+use Rattle.cows.proofs.Basics.{same-accept, and-true}
 use Rattle.cows.proofs.Format.{length-encode}
 use Rattle.cows.proofs.Recordwise.{time-gives}
 use Rattle.cows.proofs.Silence.{silence-size}
@@ -42,6 +46,7 @@ use Rattle.communicate.proofs.Left.{Met, accepted-met}
 use Rattle.timeout.proofs.Judged.{allowed-wait}
 use Rattle.player.specs.Cutting.{CutsEnds, EndsCut}
 use Rattle.player.proofs.Expiring.{cuts-ends, cut-ends-from}
+use Rattle.player.proofs.Waiting.{waits-floated}
 use Rattle.player.proofs.Floating.{lifts-ends, floated-ends}
 use Rattle.player.proofs.Turning.{held-size, held-small, own, other, unlisted}
 
@@ -139,8 +144,17 @@ module _ (kept : Kept) (t ends : List ℕ) (m : Move) (from records : ℕ) (to :
     unfolding float-asks
     float-ends = lifts-ends now next a from (lift-exchanged (held n t) ends a from to float-asks) (held n t) ends (k .asks .known .table)
 
+    -- over the record right above it, the list of the live waits stays
+    float-lists : (kept .listed && eqb a (from + 1)) ≡ true → Lists to (kept .waits) (waitPlaces next)
+    unfolding float-asks successor
+    float-lists l =
+        let (before, right) = and-true (kept .listed) (eqb a (from + 1)) l in
+        subst (Lists to (kept .waits))
+        (waits-floated now next a (successor-allows now next (meaning.Extrude a) (k .asks .known .table .within) (float-asks .accepted)) (eqb-true a (from + 1) right ∙ ap (λ x. x + 1) (float-asks .place-is)))
+        (k .lists before)
+
     pub makes-float : (t′ ends′ : List ℕ) → t′ ≡ lifted t a from → EndsLifted ends a from ends′ → length ends′ ≡ length ends
-        → Makes kept t ends m records t′ to ends′ (record { second = side; listed = false; records = records; waits = 0 })
+        → Makes kept t ends m records t′ to ends′ (record { second = side; listed = kept .listed && eqb a (from + 1); records = records; waits = kept .waits })
     unfolding float-asks
     makes-float t′ ends′ g h l =
         let (before, within, _) = float-inside in
@@ -149,10 +163,10 @@ module _ (kept : Kept) (t ends : List ℕ) (m : Move) (from records : ℕ) (to :
         ∙ (ap (λ x. lifted x a from) (sym (take-append-drop (16 * n) t))
         ∙ (lifted-among (held n t) (drop (16 * n) t) a from before within ∙ ap (λ x. x ++ drop (16 * n) t) (lift-asked (held n t) ends a from to float-asks .1))) in
         let e = held-next t′ _ o in
-        makes-in (record { second = side; listed = false; records = records; waits = 0 }) t′ t′ to ends′ refl (own side t′ to)
+        makes-in (record { second = side; listed = kept .listed && eqb a (from + 1); records = records; waits = kept .waits }) t′ t′ to ends′ refl (own side t′ to)
         (kept-next t′ ends′ e
         (floated-ends now next a from (lift-exchanged (held n t) ends a from to float-asks) (held n t) ends (k .asks .known .table) (held records t′) ends′ (record { is = e; right = k .within .right }) h l))
-        unlisted
+        (λ z. rw (own side to t′) (float-lists z))
 
   -- an expiry, whose ends are cut
   module _ (a : ℕ) (is : m ≡ Timeout a) where

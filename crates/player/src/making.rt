@@ -1,5 +1,5 @@
-// The successor of an allowed move, with its ends: a time or a floating is made where the table lies, any other move goes to the other buffer. While it lies
-// there the other buffer is free, and lists its live waits for the times to come.
+// The successor of an allowed move, with its ends: a time or a floating is made where the table lies, any other move goes to the other buffer. A time lists the
+// live waits in the other buffer, and the times that follow it find them there, until a move goes to that buffer or changes a place of a wait.
 use crate::cutting::cut_ends;
 use crate::turns::Kept;
 use elapse::waits;
@@ -11,7 +11,7 @@ ghost use Rattle.elapse.specs.Waits.{waitPlaces, Lists};
 ghost use Rattle.player.specs.Turns.{held};
 ghost use Rattle.player.specs.Making.{CanList, CanMake, Makes};
 
-// How many live waits the kept table in t has, all listed in `to`: they are, or they are now.
+// How many live waits the table that is kept in t has: `to` lists them, from before or from now on.
 fn listed(kept: Kept, t: &[u8], ends: &[u16], to: &mut [u8]) -> usize
     requires { ⌜ CanList kept (now t) (now ends) (now to) ⌝ }
     ensures { λ w. ⌜ ((v : Term) → Table (held (kept .records) (now (t .entry))) (now (ends .entry)) v → Lists (now (to .exit)) w (waitPlaces v)) ⌝ }
@@ -24,7 +24,7 @@ fn listed(kept: Kept, t: &[u8], ends: &[u16], to: &mut [u8]) -> usize
 
 // The move m on the table that is kept in t; `from` is the place of its plan, `records` the number of the successor's records, and `to` the other buffer.
 // After a time, which changes no shape, the ends are those of the table before; after a floating they are lifted with the records, and after an expiry, or a
-// meeting that binds nothing, they are cut. What is kept then.
+// meeting that binds nothing, they are cut. A floating over one record, which is right above, changes no place of a wait. What is kept then.
 pub fn make(
     kept: Kept,
     t: &mut [u8],
@@ -53,9 +53,9 @@ pub fn make(
         extrude::lift_ends(ends, a, from);
         return Kept {
             second,
-            listed: false,
+            listed: kept.listed & (a == from + 1),
             records,
-            waits: 0,
+            waits: kept.waits,
         };
     }
     let there = Kept {
