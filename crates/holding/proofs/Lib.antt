@@ -2,4 +2,4 @@ pub mod HeldBack
 pub mod Bits
 pub mod Marking
 pub mod Conflicting
-pub mod Labelled
+pub mod Around

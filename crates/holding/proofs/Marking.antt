@@ -1,32 +1,32 @@
 -- The marks of labels (specs/Holding): the walk that marks the ready kills of a table, and what the marks say of a delimitation.
 use mathlib.Core.Path.{_≡_, refl, sym, ap, _∙_, subst}
 use mathlib.Core.Logic.{_≢_}
-use mathlib.Core.Bool.{Bool, true, false, not, _&&_, _||_}
+use mathlib.Core.Bool.{Bool, true, false, not}
 use mathlib.Core.List.{List}
 use mathlib.Core.Option.{none, some}
 use Prim.Native.Nat.{ℕ, _+_, _*_, _-_, _/_, _≤_, _<_}
 use native.Mathlib.Omega.{arith}
-use lib.Dec.{ltb, eqb}
+use lib.Dec.{eqb}
 use lib.ListN.{length, getD}
-use borrow.Author.Tests.{eqb-true, eqb-false, eq-eqb}
+use borrow.Author.Tests.{eqb-true, eq-eqb}
 use Rattle.cows.specs.Basics.{foundWith, found}
 use Rattle.cows.specs.Terms.{nil, kill, invoke, receive, wait, protection, delimitation, replication, Term, leaf, under, both, size, label, kills, prefixed, delimits}
 use Rattle.cows.specs.Kinds.{root, kindOf, readyKind, open-kinds}
-use Rattle.cows.specs.Places.{spotAt, wayTo, sub, first, encloses}
+use Rattle.cows.specs.Places.{sub, first}
 use Rattle.cows.specs.Format.{word, record16}
 use Rattle.cows.specs.Active.{ready}
-use Rattle.cows.specs.Moves.{readyKill, heldBack}
-use Rattle.cows.proofs.Basics.{clash, bool-case, not-so, and-none, none-found}
+use Rattle.cows.specs.Moves.{readyKill}
+use Rattle.cows.specs.Within.{Right}
+use Rattle.cows.proofs.Basics.{clash, bool-case, not-so, none-found}
 use Rattle.cows.proofs.Fields.{kind-kill, kind-delimitation, first-kill, first-delimitation}
 use Rattle.cows.proofs.Sets.{in-labels, label-range}
-use Rattle.cows.proofs.Stands.{fails-first}
 use Rattle.records.specs.Holds.{Holds}
 use Rattle.records.proofs.StandsIn.{holds-kind, holds-word}
 use Rattle.ways.specs.Known.{Table}
-use Rattle.holding.specs.Holding.{markOf, Marks, Unmarked, KillsMarked, Parties, Sides}
-use Rattle.ways.proofs.KnownTables.{table-size, table-ended, table-inside}
+use Rattle.holding.specs.Holding.{markOf, Marks, Unmarked, killed, KillsMarked, holdsAt, Outside}
+use Rattle.ways.proofs.KnownTables.{table-inside}
 use Rattle.ways.proofs.Seeking.{Seeking, seeking-start, seeking-end, seeking-over}
-use Rattle.holding.proofs.HeldBack.{is-kill, kill-label, kills-labelled, held-none, held-delimitation}
+use Rattle.holding.proofs.HeldBack.{is-kill, kill-label, kills-labelled}
 
 -- a kill and a delimitation by their kinds
 kills-none : (s : Term) → kindOf s ≢ 1 → kills s ≡ none
@@ -119,58 +119,34 @@ module _ (s ends : List ℕ) (t : Term) (h : Table s ends t) (i : ℕ) (l : i < 
                 (λ n. m .marked k q (λ y. z (other-mark k q n ∙ y)));
           }
 
-and-one : (a : Bool) → a ≡ (a && true)
-and-one true = refl
-and-one false = refl
-
 -- what the marks say of the record at place n
-module _ (s ends marks : List ℕ) (a b : ℕ) (d : Sides s ends marks a b) (n : ℕ) (l : n < length s / 16) (t : Term) (h : Parties s ends marks a b t) where
-  known : n < size t
-  known = table-inside s ends t (h .table) n l
-
-  pub held-other : getD s (16 * n) 0 ≢ 8 → heldBack a b n (spotAt t n) ≡ false
-  held-other e = held-none t a b n (delimits-none (sub t n) (λ q. e (holds-kind s t n (h .table .holds) known ∙ q)))
+module _ (s : List ℕ) (t : Term) (h : Holds s t) (n : ℕ) (l : n < size t) where
+  pub holds-other : getD s (16 * n) 0 ≢ 8 → holdsAt t n ≡ false
+  unfolding foundWith
+  holds-other e = ap (foundWith (killed t)) (delimits-none (sub t n) (λ q. e (holds-kind s t n h l ∙ q)))
 
   module _ (e : getD s (16 * n) 0 ≡ 8) (k : ℕ) (at : k ≡ word s (16 * n + 2)) where
     delimited : prefixed delimits (sub t n) ≡ some k
     unfolding prefixed delimits
     delimited =
-        let (x, q) = kind-delimitation (sub t n) (sym (holds-kind s t n (h .table .holds) known) ∙ e) in
-        let y : k ≡ x = at ∙ (holds-word s t n 2 (h .table .holds) known (omega arith) ∙ (ap (λ r. word (record16 (root r)) 2) q ∙ first-delimitation x _)) in
+        let (x, q) = kind-delimitation (sub t n) (sym (holds-kind s t n h l) ∙ e) in
+        let y : k ≡ x = at ∙ (holds-word s t n 2 h l (omega arith) ∙ (ap (λ r. word (record16 (root r)) 2) q ∙ first-delimitation x _)) in
         ap (prefixed delimits) q ∙ ap some (sym y)
 
-    held-is : heldBack a b n (spotAt t n) ≡ ((encloses n (sub t n) a || encloses n (sub t n) b) && found (first (readyKill k) t))
-    held-is =
-        held-delimitation t (h .table .within) a b n k (table-inside s ends t (h .table) a (d .left)) (table-inside s ends t (h .table) b (d .right)) (h .left) (h .right) delimited
+    holds-killed : holdsAt t n ≡ killed t k
+    unfolding foundWith
+    holds-killed = ap (foundWith (killed t)) delimited
 
-    held-not : found (first (readyKill k) t) ≡ false → heldBack a b n (spotAt t n) ≡ false
-    held-not f = held-is ∙ rw f (and-none (encloses n (sub t n) a || encloses n (sub t n) b))
+    pub holds-no-label : k < 49152 → holdsAt t n ≡ false
+    holds-no-label u = holds-killed ∙ not-so (λ f. omega (arith, label-range k (kills-labelled t (h .right) k f)))
 
-    held-clear : Unmarked marks → heldBack a b n (spotAt t n) ≡ false
-    held-clear z = held-not (not-so (λ f. clash (h .marked k (kills-labelled t (h .table .within .right) k f) ∙ f) (ap (λ m. not (eqb m 0)) (z (k - 49152)))))
+    pub holds-marked : (marks : List ℕ) → KillsMarked marks t → 49152 ≤ k → k < 65536 → not (eqb (markOf marks (k - 49152)) 0) ≡ holdsAt t n
+    holds-marked marks m u v = m k (in-labels k u v .2) ∙ sym holds-killed
 
-    pub held-no-label : k < 49152 → heldBack a b n (spotAt t n) ≡ false
-    held-no-label u = held-not (not-so (λ f. let r = label-range k (kills-labelled t (h .table .within .right) k f) in omega arith))
+-- a ready kill is of a label, and of a marked one
+module _ (t : Term) (r : Right t) where
+  pub unlabelled-outside : (a : ℕ) → Outside label t a → Outside (killed t) t a
+  unlabelled-outside a o k f = o k (kills-labelled t r k f)
 
-    module _ (u : 49152 ≤ k) (v : k < 65536) where
-      mark-is : not (eqb (markOf marks (k - 49152)) 0) ≡ found (first (readyKill k) t)
-      mark-is = h .marked k (in-labels k u v .2)
-
-      pub held-unmarked : not (eqb (markOf marks (k - 49152)) 0) ≡ false → heldBack a b n (spotAt t n) ≡ false
-      held-unmarked z = held-not (sym mark-is ∙ z)
-
-      pub held-marked : not (eqb (markOf marks (k - 49152)) 0) ≡ true → (end : ℕ) → end ≡ getD ends n 0 → ((ltb n a && ltb a end) || (ltb n b && ltb b end)) ≡ heldBack a b n (spotAt t n)
-      unfolding encloses
-      held-marked z end q =
-          rw (held-is, sym mark-is ∙ z, q, table-ended s ends t (h .table) n known) (and-one _)
-
--- without a mark nothing holds back
-module _ (s ends marks : List ℕ) (a b : ℕ) (d : Sides s ends marks a b) (t : Term) (h : Parties s ends marks a b t) (z : Unmarked marks) where
-  unheld : (n : ℕ) → n < length s / 16 → heldBack a b n (spotAt t n) ≡ false
-  unheld n l =
-      bool-case _ (eqb (getD s (16 * n) 0) 8) (λ e. held-clear s ends marks a b d n l t h (eqb-true _ _ e) _ refl z)
-      (λ e. held-other s ends marks a b d n l t h (eqb-false _ _ e))
-
-  pub none-held : first (heldBack a b) t ≡ none
-  unfolding wayTo sub
-  none-held = fails-first (heldBack a b) t (λ n l r. clash r (unheld n (omega (arith, table-size s ends t (h .table)))))
+  pub unmarked-outside : (marks : List ℕ) → KillsMarked marks t → Unmarked marks → (a : ℕ) → Outside (killed t) t a
+  unmarked-outside marks m z a k f = clash (m k (kills-labelled t r k f) ∙ f) (ap (λ x. not (eqb x 0)) (z (k - 49152)))

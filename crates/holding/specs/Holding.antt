@@ -3,17 +3,15 @@ use mathlib.Core.Path.{_≡_}
 use mathlib.Core.Logic.{_≢_}
 use mathlib.Core.Bool.{Bool, true, false, not, _&&_}
 use mathlib.Core.List.{List}
-use Prim.Native.Nat.{ℕ, _+_, _*_, _-_, _/_, _%_, _^_, _<_}
+use Prim.Native.Nat.{ℕ, _+_, _*_, _-_, _/_, _%_, _^_}
 use lib.Dec.{eqb}
-use lib.ListN.{length, getD}
+use lib.ListN.{getD}
 use Rattle.cows.specs.Limits.{firstLabel}
-use Rattle.cows.specs.Basics.{found}
-use Rattle.cows.specs.Terms.{Term, label}
-use Rattle.cows.specs.Places.{wayTo, first, enclosed}
+use Rattle.cows.specs.Basics.{foundWith, found}
+use Rattle.cows.specs.Terms.{Term, label, prefixed, delimits}
+use Rattle.cows.specs.Places.{wayTo, sub, first, enclosed}
 use Rattle.cows.specs.Format.{word}
-use Rattle.cows.specs.Active.{live}
 use Rattle.cows.specs.Moves.{readyKill}
-use Rattle.ways.specs.Known.{Table, Known}
 
 -- the mark of the label that is number i of the labels: one bit of a word of 64
 unfoldable pub markOf : List ℕ → ℕ → ℕ
@@ -28,27 +26,21 @@ pub record Marks (before : List ℕ) (i : ℕ) (after : List ℕ) : Type 0 where
 abbrev pub Unmarked : List ℕ → Type 0
 Unmarked marks = (i : ℕ) → markOf marks i ≡ 0
 
+-- a ready kill of k stands in the term
+abbrev pub killed : Term → ℕ → Bool
+killed t k = found (first (readyKill k) t)
+
 -- exactly the labels are marked of which a ready kill stands in the term
 abbrev pub KillsMarked : List ℕ → Term → Type 0
-KillsMarked marks t = (k : ℕ) → label k ≡ true → not (eqb (markOf marks (k - firstLabel)) 0) ≡ found (first (readyKill k) t)
+KillsMarked marks t = (k : ℕ) → label k ≡ true → not (eqb (markOf marks (k - firstLabel)) 0) ≡ killed t k
 
--- Places a and b are live, and the ready kills of the table are marked.
-pub record Parties (s ends marks : List ℕ) (a b : ℕ) (t : Term) : Type 0 where
-  pub table : Table s ends t
-  pub left : live (wayTo t a) ≡ true
-  pub right : live (wayTo t b) ≡ true
-  pub marked : KillsMarked marks t
+-- the record at place n delimits such a label
+abbrev pub holdsAt : Term → ℕ → Bool
+holdsAt t n = foundWith (killed t) (prefixed delimits (sub t n))
 
--- There is such a table, both places are in it, and there is a mark for each label.
-pub record Sides (s ends marks : List ℕ) (a b : ℕ) : Type 0 where
-  pub known : Known s ends
-  pub left : a < length s / 16
-  pub right : b < length s / 16
-  pub room : length marks ≡ 256
-
--- no delimitation of a label encloses place a
-abbrev pub Unlabelled : Term → ℕ → Type 0
-Unlabelled t a = (k : ℕ) → label k ≡ true → enclosed k (wayTo t a) ≡ false
+-- no delimitation of an atom that passes the test encloses place a
+abbrev pub Outside : (ℕ → Bool) → Term → ℕ → Type 0
+Outside test t a = (k : ℕ) → test k ≡ true → enclosed k (wayTo t a) ≡ false
 
 -- the record at place i is a receive on the endpoint of the invoke at place b
 unfoldable pub rivalAt : (s : List ℕ) (b i : ℕ) → Bool

@@ -11,7 +11,7 @@ ghost use Rattle.cows.specs.Terms.{Term, size, label, delimitsAt};
 ghost use Rattle.cows.specs.Places.{sub};
 ghost use Rattle.records.specs.Holds.{Holds};
 ghost use Rattle.ways.specs.Known.{Table, Known};
-ghost use Rattle.holding.specs.Holding.{Unlabelled};
+ghost use Rattle.holding.specs.Holding.{Outside};
 
 // Whether the record at place p is a delimitation of a label.
 fn delimits_label(s: &[u8], p: usize) -> bool
@@ -30,7 +30,7 @@ fn delimits_label(s: &[u8], p: usize) -> bool
 // Whether a delimitation of a label encloses place a.
 pub fn labelled(s: &[u8], ends: &[u16], a: usize) -> bool
     requires { ⌜ Known (now s) (now ends) × (a < length (now s) / 16) ⌝ }
-    ensures { λ r. ⌜ (r ≡ false → (t : Term) → Table (now (s .entry)) (now (ends .entry)) t → Unlabelled t a) ⌝ }
+    ensures { λ r. ⌜ (r ≡ false → (t : Term) → Table (now (s .entry)) (now (ends .entry)) t → Outside label t a) ⌝ }
 {
     let mut p = 0;
     while p < a {

@@ -2,7 +2,7 @@ use borrow.Author.Needs.{needs}
 use mathlib.Core.Path.{sym}
 use Rattle.cows.proofs.Basics.{never}
 use Rattle.records.proofs.Atoms.{no-label}
-use Rattle.holding.proofs.Labelled.{no-delimitation, other-delimitation}
+use Rattle.holding.proofs.Around.{no-delimitation, other-delimitation}
 use Rattle.holding.proofs.labels.delimits_label.Statement.{statement}
 use Rattle.holding.proofs.labels.delimits_label.Tie as tie
 

@@ -1,34 +1,31 @@
 use borrow.Author.Needs.{needs}
-use mathlib.Core.Path.{_≡_, sym, ap, _∙_}
-use mathlib.Core.Bool.{true}
-use mathlib.Core.Option.{none}
-use Prim.Native.Nat.{ℕ, _-_}
+use mathlib.Core.Path.{sym}
+use Prim.Native.Nat.{_-_}
 use native.Mathlib.Omega.{arith}
 use Rattle.cows.specs.Terms.{Term, label}
-use Rattle.cows.specs.Places.{wayTo}
 use Rattle.cows.proofs.Basics.{never}
 use Rattle.ways.specs.Known.{Table}
-use Rattle.ways.specs.Ways.{scopeOf, Over}
+use Rattle.ways.specs.Ways.{Over}
 use Rattle.ways.proofs.KnownTables.{table-ended, table-inside}
-use Rattle.ways.proofs.Descending.{way-root, over-root, step-scope, step-less, at-end}
-use Rattle.holding.proofs.Labelled.{unlabelled}
+use Rattle.ways.proofs.Descending.{over-root, step-less}
+use Rattle.holding.specs.Holding.{Outside}
+use Rattle.holding.proofs.Around.{outside-root, outside-step, outside-end}
 use Rattle.holding.proofs.labels.labelled.Statement.{statement}
 use Rattle.holding.proofs.labels.labelled.Tie as tie
 
 abbrev Inv-loop : tie.InvT-loop
-Inv-loop s ends a p₀ p = (t : Term) → Table s ends t → Over t p a × ((k : ℕ) → label k ≡ true → scopeOf k (wayTo t p) ≡ none)
+Inv-loop s ends a p₀ p = (t : Term) → Table s ends t → Over t p a × Outside label t p
 
 abbrev μ-loop : tie.MeasureT-loop
 μ-loop s ends a p₀ p = a - p
 
 pub labelled-spec : {M : Type 1} → statement M
-unfolding scopeOf
 labelled-spec =
     tie.close
     (tie.spec
     Inv-loop
     μ-loop
-    (λ c t h. (over-root t _ (table-inside _ _ t h _ (c .before .before .pre .1)), λ k v. ap (scopeOf k) (way-root t)))
+    (λ c t h. (over-root t _ (table-inside _ _ t h _ (c .before .before .pre .1)), outside-root label t))
     (λ c κs. omega (arith, c .before .before .before .before .pre .0 .whole))
     (λ c e t h k v. never (sym e))
     (λ c κs. search needs)
@@ -39,7 +36,5 @@ labelled-spec =
     let o = c .before .before .before .before in
     let (v, e) = o .loop .inv t h in
     let x = c .down .ensures t (table-ended _ _ t h) v (omega arith) in
-    (x .over, λ k l. step-scope v x k (c .before .before .delimits-label .ensures (c .before .if1 .left) t (h .holds) (v .inside) k l) ∙ e k l))
-    (λ c e t h.
-    let (v, n) = c .before .loop .inv t h in
-    unlabelled t _ (λ k l. sym (at-end (λ p. scopeOf k (wayTo t p)) v (omega arith)) ∙ n k l)))
+    (x .over, outside-step label t x e (c .before .before .delimits-label .ensures (c .before .if1 .left) t (h .holds) (v .inside))))
+    (λ c e t h. let (v, n) = c .before .loop .inv t h in outside-end label t v (omega arith) n))
