@@ -50,7 +50,7 @@ append-below ps qs m n f g l i h =
     let z : i ≡ length ps + j = omega (arith, ltb-false i (length ps) e) in
     omega (arith, g j (omega (arith, length-append ps qs)), ap (λ k. getD (ps ++ qs) k 0) z ∙ getD-append-add ps qs j 0))
 
-pub waits-below : (p : ℕ) (t : Term) (i : ℕ) → i < length (waitsFrom p t) → getD (waitsFrom p t) i 0 < p + size t
+waits-below : (p : ℕ) (t : Term) (i : ℕ) → i < length (waitsFrom p t) → getD (waitsFrom p t) i 0 < p + size t
 unfolding waitsFrom waitAt open-kinds size
 waits-below p (leaf x) i h = absurd (omega arith)
 waits-below p (under (receive a o ws) t) i h = absurd (omega arith)
