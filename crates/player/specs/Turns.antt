@@ -1,6 +1,6 @@
 -- One move of a list: what is asked and given by its judgement, and by keeping the successor in one of two buffers.
 use mathlib.Core.Path.{_≡_}
-use mathlib.Core.Bool.{true, cond}
+use mathlib.Core.Bool.{Bool, true, cond}
 use mathlib.Core.List.{List}
 use mathlib.Core.Option.{Option, some}
 use Prim.Native.Nat.{ℕ, _*_, _≤_, _<_}
@@ -72,6 +72,10 @@ pub record GoesOn (m : Option Move) (k : Kept) (x y ends x′ y′ ends′ : Lis
   pub replies : (q : RunState) → KeepsRun q x y ends k → r .reply ≡ replyOf (kept q (judgement q m))
   pub counted : (q : RunState) → KeepsRun q x y ends k → sumOf (tallyOf (q .tally)) (r .counts) ≡ tallyOf (turn q m .tally)
   pub few : Small (r .counts) 1
+
+-- what is kept, by its parts
+abbrev pub keptOf : (second listed : Bool) (records waits : ℕ) → Kept
+keptOf second listed records waits = record { second = second; listed = listed; records = records; waits = waits }
 
 -- A turn of the table that is kept in t; `to` is the other buffer. What it asks and gives is that of a move on the kept table.
 abbrev pub Turns : Kept → (t ends to : List ℕ) → Type 0

@@ -31,9 +31,14 @@ fn move_at(
 {
     let at = 6 * i;
     let to = at + 6;
-    let next = turns::move_on(kept, x, y, ends, proposals::read_move(&moves[at..to]));
+    let next = turns::move_on(kept, x, y, ends, &moves[at..to]);
     let reply = next.reply;
-    let after = next.kept;
+    let after = Kept {
+        second: next.kept.second,
+        listed: next.kept.listed,
+        records: next.kept.records,
+        waits: next.kept.waits,
+    };
     let tally = next.counts;
     buffers::put_reply(reply, replies, at);
     Moved { kept: after, tally }

@@ -8,8 +8,8 @@ use stepper::answering::answer;
 use tables::Reply;
 use tally::Tally;
 ghost use Rattle.ways.specs.Known.{Known};
-ghost use Rattle.proposals.specs.Proposals.{moveOf};
-ghost use Rattle.player.specs.Turns.{Accepted, Copied, Judges, Turns, Turned, Going, GoesOn};
+ghost use Rattle.cows.specs.Step.{readMove};
+ghost use Rattle.player.specs.Turns.{Accepted, Copied, Judges, keptOf, Turns, Turned, Going, GoesOn};
 
 // What is kept from move to move: which buffer the table is in, and its records; whether the other buffer lists its live waits, and how many.
 pub struct Kept {
@@ -66,12 +66,28 @@ fn judged(s: &[u8], ends: &[u16], m: Move) -> Tried
     }
 }
 
-// A move on the table that is kept in t, the second buffer or the first; `to` is the other one.
-fn turn(kept: Kept, t: &mut [u8], ends: &mut [u16], m: Move, to: &mut [u8]) -> Next
-    requires { ⌜ Turns kept (now t) (now ends) (now to) ⌝ }
-    ensures { λ r. ⌜ Turned kept (moveOf m) (now (t .entry)) (now (ends .entry)) (now (to .entry)) (now (t .exit)) (now (ends .exit)) (now (to .exit)) r ⌝ }
+// A move on the table of n records that is kept in t, the second buffer or the first; `to` is the other one. What is kept is given part by part, and the move by
+// its bytes: a struct that is handed over just after its parts were stored is read at once, which waits for them.
+fn turn(
+    second: bool,
+    listed: bool,
+    n: usize,
+    waits: usize,
+    t: &mut [u8],
+    ends: &mut [u16],
+    bytes: &[u8],
+    to: &mut [u8],
+) -> Next
+    requires { ⌜ Turns (keptOf second listed n waits) (now t) (now ends) (now to) ⌝ }
+    ensures { λ r. ⌜ Turned (keptOf second listed n waits) (readMove (now (bytes .entry))) (now (t .entry)) (now (ends .entry)) (now (to .entry)) (now (t .exit)) (now (ends .exit)) (now (to .exit)) r ⌝ }
 {
-    let n = kept.records;
+    let m = proposals::read_move(bytes);
+    let kept = Kept {
+        second,
+        listed,
+        records: n,
+        waits,
+    };
     let size = 16 * n;
     let tried = judged(&t[..size], ends, m);
     let reply = tried.reply;
@@ -96,12 +112,16 @@ fn turn(kept: Kept, t: &mut [u8], ends: &mut [u16], m: Move, to: &mut [u8]) -> N
 }
 
 // A move on the table that is kept in one of the buffers.
-pub fn move_on(kept: Kept, x: &mut [u8], y: &mut [u8], ends: &mut [u16], m: Move) -> Next
+pub fn move_on(kept: Kept, x: &mut [u8], y: &mut [u8], ends: &mut [u16], bytes: &[u8]) -> Next
     requires { ⌜ Going (now x) (now y) (now ends) kept ⌝ }
-    ensures { λ r. ⌜ GoesOn (moveOf m) kept (now (x .entry)) (now (y .entry)) (now (ends .entry)) (now (x .exit)) (now (y .exit)) (now (ends .exit)) r ⌝ }
+    ensures { λ r. ⌜ GoesOn (readMove (now (bytes .entry))) kept (now (x .entry)) (now (y .entry)) (now (ends .entry)) (now (x .exit)) (now (y .exit)) (now (ends .exit)) r ⌝ }
 {
-    if kept.second {
-        return turn(kept, y, ends, m, x);
+    let second = kept.second;
+    let listed = kept.listed;
+    let n = kept.records;
+    let waits = kept.waits;
+    if second {
+        return turn(second, listed, n, waits, y, ends, bytes, x);
     }
-    turn(kept, x, ends, m, y)
+    turn(second, listed, n, waits, x, ends, bytes, y)
 }
