@@ -9,7 +9,7 @@ ghost use Rattle.records.specs.Ends.{pickEnd, EndsFrom};
 
 // Where a term ends: at x without children, at a with one, at b with two, by flags of which one is 1. No branch, and no lookup in memory: either would hold up
 // a pass that needs the end for the next record.
-pub fn pick_end(none: u32, one: u32, two: u32, x: u32, a: u32, b: u32) -> u32
+fn pick_end(none: u32, one: u32, two: u32, x: u32, a: u32, b: u32) -> u32
     requires { ⌜ (none + one + two ≡ 1) × (x ≤ 65535) × (a ≤ 65535) × (b ≤ 65535) ⌝ }
     ensures { λ r. ⌜ r ≡ pickEnd (one + 2 * two) x a b ⌝ }
 {
