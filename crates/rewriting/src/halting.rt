@@ -1,4 +1,5 @@
-// Halting: what a kill leaves of the terms around it.
+// Halting: what a kill leaves of the terms around it. Two places are handed on one by one: as a pair they would be read at once just after each was stored, which
+// waits for both stores.
 use crate::end_at;
 use records::children;
 use records::copying::Places;
@@ -31,7 +32,7 @@ pub fn halt_at(s: &[u8], ends: &[u16], at: usize, dst: &mut [u8], to: usize) -> 
         let then = first.1;
         return halt_at(s, ends, next, dst, then);
     }
-    first
+    Places(first.0, first.1)
 }
 
 // Writes the term at byte `at` as a kill leaves it that fires at byte `a` of it: nil for the kill, and what stands beside the way down to it halted.
@@ -51,7 +52,7 @@ pub fn aside_at(s: &[u8], ends: &[u16], at: usize, a: usize, dst: &mut [u8], to:
             let then = first.1;
             return halt_at(s, ends, next, dst, then);
         }
-        return first;
+        return Places(first.0, first.1);
     }
     let first = halt_at(s, ends, at + 16, dst, to + 16);
     let next = first.0;

@@ -74,5 +74,5 @@ pub fn settle_at(
         let then = first.1;
         return settle_at(s, ends, scopes, kills, next, dst, then);
     }
-    first
+    Places(first.0, first.1)
 }
