@@ -4,11 +4,21 @@ use plans::Plan;
 use plans::refused;
 use proposals::Move;
 ghost use Rattle.cows.specs.Terms.{Term};
+ghost use Rattle.cows.specs.Moves.{killAt};
 ghost use Rattle.cows.specs.Step.{proposed};
 ghost use Rattle.ways.specs.Known.{Table, Known};
 ghost use Rattle.plans.specs.Plans.{Planned, Asks, Gives};
 ghost use Rattle.proposals.specs.Proposals.{moveOf};
+ghost use Rattle.kill.specs.Killing.{killScope};
 ghost use Rattle.moves.specs.Places.{planPlace};
+
+// A kill. A function of its own, which the compiler inlines: else all that `judge` is lent would be put into memory on each call, for this one.
+fn judge_kill(s: &[u8], ends: &[u16], a: usize) -> Plan
+    requires { ⌜ Known (now s) (now ends) ⌝ }
+    ensures { λ r. ⌜ ((t : Term) → Table (now (s .entry)) (now (ends .entry)) t → Planned (killAt t a) (killScope t a) r) ⌝ }
+{
+    kill::judge(s, ends, a)
+}
 
 // A move on a known table is judged: whether it is allowed, how many records its successor has, and from which place on the table changes.
 pub fn judge(s: &[u8], ends: &[u16], m: Move) -> Plan
@@ -16,7 +26,7 @@ pub fn judge(s: &[u8], ends: &[u16], m: Move) -> Plan
     ensures { λ r. ⌜ ((t : Term) → Table (now (s .entry)) (now (ends .entry)) t → Planned (proposed (moveOf m) t) (planPlace m t) r) ⌝ }
 {
     match m {
-        Move::Kill(a) => kill::judge(s, ends, a),
+        Move::Kill(a) => judge_kill(s, ends, a),
         Move::Communicate(a, b) => communicate::judge(s, ends, a, b),
         Move::Timeout(a) => timeout::judge(s, ends, a),
         Move::Elapse(d) => elapse::judge(s, d),

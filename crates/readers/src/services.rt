@@ -17,7 +17,7 @@ pub fn service(s: &[u8], ends: &[u16], at: usize, end: usize) -> usize
     let mut i = at;
     while i < end {
         if s[16 * i] == kinds::CHOICE {
-            let fault = guard(s, ends, i);
+            let fault = read_guard(s, ends, i);
             if fault != n {
                 return fault;
             }
@@ -27,6 +27,15 @@ pub fn service(s: &[u8], ends: &[u16], at: usize, end: usize) -> usize
         }
     }
     n
+}
+
+// Reads the guard at a place. A function of its own, which the compiler inlines: what a caller lends on from here is put into memory for the call alone, and what
+// the caller was lent itself stays out of it.
+fn read_guard(s: &[u8], ends: &[u16], at: usize) -> usize
+    requires { ⌜ Readable (now s) (now ends) at ⌝ }
+    ensures { λ r. ⌜ (r ≤ length (now (s .entry)) / 16) × ReadGuard (now (s .entry)) at (getD (now (ends .entry)) at 0) r ⌝ }
+{
+    guard(s, ends, at)
 }
 
 // The guard at a place, with the same answers: a choice of two guards, a nil, or a prefix with a service behind it. What is none of these is a fault. The second
@@ -39,7 +48,7 @@ fn guard(s: &[u8], ends: &[u16], at: usize) -> usize
     let mut g = at;
     let mut k = s[16 * at];
     while k == kinds::CHOICE {
-        let first = guard(s, ends, g + 1);
+        let first = read_guard(s, ends, g + 1);
         if first != n {
             return first;
         }
