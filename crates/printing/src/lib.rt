@@ -5,8 +5,11 @@ use records::wide16;
 use records::word_at;
 use tables::Reply;
 use tally::Tally;
+ghost use mathlib.Core.Path.{_≡_};
 ghost use Prim.Native.Nat.{_+_, _*_, _/_, _≤_, _<_};
-ghost use lib.ListN.{length};
+ghost use lib.ListN.{length, take};
+ghost use Rattle.cows.specs.Tables.{judge};
+ghost use Rattle.player.specs.Loads.{loadReply};
 ghost use Rattle.io.specs.Counts.{Counts};
 
 fn print(text: &[u8]) {
@@ -82,6 +85,7 @@ fn print_refusal(r: Reply) {
 // The load of the table of n records that an output begins with.
 fn load_left(out: &[u8], n: usize) -> usize
     requires { ⌜ 16 * n ≤ length (now out) ⌝ }
+    ensures { λ r. ⌜ r ≡ loadReply (judge (take (16 * n) (now (out .entry)))) .records ⌝ }
 {
     let size = 16 * n;
     let load = player::load(&out[..size]);
