@@ -9,7 +9,8 @@ use lib.Dec.{ltb}
 use borrow.Author.Tests.{ltb-true, ltb-false}
 use lib.ListN.{length, drop, getD, length-append, drop-of-length-le, List·getD-append}
 use lib.Seq.{drop-cons, drop-at, getD-append-add}
-use Rattle.cows.specs.Terms.{Prefix, receive, wait, protection, delimitation, replication, Join, choice, parallel, Term, leaf, under, both, size}
+use Rattle.cows.specs.Basics.{found}
+use Rattle.cows.specs.Terms.{Prefix, receive, wait, protection, delimitation, replication, Join, choice, parallel, Term, leaf, under, both, size, waits}
 use Rattle.cows.specs.Kinds.{prefix, join, root, kindOf, open-kinds}
 use Rattle.cows.specs.Format.{bytes2, byte, word, record16, encode}
 use Rattle.cows.specs.Moves.{lower, elapse}
@@ -31,7 +32,7 @@ use Rattle.elapse.proofs.Lapsing.{stands-interval, put-interval}
 
 -- Time changes no place.
 pub waits-elapse : (d p : ℕ) (t : Term) → waitsFrom p (elapse d t) ≡ waitsFrom p t
-unfolding waitsFrom waitAt elapse lower open-kinds
+unfolding waitsFrom waitAt waits found elapse lower open-kinds
 waits-elapse d p (leaf x) = refl
 waits-elapse d p (under (receive a o ws) t) = refl
 waits-elapse d p (under (wait n) t) = refl
@@ -51,7 +52,7 @@ append-below ps qs m n f g l i h =
     omega (arith, g j (omega (arith, length-append ps qs)), ap (λ k. getD (ps ++ qs) k 0) z ∙ getD-append-add ps qs j 0))
 
 waits-below : (p : ℕ) (t : Term) (i : ℕ) → i < length (waitsFrom p t) → getD (waitsFrom p t) i 0 < p + size t
-unfolding waitsFrom waitAt open-kinds size
+unfolding waitsFrom waitAt waits found open-kinds size
 waits-below p (leaf x) i h = absurd (omega arith)
 waits-below p (under (receive a o ws) t) i h = absurd (omega arith)
 waits-below p (under (wait n) t) zero h = omega arith
@@ -81,7 +82,7 @@ both-apart j l r a c = rw (encode-both j l r) (simp append-assoc)
 
 -- All of a term's live waits lowered, among other bytes: that is what time makes of it.
 lowered-term : (d : ℕ) (t : Term) (a c : List ℕ) (p : ℕ) → length a ≡ 16 * p → lowered d (a ++ (encode t ++ c)) (waitsFrom p t) ≡ a ++ (encode (elapse d t) ++ c)
-unfolding lowered waitsFrom waitAt elapse lower open-kinds
+unfolding lowered waitsFrom waitAt waits found elapse lower open-kinds
 lowered-term d (leaf x) a c p at = refl
 lowered-term d (under (receive x o ws) t) a c p at = refl
 lowered-term d (under (wait n) t) a c p at =
@@ -160,7 +161,7 @@ waitsAhead p [] = []
 waitsAhead p (t ∷ ts) = waitsFrom p t ++ waitsAhead (p + size t) ts
 
 waits-still : (p : ℕ) (t : Term) → Still t → waitsFrom p t ≡ []
-unfolding waitsFrom waitAt open-kinds
+unfolding waitsFrom waitAt waits found open-kinds
 waits-still p (leaf x) h = refl
 waits-still p (under (receive a o ws) t) h = refl
 waits-still p (under (wait n) t) h = absurd (omega (arith, h (omega arith)))
@@ -171,7 +172,7 @@ waits-still p (both choice l r) h = absurd (omega (arith, h (omega arith)))
 waits-still p (both parallel l r) h = absurd (omega (arith, h (omega arith)))
 
 ahead-through : (p : ℕ) (t : Term) (ts : List Term) → Through t → waitsAhead p (t ∷ ts) ≡ waitsAhead (p + 1) (childTerms t ++ ts)
-unfolding waitsAhead waitsFrom waitAt open-kinds size
+unfolding waitsAhead waitsFrom waitAt waits found open-kinds size
 ahead-through p (leaf x) ts h = refl
 ahead-through p (under (receive a o ws) t) ts h = absurd (omega arith)
 ahead-through p (under (wait n) t) ts h = absurd (omega arith)
@@ -243,7 +244,7 @@ module _ (s list₀ : List ℕ) (t : Term) where
         }
 
         pub listing-wait : getD s (16 * p) 0 ≡ 4 → {after : List ℕ} → after ≡ put list (2 * w) (bytes2 p) → Listing s list₀ t after next (w + 1)
-        unfolding behind ahead-past waitsFrom waitAt open-kinds flatMap
+        unfolding behind ahead-past waitsFrom waitAt waits found open-kinds flatMap
         listing-wait k {after} o =
             let (n, q) = kind-wait (f .term) (sym here-kind ∙ k) in record {
               ahead = behind;

@@ -4,18 +4,15 @@ use mathlib.Core.Bool.{cond}
 use mathlib.Core.List.{List, [], _∷_, _++_, flatMap}
 use Prim.Native.Nat.{ℕ, suc, _+_}
 use lib.ListN.{length}
-use Rattle.cows.specs.Terms.{Prefix, receive, wait, protection, delimitation, replication, Term, leaf, under, both, size}
+use Rattle.cows.specs.Basics.{found}
+use Rattle.cows.specs.Terms.{Prefix, Term, leaf, under, both, size, waits}
 use Rattle.cows.specs.Kinds.{prefix, kind, liveKind}
 use Rattle.cows.specs.Format.{bytes2}
 use Rattle.records.specs.Rewrites.{Has, StandsIn}
 
 -- a wait at place p, if the record there is one
 unfoldable pub waitAt : ℕ → Prefix → List ℕ
-waitAt p (receive a o ws) = []
-waitAt p (wait n) = p ∷ []
-waitAt p protection = []
-waitAt p (delimitation d) = []
-waitAt p replication = []
+waitAt p u = cond (found (waits u)) (p ∷ []) []
 
 -- the places of the live waits of a term whose first record is at place p, in order: those that time lowers (cows, elapse)
 unfoldable pub waitsFrom : ℕ → Term → List ℕ

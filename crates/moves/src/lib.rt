@@ -12,7 +12,7 @@ ghost use Rattle.proposals.specs.Proposals.{moveOf};
 ghost use Rattle.kill.specs.Killing.{killScope};
 ghost use Rattle.moves.specs.Places.{planPlace};
 
-// A kill. A function of its own, which the compiler inlines: else all that `judge` is lent would be put into memory on each call, for this one.
+// The judgement of a kill, handed on (docs/DECISIONS.md, The moves on a table).
 fn judge_kill(s: &[u8], ends: &[u16], a: usize) -> Plan
     requires { ⌜ Known (now s) (now ends) ⌝ }
     ensures { λ r. ⌜ ((t : Term) → Table (now (s .entry)) (now (ends .entry)) t → Planned (killAt t a) (killScope t a) r) ⌝ }

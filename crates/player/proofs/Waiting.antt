@@ -4,7 +4,8 @@ use mathlib.Core.List.{[], _∷_}
 use Prim.Native.Nat.{ℕ, suc, _+_}
 use native.Mathlib.Omega.{arith}
 use lib.ListN.{length, length-append}
-use Rattle.cows.specs.Terms.{delimitation, Term, under, size}
+use Rattle.cows.specs.Basics.{found}
+use Rattle.cows.specs.Terms.{delimitation, Term, under, size, waits}
 use Rattle.cows.specs.Kinds.{open-kinds}
 use Rattle.cows.specs.Places.{Frame, inside, leftOf, rightOf, plug, Way, fill, wayTo, sub}
 use Rattle.cows.specs.Records.{opens, ahead}
@@ -35,7 +36,7 @@ alike-fill (f ∷ w) s t h = alike-fill w (plug f s) (plug f t) (alike-plug f s 
 
 -- a delimitation, and its parent right above it, changed places
 alike-over : (d : ℕ) (s : Term) (f : Frame) (w : Way) → Parent f → length (ahead (f ∷ w)) ≡ length (ahead w) + 1 → Alike (under (delimitation d) (plug f s)) (plug f (under (delimitation d) s))
-unfolding plug size waitsFrom waitAt open-kinds ahead opens
+unfolding plug size waitsFrom waitAt waits found open-kinds ahead opens
 alike-over d s (leftOf j t) w onLeft e = record { large = omega arith; waits = λ p. let z : suc p + suc (size s) ≡ suc (suc p) + size s = omega arith in rw z }
 alike-over d s (rightOf j t) w onRight e = absurd (omega (arith, length-append (ahead w) (opens (rightOf j t)), length-nodes t, size-pos t))
 alike-over d s (inside u) w protected e = record { large = refl; waits = λ p. refl }

@@ -12,7 +12,7 @@ ghost use Rattle.player.specs.Turns.{held};
 ghost use Rattle.player.specs.Making.{CanList, CanMake, Makes};
 
 // How many live waits the table that is kept in t has: `to` lists them, from before or from now on.
-fn listed(kept: Kept, t: &[u8], ends: &[u16], to: &mut [u8]) -> usize
+fn count_waits(kept: Kept, t: &[u8], ends: &[u16], to: &mut [u8]) -> usize
     requires { ⌜ CanList kept (now t) (now ends) (now to) ⌝ }
     ensures { λ w. ⌜ ((v : Term) → Table (held (kept .records) (now (t .entry))) (now (ends .entry)) v → Lists (now (to .exit)) w (waitPlaces v)) ⌝ }
 {
@@ -39,7 +39,7 @@ pub fn make(
 {
     let second = kept.second;
     if let Move::Elapse(d) = m {
-        let w = listed(kept, t, ends, to);
+        let w = count_waits(kept, t, ends, to);
         waits::lower_listed(t, to, w, d);
         return Kept {
             second,

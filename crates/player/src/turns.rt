@@ -67,7 +67,7 @@ fn judged(s: &[u8], ends: &[u16], m: Move) -> Tried
 }
 
 // A move on the table of n records that is kept in t, the second buffer or the first; `to` is the other one. What is kept is given part by part, and the move by
-// its bytes: a struct that is handed over just after its parts were stored is read at once, which waits for them.
+// its bytes (docs/DECISIONS.md, A list of moves).
 fn turn(
     second: bool,
     listed: bool,

@@ -29,8 +29,7 @@ pub fn service(s: &[u8], ends: &[u16], at: usize, end: usize) -> usize
     n
 }
 
-// Reads the guard at a place. A function of its own, which the compiler inlines: what a caller lends on from here is put into memory for the call alone, and what
-// the caller was lent itself stays out of it.
+// The guard at a place, handed on to the guard reader (docs/DECISIONS.md, The moves on a table).
 fn read_guard(s: &[u8], ends: &[u16], at: usize) -> usize
     requires { ⌜ Readable (now s) (now ends) at ⌝ }
     ensures { λ r. ⌜ (r ≤ length (now (s .entry)) / 16) × ReadGuard (now (s .entry)) at (getD (now (ends .entry)) at 0) r ⌝ }

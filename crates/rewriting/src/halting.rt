@@ -1,5 +1,4 @@
-// Halting: what a kill leaves of the terms around it. Two places are handed on one by one: as a pair they would be read at once just after each was stored, which
-// waits for both stores.
+// Halting: what a kill leaves of the terms around it. The two places are handed back one by one (docs/DECISIONS.md, Rewriting).
 use crate::end_at;
 use records::children;
 use records::copying::Places;

@@ -25,7 +25,7 @@ const ALL: u32 = 4294967295;
 
 const HIGH: u32 = 4294901760;
 
-// By kind: how many terms more the stack has after the record, and one; masks of the place behind it, of its first child and of its second, as numbers below.
+// By kind: two less the number of children; masks of the place behind the record, and of the numbers of its first child and its second.
 const MORE: [u32; 10] = [2, 2, 2, 1, 1, 0, 0, 1, 1, 1];
 
 const BEHIND: [u32; 10] = [65535, 65535, 65535, 0, 0, 0, 0, 0, 0, 0];

@@ -13,9 +13,9 @@ make-spec =
     (tie.spec
     (λ c. search needs)
     (λ c κs. let x = c .before .before .before .before .before .before .before .before .before .pre in record { known = x .asks .known; lists = x .lists; inside = x .inside; room = x .room })
-    (λ c κs. time-asked _ _ _ _ _ _ _ (c .before .before .before .before .before .before .before .before .before .before .before .before .before .before .pre) _ _ (c .before .before .before .before .listed .ensures))
+    (λ c κs. time-asked _ _ _ _ _ _ _ (c .before .before .before .before .before .before .before .before .before .before .before .before .before .before .pre) _ _ (c .before .before .before .before .count-waits .ensures))
     (λ c. search needs) (λ c. search needs) (λ c. search needs)
-    (λ c. makes-time _ _ _ _ _ _ _ (c .before .before .before .before .before .before .before .before .before .before .before .before .before .before .before .before .before .pre) _ (c .before .before .before .before .before .before .before .before .before .before .before .before .m .given .1) _ _ _ (c .before .before .before .before .before .before .before .listed .ensures) (c .before .before .lower-listed .ensures))
+    (λ c. makes-time _ _ _ _ _ _ _ (c .before .before .before .before .before .before .before .before .before .before .before .before .before .before .before .before .before .pre) _ (c .before .before .before .before .before .before .before .before .before .before .before .before .m .given .1) _ _ _ (c .before .before .before .before .before .before .before .count-waits .ensures) (c .before .before .lower-listed .ensures))
     (λ c. search needs)
     (λ c κs. let (b, _, i) = float-inside _ _ _ _ _ _ _ (c .before .before .before .before .before .before .before .before .pre) _ (c .before .before .m2 .given .1) in (b, i))
     (λ c κs. float-ends _ _ _ _ _ _ _ (c .before .before .before .before .before .before .before .before .before .before .before .before .pre) _ (c .before .before .before .before .before .before .m2 .given .1))

@@ -1,10 +1,10 @@
 use borrow.Author.Needs.{needs}
 use Rattle.player.proofs.Successors.{list-room, listed-before}
-use Rattle.player.proofs.making.listed.Statement.{statement}
-use Rattle.player.proofs.making.listed.Tie as tie
+use Rattle.player.proofs.making.count_waits.Statement.{statement}
+use Rattle.player.proofs.making.count_waits.Tie as tie
 
-pub listed-spec : {M : Type 1} → statement M
-listed-spec =
+pub count-waits-spec : {M : Type 1} → statement M
+count-waits-spec =
     tie.close
     (tie.spec
     (λ c. listed-before _ _ _ _ (c .before .before .before .before .pre) (c .if1 .taken))
