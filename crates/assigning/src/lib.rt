@@ -1,4 +1,6 @@
 // Assigning: the role of each record (roles), in one walk over the ready records and one over the live ones.
+#![tactic(auto)]
+
 ghost use Rattle.std.specs.Prelude.{◌≡◌, cond, ℕ, ◌/◌, ◌<◌, ◌≤◌, max, eqb, length, get_or};
 ghost use Rattle.cows.specs.Terms.{Term, size};
 ghost use Rattle.cows.specs.Kinds.{root};

@@ -1,5 +1,7 @@
 // Bindings: the variables of an Orc script (32): the first record that uses one outside its scope, or binds one a second time. Each variable has a mark: no record so far
 // binds it, or one does, or one does and its scope is around.
+#![tactic(auto)]
+
 ghost use Rattle.std.specs.Prelude.{◌≡◌, true, [], ◌+◌, ◌*◌, ◌-◌, ◌<◌, ◌≤◌, length};
 ghost use Rattle.cows.specs.Limits.{first_variable};
 ghost use Rattle.cows.specs.Terms.{variable};

@@ -1,5 +1,7 @@
 // Chains: the records of a table that carry a mark, in classes by their first two atoms, each chain from the first place to the last. `heads` has for a class
 // the place behind its first record, and `next` for a record the place behind the next one of its class, or 0.
+#![tactic(auto)]
+
 ghost use Rattle.std.specs.Prelude.{◌≡◌, ℕ, ◌+◌, ◌*◌, ◌/◌, ◌<◌, ◌≤◌, length};
 ghost use Rattle.cows.specs.Limits.{max_records, max_bytes};
 ghost use Rattle.cows.specs.Terms.{Term};

@@ -1,4 +1,6 @@
 // Clauses: the records that the clauses of a translation write before, between and behind those of their parts (orc, specs/Translation). Places are bytes of the output.
+#![tactic(auto)]
+
 ghost use Rattle.std.specs.Prelude.{◌≡◌, [], ◌∷◌, ◌++◌, ◌+◌, ◌*◌, ◌≤◌, length};
 ghost use Rattle.cows.specs.Terms.{receive, delimitation, parallel};
 ghost use Rattle.cows.specs.Kinds.{basic, prefix, join};

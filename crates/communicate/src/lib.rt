@@ -1,5 +1,7 @@
 // Communicate (meeting): a live receive and a live invoke that fits it. The invoke becomes nil, the receive, with the whole choice around it, its
 // continuation, and each variable that is bound takes its value throughout its delimitation, which goes.
+#![tactic(auto)]
+
 ghost use Rattle.std.specs.Prelude.{◌≡◌, ℕ, ◌/◌, ◌<◌, length};
 ghost use Rattle.cows.specs.Terms.{Term};
 ghost use Rattle.cows.specs.Places.{way_to};
@@ -20,7 +22,7 @@ use scoping::all_in_scope;
 use ways::{place_at, scope};
 
 // What the parties are asked: they may meet and bind so many variables, or the refusal.
-#[derive(Drop)]
+#[derive(Clone, Copy)]
 enum Asked {
     Agreed(usize),
     Barred(Judgement),

@@ -42,7 +42,8 @@ module _ {A : Type 0} (wants : A → ℕ) where
   end_add (suc a) w n (r ∷ rs) e h =
       let p : wants r + (a + w) ≡ wants r + a + w = omega arith in
       let q : e - n ≡ suc (e - suc n) = omega (arith, end_bounds (wants r + a) (suc n) rs e h) in
-      rw (suc-add a w, p, q) (end_add (wants r + a) w (suc n) rs e h)
+      ap (λ m. end_of wants m n (r ∷ rs)) (suc-add a w)
+      ∙ (ap (λ m. end_of wants m (suc n) rs) p ∙ (end_add (wants r + a) w (suc n) rs e h ∙ ap (λ k. end_of wants w e (drop k (r ∷ rs))) (sym q)))
 
   pub end_short : (a w n : ℕ) (rs : List A) → end_of wants a n rs ≡ none → end_of wants (a + w) n rs ≡ none
   unfolding end_of
@@ -51,7 +52,7 @@ module _ {A : Type 0} (wants : A → ℕ) where
   end_short (suc a) w n [] h = rw (suc-add a w)
   end_short (suc a) w n (r ∷ rs) h =
       let p : wants r + (a + w) ≡ wants r + a + w = omega arith in
-      rw (suc-add a w, p) (end_short (wants r + a) w (suc n) rs h)
+      ap (λ m. end_of wants m n (r ∷ rs)) (suc-add a w) ∙ (ap (λ m. end_of wants m (suc n) rs) p ∙ end_short (wants r + a) w (suc n) rs h)
 
   -- the records of a terms, and others behind them
   pub end_append : (a w n : ℕ) (rs ns : List A) → end_of wants a n rs ≡ some (n + length rs) → end_of wants (a + w) n (rs ++ ns) ≡ end_of wants w (n + length rs) ns

@@ -104,7 +104,7 @@ balanced_turn x l r m h = go m refl (step_term r.table m 32768) refl
 balanced_run : (x l : ℕ) (r : RunState) (ms : List (List ℕ)) → Balanced x l r → Balanced x (l + losses r ms) (run r ms)
 unfolding run losses
 balanced_run x l r [] h = omega arith
-balanced_run x l r (m ∷ ms) h = omega (arith, balanced_run x _ (turn r (read_move m)) ms (balanced_turn x l r (read_move m) h))
+balanced_run x l r (m ∷ ms) h = omega (arith, balanced_run x (l + lost_by r.table (read_move m) (judgement r (read_move m))) (turn r (read_move m)) ms (balanced_turn x l r (read_move m) h))
 
 -- Demand 3: the balance of every list of moves, refused ones included, and the inequality.
 pub run_balance : (t : Term) (ms : List (List ℕ)) → Balanced (load t) (losses (start t) ms) (run (start t) ms)

@@ -1,5 +1,7 @@
 // Deepest: no unfolding and no floating that would make the table too deep keeps its role (20 by depth). The depth of each term is found from the last place
 // to the first; the way to each place, and how deep what stands beside it reaches, from the first to the last.
+#![tactic(auto)]
+
 ghost use Rattle.std.specs.Prelude.{◌≡◌, cond, ◌&&◌, ◌||◌, ℕ, ◌+◌, ◌*◌, ◌/◌, ◌<◌, ◌≤◌, max, eqb, length, get_or};
 ghost use Rattle.cows.specs.Terms.{Term, size, depth};
 ghost use Rattle.records.specs.Rewrites.{StandsIn};

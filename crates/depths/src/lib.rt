@@ -1,4 +1,6 @@
 // Depths: whether the term at a place is too deep, and the first record that is (refusal 4), each by recursion over the records.
+#![tactic(auto)]
+
 ghost use Rattle.std.specs.Prelude.{◌≡◌, ◌*◌, ◌/◌, max, ltb, length};
 ghost use Rattle.cows.specs.Terms.{Term, depth};
 ghost use Rattle.records.specs.Answers.{placeOr};

@@ -1,4 +1,6 @@
 // Elapse (time): every live wait falls by d, and to 0 if it holds less.
+#![tactic(auto)]
+
 pub mod waits;
 
 ghost use Rattle.std.specs.Prelude.{◌≡◌, List, ◌++◌, ℕ, ◌*◌, ◌-◌, ◌≤◌, length, take, drop};

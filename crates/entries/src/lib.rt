@@ -1,4 +1,6 @@
 // Entries: the moves of a list in their six bytes, and those of the places that have a role.
+#![tactic(auto)]
+
 ghost use Rattle.std.specs.Prelude.{◌≡◌, ◌+◌, ◌<◌, ◌≤◌, length};
 ghost use Rattle.cows.specs.Papers.{move_bytes};
 ghost use Rattle.records.specs.Rewrites.{put};

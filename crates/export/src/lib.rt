@@ -1,5 +1,7 @@
 // Export: the public operations under C names, for the static library that C and Rust programs link. A reply comes back as one number, so that
 // no lent buffer can be too short for it.
+#![tactic(auto)]
+
 ghost use Rattle.std.specs.Prelude.{◌≡◌};
 ghost use Rattle.cows.specs.Tables.{judge};
 ghost use Rattle.tables.specs.Verdict.{check_reply};

@@ -1,4 +1,6 @@
 // Extents: how large the translation of an Orc script is, before a byte of it is written (20 and 21).
+#![tactic(auto)]
+
 ghost use Rattle.std.specs.Prelude.{◌≡◌, ◌≤◌};
 ghost use Rattle.extents.specs.Extents.{added_by, deepened_by, Measurable, Measured};
 
@@ -6,7 +8,7 @@ use depths::larger;
 use scripts::kinds;
 
 // Of an expression: the place behind it, and the records and the depth of its translation.
-#[derive(Drop)]
+#[derive(Clone, Copy)]
 pub struct Extent {
     pub end: usize,
     pub records: usize,

@@ -1,4 +1,6 @@
 // Extrude (floating): a live delimitation of a value or a variable changes places with the record above it, a parallel, a protection or a delimitation.
+#![tactic(auto)]
+
 ghost use Rattle.std.specs.Prelude.{◌≡◌, ℕ, ◌+◌, ◌*◌, ◌≤◌, ◌<◌, length};
 ghost use Rattle.cows.specs.Limits.{max_records};
 ghost use Rattle.cows.specs.Terms.{Term};

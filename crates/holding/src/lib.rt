@@ -1,5 +1,7 @@
 // What holds a communication back whose parties match: ready kills (refusal 14, here) and tighter receives (15, conflicts).
 // 14: the first delimitation of a label that encloses a party of a meeting and holds a ready kill of the label.
+#![tactic(auto)]
+
 pub mod conflicts;
 mod labels;
 

@@ -1,6 +1,8 @@
 // Index: a quick test of scopes that only ever accepts (refusals 6 and 7; of refusal 2, that no variable stands twice in a pattern), with an index of the
 // delimitations: each atom has a slot there, and where two delimited atoms meet in one the test gives up. The lists of the delimitations and of the records that
 // use atoms are the caller's.
+#![tactic(auto)]
+
 ghost use Rattle.std.specs.Prelude.{◌≡◌, true, ℕ, ◌+◌, ◌*◌, ◌-◌, ◌/◌, ◌<◌, ◌≤◌, length, get_or};
 ghost use Rattle.cows.specs.Limits.{max_records};
 ghost use Rattle.ranges.specs.Lists.{Inside};

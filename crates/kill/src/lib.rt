@@ -1,4 +1,6 @@
 // Kill (stop fires): a live kill of k becomes nil, and what is parallel to it inside [k] is halted.
+#![tactic(auto)]
+
 mod losses;
 
 ghost use Rattle.cows.specs.Terms.{Term};

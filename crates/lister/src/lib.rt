@@ -1,4 +1,6 @@
 // Lister: every open move of a table at once, any bytes for it (request 2026-01): the reply, and the moves in the list's buffer.
+#![tactic(auto)]
+
 ghost use Rattle.std.specs.Prelude.{◌≡◌, ℕ, ◌+◌, ◌*◌, ◌/◌, ◌<◌, ◌≤◌, min, length, get_or};
 ghost use Rattle.cows.specs.Limits.{max_records};
 ghost use Rattle.cows.specs.Terms.{Term};

@@ -1,4 +1,6 @@
 // Matching: whether a receive fits an invoke, by the atoms of their records, and what differs if not. The meeting, the conflict test and the list of open moves ask it.
+#![tactic(auto)]
+
 pub mod taking;
 
 ghost use Rattle.std.specs.Prelude.{◌≡◌, true, ◌+◌, ◌*◌, ◌≤◌, ◌<◌, length};
@@ -11,7 +13,7 @@ ghost use Rattle.matching.specs.Matching.{mismatch_of, fit_of, agree, first_apar
 use records::{atom_at, closed, equal, is_variable, wide8, word_at};
 
 // What differs, the lowest number first; a slot of the tuples by its index.
-#[derive(Drop)]
+#[derive(Clone, Copy)]
 pub enum Difference {
     Unset,
     Endpoint,
@@ -20,7 +22,7 @@ pub enum Difference {
 }
 
 // The tuples match and bind so many variables, or this differs.
-#[derive(Drop)]
+#[derive(Clone, Copy)]
 pub enum Fit {
     Binds(usize),
     Differs(Difference),

@@ -1,4 +1,6 @@
 // Meetings: the pairs of a receive and an invoke that may meet now, by a then b: 12, 13 and 15 of each pair on one class of endpoints.
+#![tactic(auto)]
+
 ghost use Rattle.std.specs.Prelude.{◌≡◌, List, ℕ, ◌+◌, ◌/◌, ◌*◌, ◌<◌, ◌≤◌, min, max, length, get_or, set};
 ghost use Rattle.cows.specs.Terms.{Term};
 ghost use Rattle.cows.specs.Format.{word};
@@ -59,7 +61,7 @@ pub fn find_scopes(
 
 // 13, from the side of a receive: the invoke stands at `low` or behind it and before `end`, and the delimitation of the value in slot i, if there is one,
 // before that of the variable there: the place behind it is below `top` i.
-#[derive(Drop)]
+#[derive(Clone, Copy)]
 pub struct Reach {
     low: usize,
     end: usize,

@@ -1,4 +1,6 @@
 // Moves: the six moves on a well-formed table, of a crate each. A move is judged first, which writes nothing, and then its successor is written.
+#![tactic(auto)]
+
 ghost use Rattle.cows.specs.Terms.{Term};
 ghost use Rattle.cows.specs.Moves.{kill_at};
 ghost use Rattle.cows.specs.Step.{proposed};

@@ -1,4 +1,6 @@
 // Nesting: how the records of an Orc script lie in each other: the lowest place of a wrong shape and of a depth over 64 (31).
+#![tactic(auto)]
+
 ghost use Rattle.std.specs.Prelude.{◌≡◌, ◌/◌, ◌≤◌, ltb, length};
 ghost use Rattle.cows.specs.Basics.{place_if};
 ghost use Rattle.records.specs.Answers.{foundOf};

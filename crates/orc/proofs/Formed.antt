@@ -60,7 +60,7 @@ right_mono (asymmetric x) E F i = i
 
 pub wider_scope : (K E F : ℕ → Bool) → Inside E F → (e : Orc) → InScope K E e → InScope K F e
 wider_scope K E F i (act x) h = all_map _ _ (λ a f k. i a (f k)) (act_uses x) h
-wider_scope K E F i (composed c f g) h = (wider_scope K _ _ (left_mono c E F i) f h.0, wider_scope K _ _ (right_mono c E F i) g h.1)
+wider_scope K E F i (composed c f g) h = (wider_scope K (over_left c E) (over_left c F) (left_mono c E F i) f h.0, wider_scope K (over_right c E) (over_right c F) (right_mono c E F i) g h.1)
 
 -- with one atom more around: that atom, and the others
 here : (x : ℕ) (E : ℕ → Bool) → (eqb x x || E x) ≡ true

@@ -1,4 +1,6 @@
 // Overlaps: the first of the listed scopes that lies inside another one, holds it, or is the same.
+#![tactic(auto)]
+
 ghost use Rattle.std.specs.Prelude.{◌≡◌, ◌<◌, [], length};
 ghost use Rattle.cows.specs.Basics.{any};
 ghost use Rattle.overlaps.specs.Overlaps.{overlap, first_overlap, AllBefore};

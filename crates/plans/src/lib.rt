@@ -1,10 +1,12 @@
 // Plans: what judging a move answers, and what two moves share, the cut that makes way for a continuation.
+#![tactic(auto)]
+
 pub mod cutting;
 
 ghost use Rattle.std.specs.Prelude.{◌≡◌};
 
 // What the proposer of a move is told: the number of the successor's records, or the refusal of 10 to 18, or 20, and its place.
-#[derive(Drop)]
+#[derive(Clone, Copy)]
 pub enum Judgement {
     Allowed(usize),
     Unread,
@@ -20,7 +22,7 @@ pub enum Judgement {
 }
 
 // A judgement, and the place from which the table changes.
-#[derive(Drop)]
+#[derive(Clone, Copy)]
 pub struct Plan {
     pub judgement: Judgement,
     pub from: usize,

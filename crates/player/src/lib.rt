@@ -1,4 +1,6 @@
 // Player: a list of moves on a table, each on the table that the accepted ones before it left; the load of a table.
+#![tactic(auto)]
+
 mod buffers;
 mod cutting;
 mod loads;
@@ -21,7 +23,7 @@ use tables::Reply;
 use tally::Tally;
 
 // Play's own reply, and the tally of its accepted moves.
-#[derive(Drop)]
+#[derive(Clone, Copy)]
 pub struct Played {
     pub reply: Reply,
     pub tally: Tally,

@@ -11,7 +11,7 @@ use crate::{buffers, turns};
 use tally::Tally;
 
 // A move made, or a night of them: what is kept then, and the tally.
-#[derive(Drop)]
+#[derive(Clone, Copy)]
 pub struct Moved {
     pub kept: Kept,
     pub tally: Tally,

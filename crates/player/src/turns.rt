@@ -12,7 +12,7 @@ use tables::Reply;
 use tally::Tally;
 
 // What is kept from move to move: which buffer the table is in, and its records; whether the other buffer lists its live waits, and how many.
-#[derive(Drop)]
+#[derive(Clone, Copy)]
 pub struct Kept {
     pub second: bool,
     pub listed: bool,
@@ -21,7 +21,7 @@ pub struct Kept {
 }
 
 // A judged move: the reply to it, the place of its plan, and what it counts.
-#[derive(Drop)]
+#[derive(Clone, Copy)]
 pub struct Tried {
     pub reply: Reply,
     pub from: usize,
@@ -29,7 +29,7 @@ pub struct Tried {
 }
 
 // A move's end: the reply to it, with the records then kept; what is kept; and what it counts.
-#[derive(Drop)]
+#[derive(Clone, Copy)]
 pub struct Next {
     pub reply: Reply,
     pub kept: Kept,

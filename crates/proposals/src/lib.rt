@@ -1,4 +1,6 @@
 // Proposals: a move as it is proposed, in six bytes: kind, a zero byte, number a, number b, which only a communication uses. It is read once, here.
+#![tactic(auto)]
+
 ghost use Rattle.std.specs.Prelude.{◌≡◌};
 ghost use Rattle.cows.specs.Step.{right_move, read_move};
 ghost use Rattle.proposals.specs.Proposals.{move_of};
@@ -6,7 +8,7 @@ ghost use Rattle.proposals.specs.Proposals.{move_of};
 use records::{wide16, word_at};
 
 // A move as it is read off its six bytes, or none.
-#[derive(Drop)]
+#[derive(Clone, Copy)]
 pub enum Move {
     Kill(usize),
     Communicate(usize, usize),

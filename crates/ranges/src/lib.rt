@@ -1,5 +1,7 @@
 // Ranges: the rules for single records (refusal 2) as ranges of the eight 16-bit fields of a record, in a row for each kind and count: a quick test that only
 // ever accepts, without branches on the kind; and the first record that breaks them.
+#![tactic(auto)]
+
 ghost use Rattle.std.specs.Prelude.{◌≡◌, ℕ, ◌+◌, ◌*◌, ◌/◌, ◌<◌, true, length, slice_index};
 ghost use Rattle.cows.specs.Format.{records};
 ghost use Rattle.cows.specs.Tables.{first_wrong};

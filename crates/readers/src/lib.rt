@@ -1,5 +1,7 @@
 // The table reader: the lent records of a table together with the place it has reached. It reads one whole term from there, through the service reader, and
 // stands behind it. A function over the struct takes it apart and leaves the work to one on the slice and the place; `read_on` has plain parameters.
+#![tactic(auto)]
+
 mod services;
 
 ghost use Rattle.std.specs.Prelude.{◌≡◌};
@@ -8,7 +10,7 @@ ghost use Rattle.readers.specs.Terms.{ReadTo};
 
 use records::wide16;
 
-#[derive(Drop)]
+#[derive(Clone, Copy)]
 pub struct Reader<'a> {
     pub table: &'a [u8],
     pub at: usize,

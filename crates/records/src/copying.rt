@@ -6,7 +6,7 @@ ghost use Rattle.cows.specs.Format.{bytes2, record16};
 ghost use Rattle.records.specs.Rewrites.{put, Passes, Rewritable, Rewrites, unchanged, gone};
 
 // Where reading and writing go on.
-#[derive(Drop)]
+#[derive(Clone, Copy)]
 pub struct Places(pub usize, pub usize);
 
 // Copies `len` bytes of src from byte `from` on into dst from byte `to` on.

@@ -1,4 +1,6 @@
 // Records: atoms and their three sets, the numbers in a record's bytes, and how many children a kind has.
+#![tactic(auto)]
+
 pub mod copying;
 pub mod ends;
 pub mod kinds;
@@ -11,16 +13,16 @@ ghost use Rattle.cows.specs.Format.{word};
 ghost use Rattle.records.specs.Atoms.{class_of, number_of, is_variable, closed_at, takes_variable, image_of};
 
 // The three disjoint sets of atoms, each with a type of its own. Atoms are made only by the classifying read.
-#[derive(Drop)]
+#[derive(Clone, Copy)]
 pub struct Value(u16);
 
-#[derive(Drop)]
+#[derive(Clone, Copy)]
 pub struct Variable(u16);
 
-#[derive(Drop)]
+#[derive(Clone, Copy)]
 pub struct Label(u16);
 
-#[derive(Drop)]
+#[derive(Clone, Copy)]
 pub enum Atom {
     None,
     Value(Value),
@@ -29,7 +31,7 @@ pub enum Atom {
 }
 
 // A place, or none.
-#[derive(Drop)]
+#[derive(Clone, Copy)]
 pub enum Found {
     At(usize),
     Nothing,
@@ -133,7 +135,7 @@ pub fn label_index(k: Label) -> usize
 }
 
 // What is taken in a communication: by a variable a value, or nothing.
-#[derive(Drop)]
+#[derive(Clone, Copy)]
 pub enum Takes {
     Pair(Variable, Value),
     Nothing,

@@ -1,4 +1,6 @@
 // What moves do to atoms: the atoms delimited in a body become new ones in its copy (unfolding), and variables become values (communication).
+#![tactic(auto)]
+
 pub mod binding;
 pub mod fields;
 pub mod names;

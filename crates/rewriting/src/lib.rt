@@ -1,4 +1,6 @@
 // Rewriting terms: the recursions of halting. Each reads the term at a byte of one table and writes what becomes of it at a byte of another.
+#![tactic(auto)]
+
 pub mod halting;
 
 ghost use Rattle.std.specs.Prelude.{◌≡◌, ◌*◌, ◌/◌, ◌<◌, length, get_or};

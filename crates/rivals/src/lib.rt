@@ -1,4 +1,6 @@
 // Rivals: for each invoke that may be a party of a meeting, the fewest variables that a ready receive binds which fits it (15).
+#![tactic(auto)]
+
 ghost use Rattle.std.specs.Prelude.{◌≡◌, ℕ, ◌/◌, ◌<◌, ◌≤◌, length, get_or};
 ghost use Rattle.cows.specs.Terms.{Term, size};
 ghost use Rattle.records.specs.Holds.{Holds};

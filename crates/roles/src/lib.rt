@@ -1,4 +1,6 @@
 // Roles: what a record is to the list of open moves, as one number for each place (specs/Roles).
+#![tactic(auto)]
+
 pub const NONE: u8 = 0;
 
 // In a move of its own.

@@ -1,6 +1,6 @@
 -- The record check by kind: what the code tests of 16 bytes is what the kind's row says (specs/Format, kinds).
 use mathlib.Core.Path.{◌≡◌, refl, sym, ap, ◌∙◌}
-use mathlib.Core.Bool.{Bool, true, false, cond, not, ◌&&◌, ◌||◌, and_true, and-false, and_assoc, and_comm, or_false, or_assoc, and-or_distrib_left}
+use mathlib.Core.Bool.{Bool, true, false, cond, not, ◌&&◌, ◌||◌, and-true, and-false, and_assoc, and_comm, or-false, or_assoc, and-or_distrib_left}
 use mathlib.Core.List.{List, [], ◌∷◌, ◌++◌}
 use Prim.Native.Nat.{ℕ, zero, suc, ◌+◌, ◌*◌, ◌/◌, ◌%◌, ◌≤◌, ◌<◌}
 use native.Mathlib.Omega.{arith}
@@ -46,7 +46,7 @@ and_under false f = refl
 -- Atoms are ranges of numbers.
 range-join : (l m h a : ℕ) → l ≤ m → m ≤ h → (in_range l m a || in_range m h a) ≡ in_range l h a
 range-join l m h a p q =
-    lt_case _ a m (λ k. rw (lt-ltb a m k, lt-leb m a k, lt-ltb a h (omega arith)) (or_false _))
+    lt_case _ a m (λ k. rw (lt-ltb a m k, lt-leb m a k, lt-ltb a h (omega arith)) (or-false _))
     (λ k. rw (le-ltb a m k, le-leb m a k, le-leb l a (omega arith)))
 
 pub datum-range : (a : ℕ) → datum a ≡ in_range 1 49152 a
@@ -63,16 +63,16 @@ unfolding slot_right unused
 slot_code n j a = rw (datum-range a) (go (ltb j n))
   where
     go : (b : Bool) → ((b && in_range 1 49152 a) || (not b && eqb a 0)) ≡ cond b (in_range 1 49152 a) (eqb a 0)
-    go true = or_false _
+    go true = or-false _
     go false = refl
 
 slots_data : (n a b c d : ℕ) → (leb n 4 && (slot_right n 0 a && slot_right n 1 b && slot_right n 2 c && slot_right n 3 d)) ≡ data4 n (a ∷ b ∷ c ∷ d ∷ [])
 unfolding slot_right data4 every
-slots_data zero a b c d = simp (and_assoc, and_true)
-slots_data (suc zero) a b c d = simp (and_assoc, and_true)
-slots_data (suc (suc zero)) a b c d = simp (and_assoc, and_true)
-slots_data (suc (suc (suc zero))) a b c d = simp (and_assoc, and_true)
-slots_data (suc (suc (suc (suc zero)))) a b c d = simp (and_assoc, and_true)
+slots_data zero a b c d = simp (and_assoc, and-true)
+slots_data (suc zero) a b c d = simp (and_assoc, and-true)
+slots_data (suc (suc zero)) a b c d = simp (and_assoc, and-true)
+slots_data (suc (suc (suc zero))) a b c d = simp (and_assoc, and-true)
+slots_data (suc (suc (suc (suc zero)))) a b c d = simp (and_assoc, and-true)
 slots_data (suc (suc (suc (suc (suc n))))) a b c d = rw (lt-leb (suc (suc (suc (suc (suc n))))) 4 (omega arith))
 
 -- No variable twice: four slots compared in pairs; the zeros behind a tuple do not matter.
@@ -80,7 +80,7 @@ pub distinct_code : (a b c d : ℕ)
     → (not (variable a && eqb a b || variable a && eqb a c || variable a && eqb a d) && not (variable b && eqb b c || variable b && eqb b d) && not (variable c && eqb c d))
     ≡ distinct (a ∷ b ∷ c ∷ d ∷ [])
 unfolding distinct member any
-distinct_code a b c d = simp (or_false, and-false, and_true, and-or_distrib_left, or_assoc, and_assoc)
+distinct_code a b c d = simp (or-false, and-false, and-true, and-or_distrib_left, or_assoc, and_assoc)
 
 zero_head : (z : ℕ) (zs : List ℕ) → every unused (z ∷ zs) ≡ true → (z ≡ 0) × (every unused zs ≡ true)
 unfolding every unused
@@ -98,7 +98,7 @@ unfolding distinct variable
 distinct_zeros [] [] h = refl
 distinct_zeros [] (z ∷ zs) h = let (p, q) = zero_head z zs h in rw p (distinct_zeros [] zs q)
 distinct_zeros (w ∷ ws) zs h =
-    rw (distinct_zeros ws zs h, member_append w ws zs, and_under (variable w) {b = member w ws || member w zs} {c = member w ws} (λ v. rw (member_zeros w zs v h) (or_false (member w ws))))
+    rw (distinct_zeros ws zs h, member_append w ws zs, and_under (variable w) {b = member w ws || member w zs} {c = member w ws} (λ v. rw (member_zeros w zs v h) (or-false (member w ws))))
 
 pattern_data : (n : ℕ) (ws : List ℕ) → pattern4 n ws ≡ (data4 n ws && distinct ws)
 unfolding pattern4 data4
@@ -196,7 +196,7 @@ module _ (b : List ℕ) (h : (i : ℕ) → byte b i < 256) where
   bare-row : (p q : ℕ → Bool) → right_contents (may p unused empty4 q) b ≡ (p (word b 2) && (eqb (word b 4) 0 && (eqb (byte b 1) 0 && (eqb (word b 6) 0 && eqb others 0))) && q (word b 14))
   unfolding right_contents empty4 every unused slots
   bare-row p q =
-      rw (and_true (eqb (word b 12) 0), zero_and (word b 10) (word b 12), zero_and (word b 8) (word b 10 + 65536 * word b 12), and_assoc (p (word b 2)) (eqb (word b 4) 0) _)
+      rw (and-true (eqb (word b 12) 0), zero_and (word b 10) (word b 12), zero_and (word b 8) (word b 10 + 65536 * word b 12), and_assoc (p (word b 2)) (eqb (word b 4) 0) _)
 
   first_code : (p : ℕ → Bool) (k l : ℕ) → byte b 0 ≡ k → p (word b 2) ≡ in_range l 65536 (word b 2)
       → (eqb (quad b 0 % 65536) k && leb l (quad b 0 / 65536) && ltb (quad b 0 / 65536) 65536 && eqb (quad b 8) 0) ≡ right_contents (may p unused empty4 unused) b

@@ -1,4 +1,6 @@
 // The rules for single records (refusal 2): the table of kinds, tested on the 16 bytes of a record.
+#![tactic(auto)]
+
 ghost use Rattle.std.specs.Prelude.{◌≡◌, ◌&&◌, [], ◌∷◌, ◌+◌, ◌*◌, ◌<◌, length, take, drop, eqb};
 ghost use Rattle.cows.specs.Terms.{variable};
 ghost use Rattle.cows.specs.Kinds.{distinct};

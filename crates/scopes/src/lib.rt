@@ -1,6 +1,8 @@
 // Scopes: refusals 6 and 7 in one forward pass over the records, with a directory of the atoms that the table delimits.
 // The directory keeps a number for each atom: 0 if the table does not delimit it, 1 if no delimitation of it has been passed yet, and else one more
 // than the farthest end of a delimitation of it passed so far. It is kept in pages of 256 atoms, given out as they are wanted; page 0 stays empty.
+#![tactic(auto)]
+
 ghost use Rattle.std.specs.Prelude.{◌≡◌, Bool, true, List, ℕ, ◌+◌, ◌*◌, ◌/◌, ◌<◌, ◌≤◌, length, get_or};
 ghost use Rattle.cows.specs.Limits.{max_records};
 ghost use Rattle.cows.specs.Basics.{any, every};
@@ -14,7 +16,7 @@ ghost use Rattle.scopes.specs.Scopes.{scoping_of, directory_slot, Paged, Growing
 use records::{kinds, limits, wide16, word_at};
 
 // The first use outside every delimitation (refusal 6), or else the first clash (refusal 7).
-#[derive(Drop)]
+#[derive(Clone, Copy)]
 pub enum Scoping {
     Fine,
     Open(usize),

@@ -1,4 +1,6 @@
 // Scoping: whether the delimitations of a variable and of the value that it is to take enclose what a meeting asks (refusal 13).
+#![tactic(auto)]
+
 ghost use Rattle.std.specs.Prelude.{◌≡◌, ◌+◌, ◌/◌, ◌<◌, length};
 ghost use Rattle.cows.specs.Basics.{every};
 ghost use Rattle.cows.specs.Format.{word};

@@ -1,4 +1,6 @@
 // Scripts: an Orc script as 8-byte records: its kinds, the sets that its fields are tested for, and the first malformed record (30).
+#![tactic(auto)]
+
 pub mod kinds;
 
 ghost use Rattle.std.specs.Prelude.{◌≡◌, ◌+◌, ◌*◌, ◌/◌, ◌<◌, length, take, drop};
@@ -10,7 +12,7 @@ ghost use Rattle.orc.specs.Scripts.{right_record8};
 use records::{limits, word_at};
 
 // What reading an expression comes to: the place behind it, or that of a fault.
-#[derive(Drop)]
+#[derive(Clone, Copy)]
 pub enum Reading {
     Behind(usize),
     Fault(usize),

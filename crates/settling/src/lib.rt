@@ -1,5 +1,7 @@
 // Settling: the successor of a joint step, written in one walk. Records above the scopes are gone through; a scope is halted along the way to its kill; a term
 // that holds no scope is copied whole.
+#![tactic(auto)]
+
 ghost use Rattle.std.specs.Prelude.{◌≡◌, ◌/◌};
 ghost use Rattle.cows.specs.Basics.{any};
 ghost use Rattle.records.specs.Rewrites.{Rewritable, Rewrites};

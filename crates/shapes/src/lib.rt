@@ -1,5 +1,7 @@
 // Shapes: one backward pass over the records of a table that finds the ends of all terms and the height of the term, with a stack, and lists delimitations and
 // users of atoms on the way. A quick test that only ever accepts, without branches on the kind.
+#![tactic(auto)]
+
 ghost use Rattle.std.specs.Prelude.{◌≡◌, ◌≢◌, ℕ, ◌*◌, ◌+◌, ◌%◌, ◌/◌, ◌<◌};
 ghost use Rattle.std.specs.Int.Bits.{bit_and};
 ghost use Rattle.records.specs.Ends.{pick_end};
@@ -8,7 +10,7 @@ ghost use Rattle.shapes.specs.Shaped.{pick_height, Masks, Roomy, Shaped};
 use records::{kinds, limits, wide8};
 
 // The height of the term of a table, or 0 if the table is not accepted; how many delimitations and how many users of atoms are listed.
-#[derive(Drop)]
+#[derive(Clone, Copy)]
 pub struct Shape {
     pub height: usize,
     pub marks: usize,

@@ -2,7 +2,7 @@
 use mathlib.Core.Path.{◌≡◌, refl, ap, sym, subst, ◌∙◌}
 use mathlib.Core.Logic.{◌≢◌}
 use mathlib.Core.Bool.{false, ◌||◌, or_comm}
-use mathlib.Core.List.{List, [], ◌∷◌, ◌++◌, map, map_append, flat_map, append-nil}
+use mathlib.Core.List.{List, [], ◌∷◌, ◌++◌, map, map-append, flat_map, append-nil}
 use Prim.Native.Nat.{ℕ, zero, suc, ◌+◌, ◌*◌, ◌/◌, ◌<◌}
 use native.Mathlib.Omega.{arith}
 use native.Mathlib.Numerals.{add-one}
@@ -74,7 +74,7 @@ gathered-atoms s i = flat_map call_atoms (map read_orc_node (pieces 8 i s))
 gathered_more : (s : List ℕ) (i : ℕ) → gathered-atoms s (i + 1) ≡ gathered-atoms s i ++ call_atoms (record_at s i)
 unfolding flat_map
 gathered_more s i =
-    rw (add-one i, pieces_more 8 i s, map_append read_orc_node (pieces 8 i s) (take 8 (drop (8 * i) s) ∷ []))
+    rw (add-one i, pieces_more 8 i s, map-append read_orc_node (pieces 8 i s) (take 8 (drop (8 * i) s) ∷ []))
     (flat_map_append call_atoms (map read_orc_node (pieces 8 i s)) (record_at s i ∷ []) ∙ ap (λ l. gathered-atoms s i ++ l) (append-nil (call_atoms (record_at s i))))
 
 module _ (s : List ℕ) (p o : ℕ) where

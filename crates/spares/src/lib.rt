@@ -1,4 +1,6 @@
 // Spares: the values that a translation may take: a mark for each of the first 4,096 values that a script or its result endpoint holds, and the next value without one.
+#![tactic(auto)]
+
 ghost use Rattle.std.specs.Prelude.{◌≡◌, ◌+◌, ◌*◌, ◌<◌, ◌≤◌, length, take, drop, replicate};
 ghost use Rattle.orc.specs.Expressions.{Orc, records_in};
 ghost use Rattle.orc.specs.Scripts.{read_orc_node};

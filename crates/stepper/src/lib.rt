@@ -1,4 +1,6 @@
 // Stepper: one move on a table, any bytes for both: the reply, and the successor in the output.
+#![tactic(auto)]
+
 pub mod answering;
 
 ghost use Rattle.std.specs.Prelude.{◌+◌, ◌/◌, ◌<◌, min, length};

@@ -1,6 +1,6 @@
 -- Gathering the scopes of a list (specs/Gathering), from its i-th kill on: what one turn of the loop knows.
 use mathlib.Core.Path.{◌≡◌, refl, sym, ap, ◌∙◌}
-use mathlib.Core.List.{List, [], ◌∷◌, ◌++◌, map, map_append}
+use mathlib.Core.List.{List, [], ◌∷◌, ◌++◌, map, map-append}
 use Prim.Native.Nat.{ℕ, ◌+◌, ◌-◌, ◌≤◌, ◌<◌}
 use native.Mathlib.Omega.{arith}
 use native.Mathlib.Numerals.{add-one}
@@ -51,7 +51,7 @@ module _ {t : Term} {ps scopes : List ℕ} {i gone a : ℕ} {r : Plan} (w : With
     pub gathering_turn : i < length scopes → Gathering t ps (set scopes i r.from) (i + 1) (gone + (n - left))
     gathering_turn k = record {
       live_so = h.live_so ∙ (ap (all_live t) (drop_here ps i l at) ∙ live-next t a (drop (i + 1) ps) (allowed_live t w a q left e));
-      scopes_so = scopes_next k ∙ (rw h.scopes_so (sym (map_append (kill_scope t) (take i ps) (a ∷ []))) ∙ ap (map (kill_scope t)) (sym (take_here ps i l at)));
+      scopes_so = scopes_next k ∙ (rw h.scopes_so (sym (map-append (kill_scope t) (take i ps) (a ∷ []))) ∙ ap (map (kill_scope t)) (sym (take_here ps i l at)));
       gone_so = omega (arith, h.gone_so, ap (gone_by_all t) (drop_here ps i l at), allowed_left t w a q left e);
     }
 

@@ -1,7 +1,7 @@
 -- The scopes of live kills by their places: that they are where settling needs them, and that they overlap exactly where the kills clash.
 use mathlib.Core.Path.{◌≡◌, refl, sym, ap, ◌∙◌}
 use mathlib.Core.Option.{none, some}
-use mathlib.Core.List.{List, [], ◌∷◌, ◌++◌, map, map_append}
+use mathlib.Core.List.{List, [], ◌∷◌, ◌++◌, map, map-append}
 use Prim.Native.Nat.{ℕ, suc, ◌+◌, ◌≤◌, ◌<◌}
 use native.Mathlib.Omega.{arith}
 use lib.ListN.{length, get_or}
@@ -54,9 +54,9 @@ module _ (s ends : List ℕ) (t : Term) (h : Table s ends t) where
   first-clash before [] bs ls i e = (λ l. absurd (omega arith), λ l. refl)
   first-clash before (a ∷ ps) bs ls i e =
       let z : any (overlap ends (kill_scope t a)) (map (kill_scope t) before ++ map (kill_scope t) ps) ≡ any (clash t a) (before ++ ps) =
-      ap (any (overlap ends (kill_scope t a))) (sym (map_append (kill_scope t) before ps)) ∙ any_overlaps a (before ++ ps) ls.0 (all_append (LiveKill t) before ps bs ls.1) in
+      ap (any (overlap ends (kill_scope t a))) (sym (map-append (kill_scope t) before ps)) ∙ any_overlaps a (before ++ ps) ls.0 (all_append (LiveKill t) before ps bs ls.1) in
       bool_case _ (any (clash t a) (before ++ ps))
       (λ c. let n : i ≡ 0 = e ∙ rw (z, c) in rw c (λ l. ap some (rw n), λ l. absurd (omega arith)))
-      (λ c. let next = first-clash (before ++ (a ∷ [])) ps (all_append (LiveKill t) before (a ∷ []) bs (ls.0, tt)) ls.1 _ (ap (λ (b : List ℕ). first_overlap ends b (map (kill_scope t) ps)) (sym (map_append (kill_scope t) before (a ∷ [])))) in
+      (λ c. let next = first-clash (before ++ (a ∷ [])) ps (all_append (LiveKill t) before (a ∷ []) bs (ls.0, tt)) ls.1 _ (ap (λ (b : List ℕ). first_overlap ends b (map (kill_scope t) ps)) (sym (map-append (kill_scope t) before (a ∷ [])))) in
       let n : i ≡ suc (first_overlap ends (map (kill_scope t) before ++ (kill_scope t a ∷ [])) (map (kill_scope t) ps)) = e ∙ rw (z, c) in
       rw (c, n) (λ l. next.0 (omega arith), λ l. next.1 (omega arith)))

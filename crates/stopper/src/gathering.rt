@@ -9,7 +9,7 @@ use plans::Judgement;
 use records::wide16;
 
 // The first listed at which no live kill stands, or the number of records that the kills of the list take away, each on the table as it is.
-#[derive(Drop)]
+#[derive(Clone, Copy)]
 pub enum Gathered {
     Absent(usize),
     Gone(usize),

@@ -1,4 +1,6 @@
 // Stopper: several kills as one step, on any bytes (request 2026-06): the reply, the tally, and the successor in the output.
+#![tactic(auto)]
+
 mod gathering;
 
 ghost use Rattle.std.specs.Prelude.{◌≡◌, length};

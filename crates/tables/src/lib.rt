@@ -1,4 +1,6 @@
 // Tables: whether bytes are a well-formed table, or the refusal of 1 to 7 with its place.
+#![tactic(auto)]
+
 mod quick;
 
 ghost use Rattle.std.specs.Prelude.{◌≡◌, ◌+◌, ◌/◌, ◌<◌, ◌≤◌, min, length};
@@ -14,7 +16,7 @@ use records::limits;
 use scopes::Scoping;
 
 // What the author of a table is told.
-#[derive(Drop)]
+#[derive(Clone, Copy)]
 pub enum Verdict {
     Accepted(usize),
     Length,
@@ -27,7 +29,7 @@ pub enum Verdict {
 }
 
 // Answer, place and records, as document 01 numbers them.
-#[derive(Drop)]
+#[derive(Clone, Copy)]
 pub struct Reply {
     pub answer: u8,
     pub place: usize,

@@ -1,4 +1,6 @@
 // Tally: the counts of a list of moves. What one move counts is a tally too, made in one place, `counts`; `count` is lent a tally and adds it there.
+#![tactic(auto)]
+
 ghost use Rattle.std.specs.Prelude.{◌≡◌};
 ghost use Rattle.std.proofs.Math.Option.{some};
 ghost use Rattle.cows.specs.Moves as meaning;
@@ -9,7 +11,7 @@ ghost use Rattle.tally.specs.Counted.{tally_of, sum_of, SumsFit};
 use proposals::Move;
 
 // Communications (meetings), kills (stops), timeouts (expiries), and the load copied by unfoldings.
-#[derive(Drop)]
+#[derive(Clone, Copy)]
 pub struct Tally {
     pub communications: u32,
     pub kills: u32,

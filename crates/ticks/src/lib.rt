@@ -1,4 +1,6 @@
 // Ticks: a time move from two readings of a controller's clock, any bytes for the table (request 2026-05): the reply, and the table in the output.
+#![tactic(auto)]
+
 ghost use Rattle.std.specs.Prelude.{◌≡◌, ◌+◌, ◌%◌, length};
 ghost use Rattle.cows.specs.Papers.{time};
 ghost use Rattle.stepper.specs.Replies.{Answers};

@@ -1,4 +1,6 @@
 // Timeout (expiry): a live wait with interval 0 becomes its continuation, with the whole choice around it.
+#![tactic(auto)]
+
 ghost use Rattle.cows.specs.Terms.{Term};
 ghost use Rattle.cows.specs.Places.{way_to};
 ghost use Rattle.cows.specs.Moves.{timeout_at};

@@ -1,5 +1,7 @@
 // Translating: one pass over an Orc script that writes its translation, by source document 002's clauses. The new values are the first without a mark, in their order;
 // the new labels are the first of all, since a script has none.
+#![tactic(auto)]
+
 ghost use Rattle.std.specs.Prelude.{◌≡◌, ◌*◌, get_or};
 ghost use Rattle.translating.specs.Writing.{Writable, Writes};
 
@@ -12,7 +14,7 @@ use scripts::kinds;
 use spares::next_spare;
 
 // Where the pass stands: the next record of the script, the next byte of the output, and the first value and the first label that are still to be had.
-#[derive(Drop)]
+#[derive(Clone, Copy)]
 pub struct Pass {
     pub place: usize,
     pub byte: usize,

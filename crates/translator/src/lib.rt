@@ -1,4 +1,6 @@
 // Translator: an Orc script into a table, any bytes for the script and any two numbers for the result endpoint (request 2026-03): the reply, and the table in the output.
+#![tactic(auto)]
+
 ghost use Rattle.std.specs.Prelude.{◌≡◌, ◌*◌, ◌≤◌, length};
 ghost use Rattle.cows.specs.Format.{encode};
 ghost use Rattle.records.specs.Rewrites.{put};

@@ -1,4 +1,6 @@
 // Unfold (unfolding): a live replication becomes a parallel of a copy of its body, whose delimited atoms are new ones, and itself.
+#![tactic(auto)]
+
 ghost use Rattle.std.specs.Prelude.{◌≡◌, ◌+◌, ◌<◌, length};
 ghost use Rattle.cows.specs.Terms.{parallel, Term};
 ghost use Rattle.cows.specs.Kinds.{join};

@@ -1,5 +1,7 @@
 // Ways: from the root of a known table down to a place, by the ends of terms. A way has as many steps as the place is deep, and is stored nowhere: one walk
 // tells what a move asks of a place, another the scope of an atom. How deep a term is: depths.
+#![tactic(auto)]
+
 ghost use Rattle.std.specs.Prelude.{◌≡◌, false, ◌+◌, ◌*◌, ◌/◌, ◌<◌, length};
 ghost use Rattle.cows.specs.Terms.{Term, size, delimits_at};
 ghost use Rattle.cows.specs.Kinds.{live_kind};
@@ -30,7 +32,7 @@ pub fn live_kind(kind: u8) -> bool
 
 // What the way to a place says of it: whether a live record of the kind that is asked for stands there, and if so how many records are above it, the last of
 // them, and where the whole choice around it begins.
-#[derive(Drop)]
+#[derive(Clone, Copy)]
 pub struct Place {
     pub live: bool,
     pub above: usize,

@@ -1,0 +1,7 @@
+use borrow.Author.Rules.{rules}
+use mathlib.Core.Path.{ap, ◌∙◌}
+use Rattle.records.specs.Atoms.{class_of}
+use Rattle.records.proofs.atom_at.Goals as goal
+
+pub returns : goal.returns
+returns c = c.classify.ensures ∙ ap class_of c.word_at.ensures

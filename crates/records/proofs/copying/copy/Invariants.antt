@@ -1,0 +1,15 @@
+use mathlib.Core.Path.{◌≡◌, refl, ◌∙◌}
+use Prim.Native.Nat.{◌≤◌, ◌-◌}
+use native.Mathlib.Omega.{arith}
+use lib.ListN.{length, take, drop, length-drop, length-set}
+use lib.Seq.{get_or-drop}
+use Rattle.records.specs.Rewrites.{put}
+use Rattle.records.proofs.Put.{put_more}
+use Rattle.records.proofs.copying.copy.Given as goal
+
+-- the first i bytes are written
+abbrev pub invariant-loop-i : goal.invariant-loop-i
+invariant-loop-i l = (l.i ≤ l.len) × (length l.dst ≡ length l.initial.dst) × (l.dst ≡ put l.initial.dst l.to (take l.i (drop l.from l.src)))
+
+abbrev pub decreases-loop-i : goal.decreases-loop-i
+decreases-loop-i l = l.len - l.i

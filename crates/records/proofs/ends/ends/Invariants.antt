@@ -1,0 +1,14 @@
+use mathlib.Core.Path.{◌≡◌, refl, sym, ap, ◌∙◌}
+use Prim.Native.Nat.{◌≤◌, ◌/◌, ◌+◌}
+use native.Mathlib.Omega.{arith}
+use lib.ListN.{length, get_or, set, length-set}
+use lib.Seq.{get_or-set_same}
+use Rattle.records.specs.Ends.{EndsFrom}
+use Rattle.records.proofs.Shapes.{ends_start, ends_more, end-bound}
+use Rattle.records.proofs.ends.ends.Given as goal
+
+abbrev pub invariant-loop-i : goal.invariant-loop-i
+invariant-loop-i l = (l.n ≡ length l.s / 16) × (l.i ≤ l.n) × (length l.out ≡ length l.initial.out) × EndsFrom l.s l.out l.i × (l.top ≡ get_or l.out l.i 0)
+
+abbrev pub decreases-loop-i : goal.decreases-loop-i
+decreases-loop-i l = l.i

@@ -1,0 +1,5 @@
+use borrow.Author.Rules.{rules}
+use Rattle.records.proofs.equal.Goals as goal
+
+pub returns : goal.returns
+returns c = rw (c.number.ensures, c.number-2.ensures)

@@ -1,0 +1,7 @@
+use borrow.Author.Rules.{rules}
+use Prim.Native.Nat.{ℕ, ◌<◌, ◌-◌}
+use native.Mathlib.Omega.{arith}
+use Rattle.renaming.proofs.+copy_renamed.Given as goal
+
+abbrev pub decreases-copy_renamed : goal.decreases-copy_renamed
+decreases-copy_renamed l = 1170 - l.records

@@ -1,0 +1,13 @@
+use borrow.Author.Rules.{rules}
+use mathlib.Core.Path.{refl}
+use Prim.Native.Nat.{◌-◌}
+use native.Mathlib.Omega.{arith}
+use Rattle.renaming.specs.Bound.{record_bound}
+use Rattle.renaming.proofs.Across.{Writing, writing_start, writing_room, writing_turn, writing_end}
+use Rattle.renaming.proofs.binding.write_bound.Given as goal
+
+abbrev pub invariant-loop-i : goal.invariant-loop-i
+invariant-loop-i l = Writing (record_bound l.t0 l.t1 l.t2 l.t3 l.b) l.s l.initial.dst l.at l.from l.to l.dst l.i l.next
+
+abbrev pub decreases-loop-i : goal.decreases-loop-i
+decreases-loop-i l = l.to - l.i

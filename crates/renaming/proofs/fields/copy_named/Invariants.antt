@@ -1,0 +1,13 @@
+use borrow.Author.Rules.{rules}
+use Prim.Native.Nat.{◌+◌, ◌-◌, ◌*◌, ◌≤◌}
+use native.Mathlib.Omega.{arith}
+use Rattle.renaming.specs.Mapped.{map_record, named}
+use Rattle.renaming.proofs.Across.{Writing, writing_start, writing_turn, writing_end}
+use Rattle.renaming.proofs.Mapped.{length-map_record}
+use Rattle.renaming.proofs.fields.copy_named.Given as goal
+
+abbrev pub invariant-loop-i : goal.invariant-loop-i
+invariant-loop-i l = (l.from ≤ l.i) × (l.i ≤ l.to) × Writing (λ j. map_record (named l.names)) l.s l.initial.dst l.at l.from l.to l.dst l.i (l.at + 16 * (l.i - l.from))
+
+abbrev pub decreases-loop-i : goal.decreases-loop-i
+decreases-loop-i l = l.to - l.i

@@ -1,0 +1,17 @@
+use mathlib.Core.Path.{◌≡◌, refl, sym, ◌∙◌}
+use mathlib.Core.List.{[]}
+use Prim.Native.Nat.{◌-◌}
+use native.Mathlib.Omega.{arith}
+use Rattle.cows.proofs.Basics.{never}
+use Rattle.renaming.specs.Mapped.{across}
+use Rattle.renaming.specs.Names.{delimited}
+use Rattle.renaming.proofs.Across.{across-end}
+use Rattle.renaming.proofs.Choosing.{next_other}
+use Rattle.renaming.proofs.names.delimits.Given as goal
+
+-- what is delimited from place i on is all
+abbrev pub invariant-loop-i : goal.invariant-loop-i
+invariant-loop-i l = across delimited l.s l.from (l.to - l.from) ≡ across delimited l.s l.i (l.to - l.i)
+
+abbrev pub decreases-loop-i : goal.decreases-loop-i
+decreases-loop-i l = l.to - l.i

@@ -1,0 +1,15 @@
+use mathlib.Core.Path.{◌≡◌, refl, sym, ◌∙◌}
+use Prim.Native.Nat.{◌-◌, ◌/◌, ◌≤◌}
+use native.Mathlib.Omega.{arith}
+use lib.ListN.{length}
+use borrow.Author.Tests.{not-true, not-false}
+use Rattle.cows.proofs.Basics.{never}
+use Rattle.renaming.proofs.Occurring.{Marking-on, marking_start, marking_turn, marking_stop, marking_end, marked_term}
+use Rattle.renaming.proofs.names.mark.Given as goal
+
+-- what is entered from place i on is all that is left to enter
+abbrev pub invariant-loop-i : goal.invariant-loop-i
+invariant-loop-i l = (l.n ≡ length l.s / 16) × (l.i ≤ l.n) × Marking-on l.s l.initial.names l.names l.n l.i
+
+abbrev pub decreases-loop-i : goal.decreases-loop-i
+decreases-loop-i l = l.n - l.i
