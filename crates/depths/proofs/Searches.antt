@@ -47,7 +47,7 @@ module _ (f : ℕ → Spot → Bool) (w : Way) (o : ℕ) where
       let z : o - o ≡ 0 = omega arith in
       rw (
         z,
-        first_from_append,
+        first_from_append (λ n. f n (descend w (both j l r) (n - o))) (suc o) (size l) (size r),
         add-one o,
         from_same _ (λ n. f n (descend (left_of j r ∷ w) l (n - suc o))) (suc o) (size l) left,
         from_same _ (λ n. f n (descend (right_of j l ∷ w) r (n - (suc o + size l)))) (suc o + size l) (size r) right,

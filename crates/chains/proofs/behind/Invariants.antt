@@ -1,0 +1,14 @@
+use borrow.Author.Rules.{rules}
+use mathlib.Core.Path.{◌≡◌, sym, subst, ◌∙◌}
+use Prim.Native.Nat.{◌/◌, ◌≤◌}
+use native.Mathlib.Omega.{arith}
+use lib.ListN.{length}
+use Rattle.chains.proofs.Chaining.{steps_left}
+use Rattle.chains.proofs.Finding.{Finding, walk_most, finding_start, finding_end, finding_found, finding_on, finding_less}
+use Rattle.chains.proofs.behind.Given as goal
+
+abbrev pub invariant-loop-e : goal.invariant-loop-e
+invariant-loop-e l = (l.e ≤ length l.s / 16) × Finding l.s l.atom l.e
+
+abbrev pub decreases-loop-e : goal.decreases-loop-e
+decreases-loop-e l = steps_left (length l.s / 16) l.e

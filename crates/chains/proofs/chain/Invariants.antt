@@ -1,0 +1,15 @@
+use borrow.Author.Rules.{rules}
+use mathlib.Core.Path.{◌≡◌, refl, sym, subst, ◌∙◌}
+use Prim.Native.Nat.{◌+◌, ◌-◌, ◌/◌, ◌≤◌}
+use native.Mathlib.Omega.{arith}
+use lib.ListN.{length, length-set}
+use borrow.Author.Tests.{eq-eqb, ne_eqb}
+use Rattle.chains.specs.Chains.{class_at, carries, Chained}
+use Rattle.chains.proofs.Chaining.{chained_start, chained_other, chained_put}
+use Rattle.chains.proofs.chain.Given as goal
+
+abbrev pub invariant-loop-i : goal.invariant-loop-i
+invariant-loop-i l = (l.i ≤ length l.s / 16) × (length l.heads ≡ length l.initial.heads) × (length l.next ≡ length l.initial.next) × Chained (carries l.marks l.width l.mark) (class_at l.s) (length l.s / 16) l.heads l.next l.i
+
+abbrev pub decreases-loop-i : goal.decreases-loop-i
+decreases-loop-i l = l.i

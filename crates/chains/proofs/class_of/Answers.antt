@@ -1,0 +1,11 @@
+use borrow.Author.Rules.{rules}
+use native.Mathlib.Omega.{arith}
+use native.Mathlib.Nat.{mod-lt}
+use Rattle.chains.specs.Chains.{class_of_pair}
+use Rattle.chains.proofs.class_of.Goals as goal
+
+pub returns : goal.returns
+unfolding class_of_pair
+returns c = let x = c.wide16.ensures.0 in
+    let y = c.wide16-2.ensures.0 in
+    (rw (x, y), mod-lt _ {m = 256} (omega arith))

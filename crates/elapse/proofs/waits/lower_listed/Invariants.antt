@@ -1,0 +1,19 @@
+use borrow.Author.Rules.{rules}
+use mathlib.Core.Path.{◌≡◌, refl, ap, ◌∙◌}
+use mathlib.Core.List.{List, ◌++◌}
+use Prim.Native.Nat.{ℕ, ◌+◌, ◌*◌, ◌-◌, ◌≤◌}
+use native.Mathlib.Omega.{arith}
+use lib.ListN.{length, drop}
+use Rattle.cows.specs.Terms.{Term}
+use Rattle.cows.specs.Format.{encode}
+use Rattle.cows.specs.Moves.{elapse}
+use Rattle.elapse.specs.Waits.{wait_places, Lists}
+use Rattle.elapse.proofs.Listing.{lowered, lists_room, lowering_start, lowering_next, lowering_end, listed-inside}
+use Rattle.elapse.proofs.waits.lower_listed.Given as goal
+
+abbrev pub invariant-loop-i : goal.invariant-loop-i
+invariant-loop-i l = (l.i ≤ l.w) × (2 * l.w ≤ length l.list) × (length l.t ≡ length l.initial.t)
+    × ((u : Term) (rest : List ℕ) → l.initial.t ≡ encode u ++ rest → Lists l.list l.w (wait_places u) → lowered l.d l.t (drop l.i (wait_places u)) ≡ encode (elapse l.d u) ++ rest)
+
+abbrev pub decreases-loop-i : goal.decreases-loop-i
+decreases-loop-i l = l.w - l.i

@@ -1,0 +1,12 @@
+use Rattle.std.proofs.Common.{◌≡◌, ◌-◌, ◌/◌, length, drop, sym, refl, ap, ◌∙◌, arith}
+use Rattle.cows.specs.Format.{records}
+use Rattle.cows.specs.Tables.{first_wrong}
+use Rattle.cows.proofs.Cut.{failing_here, passing_here, none_left}
+use Rattle.records.specs.Answers.{placeOr}
+use Rattle.ranges.proofs.find_wrong.Given as goal
+
+abbrev pub invariant-loop-i : goal.invariant-loop-i
+invariant-loop-i l = (l.n ≡ length l.s / 16) × (first_wrong 0 (records l.s) ≡ first_wrong l.i (drop l.i (records l.s)))
+
+abbrev pub decreases-loop-i : goal.decreases-loop-i
+decreases-loop-i l = l.n - l.i

@@ -1,0 +1,33 @@
+use borrow.Author.Rules.{rules}
+use mathlib.Core.Logic.{⊎_elim}
+use mathlib.Core.Path.{ap, ◌∙◌}
+use native.Mathlib.Omega.{arith}
+use lib.ListN.{length, length-set}
+use Rattle.scopes.proofs.Directory.{store_paged}
+use Rattle.scopes.proofs.NextPlace.{pass_again, pass_farther, pass_nearer}
+use Rattle.scopes.proofs.pass_delimitation.Goals as goal
+use Rattle.scopes.proofs.pass_delimitation.Goals.{then-v-e, else-v-e}
+
+pub offset_bounds-marks-p : goal.offset_bounds-marks-p
+offset_bounds-marks-p c = omega (arith, c.requires.1.inside c.word_at.result (omega arith))
+
+pub bounds-marks-p : goal.bounds-marks-p
+bounds-marks-p c = omega (arith, c.requires.1.inside c.word_at.result (omega arith))
+
+pub overflow_add-e : goal.overflow_add-e
+overflow_add-e c = omega (arith, c.requires.0.small c.args.j c.requires.2)
+
+pub offset_bounds-marks-p-then-v-e : goal.offset_bounds-marks-p-then-v-e
+offset_bounds-marks-p-then-v-e c = omega (arith, c.requires.1.inside c.word_at.result (omega arith))
+
+pub bounds-marks-p-then-v-e : goal.bounds-marks-p-then-v-e
+bounds-marks-p-then-v-e c = omega (arith, c.requires.1.inside c.word_at.result (omega arith))
+
+pub returns : goal.returns
+returns c = let (ends, g, l, k) = c.requires in
+    let ea = c.word_at.ensures in
+    let ep = c.slot_of-p.ensures in
+    elim c.if-v-e.branch [
+      | then-v-e w ↦ rw w.marks-is (store_paged _ _ _ _ g, λ t h. (pass_farther _ _ _ _ l k _ _ ea ep g t h.holds h.keeps _ ends w.if-v-e.true, pass_again _ _ _ _ l k _ _ ea ep g t h.holds h.keeps))
+      | else-v-e w ↦ rw w.marks-is (g, λ t h. (pass_nearer _ _ _ _ l k _ _ ea ep g t h.holds h.keeps _ ends w.if-v-e.false, pass_again _ _ _ _ l k _ _ ea ep g t h.holds h.keeps))
+    ]

@@ -1,0 +1,34 @@
+use borrow.Author.Rules.{rules}
+use mathlib.Core.Path.{◌≡◌}
+use mathlib.Core.Bool.{Bool, true}
+use mathlib.Core.List.{List}
+use Prim.Native.Nat.{ℕ, ◌-◌, ◌≤◌}
+use native.Mathlib.Omega.{arith}
+use lib.ListN.{take}
+use lib.Seq.{take_all}
+use Rattle.cows.specs.Basics.{any, every}
+use Rattle.cows.specs.Terms.{atom}
+use Rattle.cows.specs.Format.{byte}
+use Rattle.scopes.specs.Scopes.{level, Levels, TupleAt}
+use Rattle.scopes.proofs.Uses.{tuple-start, tuple-turn}
+use Rattle.scopes.proofs.tuple_fault.Goals as goal
+
+pub returns-then-c-gt4 : goal.returns-then-c-gt4
+unfolding byte
+returns-then-c-gt4 c p q ws v h e = absurd (omega (arith, h.few, h.count, c.wide8-c.ensures.0))
+
+pub loop-i-init : goal.loop-i-init
+unfolding byte
+loop-i-init c = (omega arith, λ p q ws v h e. tuple-start p q ws)
+
+pub loop-i-preserved : goal.loop-i-preserved
+unfolding byte
+loop-i-preserved c = (
+  omega arith,
+  λ p q ws v h e.
+      tuple-turn _ _ _ ws _ c.loop-i.i p q v h e (omega (arith, h.count, c.wide8-c.ensures.0)) _ _ _ _ (c.loop-i.invariant.1 p q ws v h e) c.word_at.ensures c.use_fault.ensures c.worse-worst.ensures,
+)
+
+pub returns : goal.returns
+unfolding byte
+returns c p q ws v h e = rw (take_all c.loop-i.i ws (omega (arith, h.count, c.wide8-c.ensures.0))) at (c.loop-i.invariant.1 p q ws v h e)

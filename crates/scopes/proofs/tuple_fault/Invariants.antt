@@ -1,0 +1,21 @@
+use borrow.Author.Rules.{rules}
+use mathlib.Core.Path.{◌≡◌}
+use mathlib.Core.Bool.{Bool, true}
+use mathlib.Core.List.{List}
+use Prim.Native.Nat.{ℕ, ◌-◌, ◌≤◌}
+use native.Mathlib.Omega.{arith}
+use lib.ListN.{take}
+use lib.Seq.{take_all}
+use Rattle.cows.specs.Basics.{any, every}
+use Rattle.cows.specs.Terms.{atom}
+use Rattle.cows.specs.Format.{byte}
+use Rattle.scopes.specs.Scopes.{level, Levels, TupleAt}
+use Rattle.scopes.proofs.Uses.{tuple-start, tuple-turn}
+use Rattle.scopes.proofs.tuple_fault.Given as goal
+
+abbrev pub invariant-loop-i : goal.invariant-loop-i
+invariant-loop-i l = (l.i ≤ l.c)
+    × ((p q : ℕ → Bool) (ws : List ℕ) → Levels l.pages l.marks l.j p q → TupleAt l.s l.j ws → every atom ws ≡ true → l.worst ≡ level (any p (take l.i ws)) (any q (take l.i ws)))
+
+abbrev pub decreases-loop-i : goal.decreases-loop-i
+decreases-loop-i l = l.c - l.i

@@ -1,0 +1,8 @@
+use mathlib.Core.Path.{refl}
+use borrow.Author.Rules.{rules}
+use Rattle.tally.specs.Counted.{sum_of}
+use Rattle.tally.proofs.sum.Goals as goal
+
+pub returns : goal.returns
+unfolding sum_of
+returns c = refl
