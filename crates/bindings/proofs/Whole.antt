@@ -7,7 +7,7 @@ use lib.ListN.{length, replicate}
 use Rattle.cows.specs.Basics.{any, member}
 use Rattle.cows.specs.Within.{nowhere}
 use Rattle.cows.proofs.Basics.{never, get_d_zeros}
-use Rattle.records.specs.Answers.{foundOf}
+use Rattle.records.specs.Answers.{found_of}
 use Rattle.records.specs.declared.Found.TheVariants.{At, Nothing}
 use Rattle.orc.specs.Expressions.{Orc}
 use Rattle.orc.specs.Scripts.{misbound}
@@ -27,8 +27,8 @@ whole_asks (e, h) l =
     record { expression = e; stands = y; right = h.right; all = l; inside = omega (arith, at_fits e y, records_pos e) }
 
 module _ {s marks after : List ℕ} (m : MarkedFor marks nowhere []) where
-  pub whole_behind : {k : ℕ} → Scanned s 0 marks after (Behind k) → (e : Orc) → ScriptOf s e → Nothing ≡ foundOf (misbound nowhere [] 0 e)
-  whole_behind r e h = ap foundOf (sym (r.to.2 e nowhere [] (whole_at e h.is) h.right m).0)
+  pub whole_behind : {k : ℕ} → Scanned s 0 marks after (Behind k) → (e : Orc) → ScriptOf s e → Nothing ≡ found_of (misbound nowhere [] 0 e)
+  whole_behind r e h = ap found_of (sym (r.to.2 e nowhere [] (whole_at e h.is) h.right m).0)
 
-  pub whole_fault : {p : ℕ} → Scanned s 0 marks after (Fault p) → (e : Orc) → ScriptOf s e → At p ≡ foundOf (misbound nowhere [] 0 e)
-  whole_fault r e h = ap foundOf (sym (r.to e nowhere [] (whole_at e h.is) h.right m))
+  pub whole_fault : {p : ℕ} → Scanned s 0 marks after (Fault p) → (e : Orc) → ScriptOf s e → At p ≡ found_of (misbound nowhere [] 0 e)
+  whole_fault r e h = ap found_of (sym (r.to e nowhere [] (whole_at e h.is) h.right m))

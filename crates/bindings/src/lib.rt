@@ -6,7 +6,7 @@ ghost use Rattle.std.specs.Prelude.{◌≡◌, true, [], ◌+◌, ◌*◌, ◌-�
 ghost use Rattle.cows.specs.Limits.{first_variable};
 ghost use Rattle.cows.specs.Terms.{variable};
 ghost use Rattle.cows.specs.Within.{nowhere};
-ghost use Rattle.records.specs.Answers.{foundOf};
+ghost use Rattle.records.specs.Answers.{found_of};
 ghost use Rattle.orc.specs.Expressions.{Orc};
 ghost use Rattle.orc.specs.Scripts.{misbound};
 ghost use Rattle.scripts.specs.Standing.{ScriptOf};
@@ -78,7 +78,7 @@ fn bind_on(s: &[u8], i: usize, marks: &mut [u8]) -> Reading
 // The first record of a script that is at fault with a variable.
 pub fn find_misbound(s: &[u8]) -> Found
     requires { (e : Orc) × ScriptOf s.now e }
-    ensures { (e : Orc) → ScriptOf s.now e → result ≡ foundOf (misbound nowhere [] 0 e) }
+    ensures { (e : Orc) → ScriptOf s.now e → result ≡ found_of (misbound nowhere [] 0 e) }
 {
     let mut marks = [UNSEEN; 16384];
     let whole = bind_on(s, 0, &mut marks);

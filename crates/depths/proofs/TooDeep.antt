@@ -11,7 +11,7 @@ use Rattle.cows.specs.Basics.{place_if, or_else}
 use Rattle.cows.specs.Terms.{Join, Term, leaf, under, both, size}
 use Rattle.cows.specs.Kinds.{children_of}
 use Rattle.cows.proofs.Format.{length-encode}
-use Rattle.records.specs.Answers.{placeOr}
+use Rattle.records.specs.Answers.{place_or}
 use Rattle.records.specs.Rewrites.{StandsIn}
 use Rattle.records.proofs.Laws.{place_tells}
 use Rattle.records.proofs.StandsIn.{stands_children, stands_fits, stands_under, stands_left}
@@ -21,7 +21,7 @@ use Rattle.depths.proofs.Searches.{deep-below}
 
 -- what code says of the term at place i, whose own record has the depth d
 abbrev pub FirstDeep : List ℕ → ℕ → ℕ → ℕ → Type 0
-FirstDeep s i d r = (t : Term) → StandsIn s (16 * i) t → r ≡ placeOr (length s / 16) (deep_in d i t)
+FirstDeep s i d r = (t : Term) → StandsIn s (16 * i) t → r ≡ place_or (length s / 16) (deep_in d i t)
 
 pub deep_here : (s : List ℕ) (i d : ℕ) → 256 < d → FirstDeep s i d i
 unfolding deep_in place_if or_else

@@ -3,7 +3,7 @@
 
 ghost use Rattle.std.specs.Prelude.{◌≡◌, ◌*◌, ◌/◌, max, ltb, length};
 ghost use Rattle.cows.specs.Terms.{Term, depth};
-ghost use Rattle.records.specs.Answers.{placeOr};
+ghost use Rattle.records.specs.Answers.{place_or};
 ghost use Rattle.records.specs.Rewrites.{StandsIn};
 ghost use Rattle.depths.specs.Depths.{Standing, deep_in};
 
@@ -38,7 +38,7 @@ pub fn deeper(s: &[u8], ends: &[u16], i: usize, room: usize) -> bool
 // The first record that is too deep in the term at place i, whose own record has the depth d; the number of records if there is none.
 pub fn first_deep(s: &[u8], ends: &[u16], i: usize, d: usize) -> usize
     requires { Standing s.now ends.now i }
-    ensures { (t : Term) → StandsIn s.now (16 * i) t → result ≡ placeOr (length s.now / 16) (deep_in d i t) }
+    ensures { (t : Term) → StandsIn s.now (16 * i) t → result ≡ place_or (length s.now / 16) (deep_in d i t) }
 {
     if limits::MAX_DEPTH < d {
         return i;

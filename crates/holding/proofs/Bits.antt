@@ -1,11 +1,11 @@
 -- The marks as bits of words (specs/Holding, mark_of): the bit that is set, and those that stay.
-use mathlib.Core.Path.{◌≡◌, ap, ◌∙◌}
+use mathlib.Core.Path.{◌≡◌, refl, ap, ◌∙◌}
 use mathlib.Core.Logic.{◌≢◌}
 use mathlib.Core.List.{List}
-use Prim.Native.Nat.{ℕ, suc, ◌+◌, ◌*◌, ◌-◌, ◌/◌, ◌%◌, ◌^◌, ◌<◌}
+use Prim.Native.Nat.{ℕ, zero, suc, ◌+◌, ◌*◌, ◌-◌, ◌/◌, ◌%◌, ◌^◌, ◌<◌}
 use native.Mathlib.Nat.{div-eq_of_lt, zero-div}
 use native.Mathlib.Omega.{arith}
-use lib.Bits.{bit_or, or_shr, or_mod, or_comm, or_zero_r, shifted_even}
+use lib.Bits.{bit_or, or_shr, or_mod, or_zero_r, shifted_even}
 use lib.Dec.{ltb, eqb}
 use lib.ListN.{length, get_or, set, replicate}
 use lib.Pow.{pow-lt, pow-add, shl_exact, shl-shr}
@@ -18,8 +18,8 @@ use Rattle.holding.specs.Holding.{mark_of, Marks, Unmarked}
 abbrev bit : ℕ → ℕ → ℕ
 bit w b = w / 2 ^ b % 2
 
-bit_or : (w v b : ℕ) → bit (bit_or w v) b ≡ bit_or (bit w b) (bit v b)
-bit_or w v b = ap (λ x. x % 2) (or_shr w v b) ∙ or_mod (w / 2 ^ b) (v / 2 ^ b) 1
+bit_of_or : (w v b : ℕ) → bit (bit_or w v) b ≡ bit_or (bit w b) (bit v b)
+bit_of_or w v b = ap (λ x. x % 2) (or_shr w v b) ∙ or_mod (w / 2 ^ b) (v / 2 ^ b) 1
 
 -- the word whose one bit is c
 bit_same : (c : ℕ) → bit (1 * 2 ^ c) c ≡ 1
@@ -36,15 +36,20 @@ bit_other c b n =
     ap (λ x. x / 2 ^ b % 2) p ∙ (ap (λ x. x % 2) (shl-shr (1 * 2 ^ suc d) b) ∙ shifted_even 1 d))
 
 or_one : (x : ℕ) → bit_or (x % 2) 1 ≡ 1
-or_one x = or_comm (x % 2) 1 ∙ omega arith
+or_one x = go (x % 2) (omega arith)
+  where
+    go : (n : ℕ) → n < 2 → bit_or n 1 ≡ 1
+    go zero l = refl
+    go (suc zero) l = refl
+    go (suc (suc n)) l = absurd (omega arith)
 
 -- "or" with that word sets bit c, and no other
 module _ (w c : ℕ) where
   or_same : bit (bit_or w (1 * 2 ^ c)) c ≡ 1
-  or_same = bit_or w (1 * 2 ^ c) c ∙ (ap (bit_or (bit w c)) (bit_same c) ∙ or_one (w / 2 ^ c))
+  or_same = bit_of_or w (1 * 2 ^ c) c ∙ (ap (bit_or (bit w c)) (bit_same c) ∙ or_one (w / 2 ^ c))
 
   or_other : (b : ℕ) → b ≢ c → bit (bit_or w (1 * 2 ^ c)) b ≡ bit w b
-  or_other b n = bit_or w (1 * 2 ^ c) b ∙ (ap (bit_or (bit w b)) (bit_other c b n) ∙ or_zero_r (bit w b))
+  or_other b n = bit_of_or w (1 * 2 ^ c) b ∙ (ap (bit_or (bit w b)) (bit_other c b n) ∙ or_zero_r (bit w b))
 
 -- the mark of label number i is set in its word
 module _ (marks : List ℕ) (i : ℕ) (l : i / 64 < length marks) where

@@ -6,7 +6,7 @@ ghost use Rattle.cows.specs.Terms.{Term, Action, size, prefixed, receives};
 ghost use Rattle.cows.specs.Places.{sub, first};
 ghost use Rattle.cows.specs.Moves.{closed_action, fit, fewer, tighter};
 ghost use Rattle.records.specs.Holds.{Holds};
-ghost use Rattle.records.specs.Answers.{foundOf};
+ghost use Rattle.records.specs.Answers.{found_of};
 ghost use Rattle.ways.specs.Known.{Table, Known};
 ghost use Rattle.matching.specs.declared.Fit.TheVariants.{Binds};
 ghost use Rattle.matching.specs.Matching.{fit_of, ActionAt};
@@ -33,7 +33,7 @@ fn tighter(s: &[u8], i: usize, b: usize, l: usize) -> bool
 // The first such receive among the ready records.
 pub fn first_tighter(s: &[u8], ends: &[u16], b: usize, l: usize) -> Found
     requires { Known s.now ends.now × (b < length s.now / 16) }
-    ensures { (t : Term) (m : Action) → Table s.now ends.now t → ActionAt s.now b m → closed_action m ≡ true → result ≡ foundOf (first (tighter m l) t) }
+    ensures { (t : Term) (m : Action) → Table s.now ends.now t → ActionAt s.now b m → closed_action m ≡ true → result ≡ found_of (first (tighter m l) t) }
 {
     let n = s.len() / 16;
     let mut i = 0;
@@ -79,7 +79,7 @@ fn any_rival(s: &[u8], from: usize, to: usize, b: usize) -> bool
 // The first receive that is tighter than the one at place a, which fits the invoke at place b and binds l variables. Where it binds none, or is alone on the endpoint, none is.
 pub fn first_rival(s: &[u8], ends: &[u16], a: usize, b: usize, l: usize) -> Found
     requires { Known s.now ends.now × (a < length s.now / 16) × (b < length s.now / 16) }
-    ensures { (t : Term) (q m : Action) → Table s.now ends.now t → prefixed receives (sub t a) ≡ some q → ActionAt s.now b m → closed_action m ≡ true → Binds l ≡ fit_of (fit q m) → result ≡ foundOf (first (tighter m l) t) }
+    ensures { (t : Term) (q m : Action) → Table s.now ends.now t → prefixed receives (sub t a) ≡ some q → ActionAt s.now b m → closed_action m ≡ true → Binds l ≡ fit_of (fit q m) → result ≡ found_of (first (tighter m l) t) }
 {
     if l == 0 {
         return Found::Nothing;

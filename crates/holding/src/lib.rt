@@ -14,7 +14,7 @@ ghost use Rattle.cows.specs.Places.{way_to, first};
 ghost use Rattle.cows.specs.Active.{live};
 ghost use Rattle.cows.specs.Moves.{held_back};
 ghost use Rattle.records.specs.Holds.{Holds};
-ghost use Rattle.records.specs.Answers.{foundOf};
+ghost use Rattle.records.specs.Answers.{found_of};
 ghost use Rattle.ways.specs.Known.{Table, Known};
 ghost use Rattle.holding.specs.Holding.{mark_of, Marks, Unmarked, KillsMarked, holds_at};
 
@@ -94,7 +94,7 @@ fn delimits_marked(s: &[u8], p: usize, marks: &[u64]) -> bool
 // The first delimitation of a marked label on the way to the live place a.
 fn marked_around(s: &[u8], ends: &[u16], a: usize, marks: &[u64]) -> Found
     requires { Known s.now ends.now × (a < length s.now / 16) × (length marks.now ≡ 256) }
-    ensures { (t : Term) → Table s.now ends.now t → KillsMarked marks.now t → live (way_to t a) ≡ true → result ≡ foundOf (first (held_back a a) t) }
+    ensures { (t : Term) → Table s.now ends.now t → KillsMarked marks.now t → live (way_to t a) ≡ true → result ≡ found_of (first (held_back a a) t) }
 {
     let mut p = 0;
     while p < a {
@@ -109,7 +109,7 @@ fn marked_around(s: &[u8], ends: &[u16], a: usize, marks: &[u64]) -> Found
 // The first on the way to the live place a, or else on the way to the live place b.
 fn first_marked(s: &[u8], ends: &[u16], a: usize, b: usize, marks: &[u64]) -> Found
     requires { Known s.now ends.now × (a < length s.now / 16) × (b < length s.now / 16) × (length marks.now ≡ 256) }
-    ensures { (t : Term) → Table s.now ends.now t → KillsMarked marks.now t → live (way_to t a) ≡ true → live (way_to t b) ≡ true → result ≡ foundOf (or_else (first (held_back a a) t) (first (held_back b b) t)) }
+    ensures { (t : Term) → Table s.now ends.now t → KillsMarked marks.now t → live (way_to t a) ≡ true → live (way_to t b) ≡ true → result ≡ found_of (or_else (first (held_back a a) t) (first (held_back b b) t)) }
 {
     if let Found::At(p) = marked_around(s, ends, a, marks) {
         return Found::At(p);
@@ -121,7 +121,7 @@ fn first_marked(s: &[u8], ends: &[u16], a: usize, b: usize, marks: &[u64]) -> Fo
 // One around the higher place alone begins behind all that are around the lower one.
 pub fn first_held(s: &[u8], ends: &[u16], a: usize, b: usize) -> Found
     requires { Known s.now ends.now × (a < length s.now / 16) × (b < length s.now / 16) }
-    ensures { (t : Term) → Table s.now ends.now t → live (way_to t a) ≡ true → live (way_to t b) ≡ true → result ≡ foundOf (first (held_back a b) t) }
+    ensures { (t : Term) → Table s.now ends.now t → live (way_to t a) ≡ true → live (way_to t b) ≡ true → result ≡ found_of (first (held_back a b) t) }
 {
     if !(labelled(s, ends, a) | labelled(s, ends, b)) {
         return Found::Nothing;

@@ -22,7 +22,7 @@ use Rattle.cows.proofs.Format.{length-encode}
 use Rattle.cows.proofs.Fields.{kind-kill, first-kill}
 use Rattle.cows.proofs.Stands.{kills_is, wanted-live, live-wanted}
 use Rattle.records.specs.Atoms.{class_of}
-use Rattle.records.specs.Answers.{foundOf}
+use Rattle.records.specs.Answers.{found_of}
 use Rattle.records.specs.Rewrites.{put, StandsIn, Rewritable, Done, Rewrites}
 use Rattle.records.specs.declared.Label as labels
 use Rattle.records.specs.declared.Atom.TheVariants.{Label}
@@ -79,13 +79,13 @@ module _ (s : List ℕ) (t : Term) (a : ℕ) (h : LiveAt s t a 1) where
 
   -- the scope that is found
   module _ (ends : List ℕ) (z : Table s ends t) (l : labels.Label) (c : class_of (word s (16 * a + 2)) ≡ Label l)
-      (f : Found) (e : f ≡ foundOf (scope_of l.0 (way_to t a))) where
-    found_scope : f ≡ foundOf (scope_of k (way_to t a))
-    found_scope = e ∙ ap (λ d. foundOf (scope_of d (way_to t a))) ((classes.is-label _ l c).0 ∙ label-word)
+      (f : Found) (e : f ≡ found_of (scope_of l.0 (way_to t a))) where
+    found_scope : f ≡ found_of (scope_of k (way_to t a))
+    found_scope = e ∙ ap (λ d. found_of (scope_of d (way_to t a))) ((classes.is-label _ l c).0 ∙ label-word)
 
     pub scope_there : f ≡ Nothing → ⊥
     scope_there x =
-        let y : f ≡ At (has_scope t z.within a k kill-live).0 = found_scope ∙ ap foundOf (has_scope t z.within a k kill-live).1 in
+        let y : f ≡ At (has_scope t z.within a k kill-live).0 = found_scope ∙ ap found_of (has_scope t z.within a k kill-live).1 in
         let w : ◌≡◌ {A = ℕ} 0 1 = cc in
         omega arith
 
@@ -94,7 +94,7 @@ module _ (s : List ℕ) (t : Term) (a : ℕ) (h : LiveAt s t a 1) where
       scope_is : scope_of k (way_to t a) ≡ some from
       scope_is =
           let (p, x) = has_scope t z.within a k kill-live in
-          let y : At p ≡ At from = sym (found_scope ∙ ap foundOf x) ∙ at in
+          let y : At p ≡ At from = sym (found_scope ∙ ap found_of x) ∙ at in
           let w : p ≡ from = cc in
           x ∙ ap some w
 

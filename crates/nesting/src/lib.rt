@@ -3,7 +3,7 @@
 
 ghost use Rattle.std.specs.Prelude.{◌≡◌, ◌/◌, ◌≤◌, ltb, length};
 ghost use Rattle.cows.specs.Basics.{place_if};
-ghost use Rattle.records.specs.Answers.{foundOf};
+ghost use Rattle.records.specs.Answers.{found_of};
 ghost use Rattle.orc.specs.Scripts.{nodes_of, misplaced};
 ghost use Rattle.nesting.specs.Nesting.{NestsTo};
 
@@ -31,7 +31,7 @@ fn nest_on(s: &[u8], i: usize, depth: usize) -> Reading
 
 // The first record over, where an expression that is to be the whole script ends before place m.
 fn first_over(s: &[u8], m: usize) -> Found
-    ensures { result ≡ foundOf (place_if (ltb m (length s.now / 8)) m) }
+    ensures { result ≡ found_of (place_if (ltb m (length s.now / 8)) m) }
 {
     if m < s.len() / 8 {
         return Found::At(m);
@@ -41,7 +41,7 @@ fn first_over(s: &[u8], m: usize) -> Found
 
 // The lowest place of a wrong shape and a depth over 64.
 pub fn find_misplaced(s: &[u8]) -> Found
-    ensures { result ≡ foundOf (misplaced (nodes_of s.now)) }
+    ensures { result ≡ found_of (misplaced (nodes_of s.now)) }
 {
     let whole = nest_on(s, 0, 1);
     match whole {

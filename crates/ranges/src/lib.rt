@@ -5,7 +5,7 @@
 ghost use Rattle.std.specs.Prelude.{◌≡◌, ℕ, ◌+◌, ◌*◌, ◌/◌, ◌<◌, true, length, slice_index};
 ghost use Rattle.cows.specs.Format.{records};
 ghost use Rattle.cows.specs.Tables.{first_wrong};
-ghost use Rattle.records.specs.Answers.{placeOr};
+ghost use Rattle.records.specs.Answers.{place_or};
 ghost use Rattle.ranges.specs.Ranges.{Met, Gathers, ranged};
 
 use records::{limits, wide8, word_at};
@@ -125,7 +125,7 @@ pub fn fields_right(s: &[u8]) -> bool
 
 // The first record that is not right, or the number of records, by a search.
 pub fn find_wrong(s: &[u8]) -> usize
-    ensures { result ≡ placeOr (length s.now / 16) (first_wrong 0 (records s.now)) }
+    ensures { result ≡ place_or (length s.now / 16) (first_wrong 0 (records s.now)) }
 {
     let n = s.len() / 16;
     let mut i = 0;

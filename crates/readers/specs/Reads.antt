@@ -6,7 +6,7 @@ use Rattle.cows.specs.Terms.{Term}
 use Rattle.cows.specs.Kinds.{guard}
 use Rattle.cows.specs.Places.{spot_at, way_to, sub}
 use Rattle.cows.specs.Tables.{in_choice, no_guard}
-use Rattle.records.specs.Answers.{placeOr}
+use Rattle.records.specs.Answers.{place_or}
 use Rattle.records.specs.Holds.{Holds}
 use Rattle.records.specs.Ends.{EndsFrom}
 
@@ -23,7 +23,7 @@ fault_from t i j = first_from (λ m. no_guard m (spot_at t m)) i (j - i)
 
 -- r is that place, or the number of records if there is none
 abbrev pub Names : List ℕ → Term → ℕ → ℕ → ℕ → Type 0
-Names s t i j r = r ≡ placeOr (length s / 16) (fault_from t i j)
+Names s t i j r = r ≡ place_or (length s / 16) (fault_from t i j)
 
 -- by the service reader: what stands at `at` is no child of a choice
 abbrev pub ReadService : List ℕ → ℕ → ℕ → ℕ → Type 0

@@ -5,8 +5,6 @@ use mathlib.Core.List.{[], ◌∷◌}
 use Prim.Native.Nat.{ℕ, ◌≤◌, ◌<◌}
 use native.Mathlib.Omega.{arith}
 use lib.Dec.{leb, ltb, eqb}
-use types.Run.{OneOf, miss}
-use denote.Enum.Declared.{tag_of}
 use borrow.Author.Tests.{eqb-true, eqb-false, ne_eqb, ltb-true, ltb-false, lt-ltb, le-ltb}
 use Rattle.cows.specs.Terms.{value, variable}
 use Rattle.cows.proofs.Basics.{cond_case, and_none}
@@ -14,7 +12,6 @@ use Rattle.cows.proofs.Sets.{in-values, in-variables, value-range, variable-rang
 use Rattle.records.specs.declared.Label as labels
 use Rattle.records.specs.declared.Atom.{Atom}
 use Rattle.records.specs.declared.Atom.TheVariants.{None, Value, Variable, Label}
-use Rattle.records.specs.contracts.Atom.{the_type}
 use Rattle.records.specs.Atoms.{class_of, number_of, is_variable}
 
 -- the class of a number, by the set that it is of
@@ -52,5 +49,6 @@ variable_class n =
     class_case (λ a. is_variable a ≡ variable n) n (λ z. rw z) (λ e. sym (in-values n (value-range n e).0 (value-range n e).1).1) sym (λ l. rw (le-ltb n 49152 l) (sym (and_none (leb 32768 n))))
 
 -- an atom that the code has told to be no label
-pub no_label : (w : ℕ) → OneOf (0 ∷ 1 ∷ 2 ∷ []) (tag_of the_type (class_of w)) → w < 49152
-no_label w = class_case (λ a. OneOf (0 ∷ 1 ∷ 2 ∷ []) (tag_of the_type a) → w < 49152) w (λ z e. omega arith) (λ h e. omega (arith, value-range w h)) (λ h e. omega (arith, variable-range w h)) (λ l e. absurd (miss (0 ∷ 1 ∷ 2 ∷ []) 3 tt e))
+pub no_label : (w : ℕ) → ((k : labels.Label) → class_of w ≡ Label k → ⊥) → w < 49152
+no_label w =
+    class_case (λ a. ((k : labels.Label) → a ≡ Label k → ⊥) → w < 49152) w (λ z e. omega arith) (λ h e. omega (arith, value-range w h)) (λ h e. omega (arith, variable-range w h)) (λ l e. absurd (e _ refl))

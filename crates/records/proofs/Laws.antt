@@ -8,7 +8,7 @@ use mir.Val.{bool_byte}
 use mathlib.Core.Option.{Option, none, some}
 use Rattle.cows.specs.Basics.{one_if}
 use Rattle.records.specs.declared.Found.TheVariants.{At, Nothing}
-use Rattle.records.specs.Answers.{foundOf, placeOr}
+use Rattle.records.specs.Answers.{found_of, place_or}
 
 pub test_sum : (a b : Bool) → (bool_byte a + bool_byte b ≡ one_if a + one_if b) × (bool_byte a + bool_byte b ≤ 2)
 test_sum true true = (refl, omega arith)
@@ -21,15 +21,15 @@ test_small true = omega arith
 test_small false = omega arith
 
 -- a place that the code found, or none
-pub found_at : (o : Option ℕ) (p : ℕ) → At p ≡ foundOf o → o ≡ some p
+pub found_at : (o : Option ℕ) (p : ℕ) → At p ≡ found_of o → o ≡ some p
 found_at none p e = cc
 found_at (some q) p e = cc
 
-pub found_nothing : (o : Option ℕ) → Nothing ≡ foundOf o → o ≡ none
+pub found_nothing : (o : Option ℕ) → Nothing ≡ found_of o → o ≡ none
 found_nothing none e = refl
 found_nothing (some q) e = cc
 
 -- a place below n, or n
-pub place_tells : (n m : ℕ) (g : Option ℕ) → ((p : ℕ) → g ≡ some p → p < n) → m ≡ placeOr n g → (m ≡ n → g ≡ none) × (m ≢ n → (g ≡ some m) × (m < n))
+pub place_tells : (n m : ℕ) (g : Option ℕ) → ((p : ℕ) → g ≡ some p → p < n) → m ≡ place_or n g → (m ≡ n → g ≡ none) × (m ≢ n → (g ≡ some m) × (m < n))
 place_tells n m none below e = (λ h. refl, λ h. absurd (h e))
 place_tells n m (some p) below e = let l = below p refl in (λ h. absurd (omega arith), λ h. (ap some (sym e), omega arith))

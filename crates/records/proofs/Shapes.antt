@@ -23,7 +23,7 @@ use Rattle.cows.proofs.Ends.{end_none, end_one, end_bounds, end_add, end_short, 
 use Rattle.cows.proofs.Scopes.{all_map}
 use Rattle.records.specs.Ends.{wants, end_at, pick_end, EndsFrom}
 use Rattle.records.specs.Rewrites.{StandsIn}
-use Rattle.records.specs.Answers.{placeOr}
+use Rattle.records.specs.Answers.{place_or}
 use Rattle.records.proofs.Pieces.{piece, first_piece}
 use Rattle.records.proofs.StandsIn.{long, stands_children, stands_fits, stands_under, stands_left, stands_right, part_stands}
 
@@ -40,7 +40,7 @@ module _ (s : List ℕ) where
   unfolding end_at
   end-within m h = go (end_of_terms 1 m) (end_bounds wants 1 m (drop m (records s)))
     where
-      go : (o : Option ℕ) → ((e : ℕ) → o ≡ some e → (m ≤ e) × (e ≤ m + length (drop m (records s)))) → (m ≤ placeOr over o) × (placeOr over o ≤ length s / 16 + 1)
+      go : (o : Option ℕ) → ((e : ℕ) → o ≡ some e → (m ≤ e) × (e ≤ m + length (drop m (records s)))) → (m ≤ place_or over o) × (place_or over o ≤ length s / 16 + 1)
       go none f = omega arith
       go (some e) f = omega (arith, f e refl, length-drop m (records s), length_cut 16 s)
 
@@ -48,9 +48,9 @@ module _ (s : List ℕ) where
   unfolding end_at end_of
   end_over m h = rw (drop_of_length-le (records s) {i = m} (omega (arith, length_cut 16 s))) (omega arith)
 
-  end_two : (m : ℕ) (o : Option ℕ) → end_of_terms 1 m ≡ o → placeOr over (end_of_terms 2 m) ≡ end_at s (placeOr over o)
+  end_two : (m : ℕ) (o : Option ℕ) → end_of_terms 1 m ≡ o → place_or over (end_of_terms 2 m) ≡ end_at s (place_or over o)
   unfolding end_at
-  end_two m none q = ap (placeOr over) (end_short wants 1 1 m (drop m (records s)) q) ∙ sym (end_over over (omega arith) ∙ omega arith)
+  end_two m none q = ap (place_or over) (end_short wants 1 1 m (drop m (records s)) q) ∙ sym (end_over over (omega arith) ∙ omega arith)
   end_two m (some e) q =
       let z : m + (e - m) ≡ e = omega (arith, end_bounds wants 1 m (drop m (records s)) e q) in
       rw (end_add wants 1 1 m (drop m (records s)) e q, drop-drop (e - m) m (records s), z)
@@ -59,8 +59,8 @@ module _ (s : List ℕ) where
   unfolding pick_end end_at
   end_pick m c h e l = rw (cut_cons 16 s m h, end_one wants m (piece s (16 * m)) (drop (suc m) (records s)) c (ap children_of (first_piece s (16 * m)) ∙ sym e)) (go c l)
     where
-      go : (c : ℕ) → c ≤ 2 → placeOr over (end_of_terms c (suc m)) ≡ pick_end c (suc m) (end_at s (suc m)) (end_at s (end_at s (suc m)))
-      go zero l = ap (placeOr over) (end_none wants (suc m) (drop (suc m) (records s)))
+      go : (c : ℕ) → c ≤ 2 → place_or over (end_of_terms c (suc m)) ≡ pick_end c (suc m) (end_at s (suc m)) (end_at s (end_at s (suc m)))
+      go zero l = ap (place_or over) (end_none wants (suc m) (drop (suc m) (records s)))
       go (suc zero) l = refl
       go (suc (suc zero)) l = end_two (suc m) (end_of_terms 1 (suc m)) refl
       go (suc (suc (suc c))) l = absurd (omega arith)
@@ -115,7 +115,7 @@ module _ (s : List ℕ) where
 abbrev pub Shape : ℕ → ℕ → Option ℕ → Type 0
 Shape e n o = (e ≡ n → o ≡ none) × (e < n → o ≡ some e) × (n < e → o ≡ some n)
 
-shape_end : (n : ℕ) (o : Option ℕ) → ((e : ℕ) → o ≡ some e → e ≤ n) → Shape (placeOr (suc n) o) n (wrong_end n o)
+shape_end : (n : ℕ) (o : Option ℕ) → ((e : ℕ) → o ≡ some e → e ≤ n) → Shape (place_or (suc n) o) n (wrong_end n o)
 unfolding wrong_end place_if
 shape_end n none l = (λ h. absurd (omega arith), λ h. absurd (omega arith), λ h. refl)
 shape_end n (some e) l = (λ h. rw (le-ltb e n (omega arith)), λ h. rw (lt-ltb e n h), λ h. absurd (omega (arith, l e refl)))

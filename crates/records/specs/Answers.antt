@@ -5,11 +5,11 @@ use Rattle.records.specs.declared.Found.{Found}
 use Rattle.records.specs.declared.Found.TheVariants.{At, Nothing}
 
 -- a place that may be missing, as the code answers it
-abbrev pub foundOf : Option ℕ → Found
-foundOf none = Nothing
-foundOf (some p) = At p
+abbrev pub found_of : Option ℕ → Found
+found_of none = Nothing
+found_of (some p) = At p
 
 -- a place, or n
-abbrev pub placeOr : ℕ → Option ℕ → ℕ
-placeOr n none = n
-placeOr n (some p) = p
+abbrev pub place_or : ℕ → Option ℕ → ℕ
+place_or n none = n
+place_or n (some p) = p

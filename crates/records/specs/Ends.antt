@@ -4,14 +4,14 @@ use Rattle.cows.specs.Limits.{max_records}
 use Rattle.cows.specs.Kinds.{children_of}
 use Rattle.cows.specs.Format.{byte, records}
 use Rattle.cows.specs.Tables.{end_of}
-use Rattle.records.specs.Answers.{placeOr}
+use Rattle.records.specs.Answers.{place_or}
 
 -- the terms that a record wants behind it; the end of the term at place m, one past the number of records where they run out
 abbrev pub wants : List ℕ → ℕ
 wants b = children_of (byte b 0)
 
 unfoldable pub end_at : List ℕ → ℕ → ℕ
-end_at s m = placeOr (suc (length s / 16)) (end_of wants 1 m (drop m (records s)))
+end_at s m = place_or (suc (length s / 16)) (end_of wants 1 m (drop m (records s)))
 
 unfoldable pub pick_end : ℕ → ℕ → ℕ → ℕ → ℕ
 pick_end c x a b = cond (eqb c 0) x (cond (eqb c 1) a b)

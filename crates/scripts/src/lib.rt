@@ -6,7 +6,7 @@ pub mod kinds;
 ghost use Rattle.std.specs.Prelude.{◌≡◌, ◌+◌, ◌*◌, ◌/◌, ◌<◌, length, take, drop};
 ghost use Rattle.cows.specs.Terms.{value, variable, datum};
 ghost use Rattle.cows.specs.Cut.{cut, first_failing};
-ghost use Rattle.records.specs.Answers.{placeOr};
+ghost use Rattle.records.specs.Answers.{place_or};
 ghost use Rattle.orc.specs.Scripts.{right_record8};
 
 use records::{limits, word_at};
@@ -55,7 +55,7 @@ fn record8_right(s: &[u8], i: usize) -> bool
 
 // The first record that is not right, or the number of records.
 pub fn first_malformed(s: &[u8]) -> usize
-    ensures { result ≡ placeOr (length s.now / 8) (first_failing right_record8 0 (cut 8 s.now)) }
+    ensures { result ≡ place_or (length s.now / 8) (first_failing right_record8 0 (cut 8 s.now)) }
 {
     let n = s.len() / 8;
     let mut i = 0;

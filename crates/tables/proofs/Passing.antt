@@ -13,7 +13,7 @@ use Rattle.cows.specs.Format.{AreBytes, read_node, records, decode, word}
 use Rattle.cows.specs.Tables.{first_wrong, too_deep, no_guard, judge_term}
 use Rattle.cows.proofs.Tables.{records_hold}
 use Rattle.cows.proofs.Refusals.{shallow_first}
-use Rattle.records.specs.Answers.{placeOr}
+use Rattle.records.specs.Answers.{place_or}
 use Rattle.records.specs.Ends.{end_at, EndsFrom}
 use Rattle.records.specs.Holds.{Holds}
 use Rattle.records.proofs.Laws.{place_tells}
@@ -50,7 +50,7 @@ pub deep_tells : (s : List ℕ) (p : ℕ) (t : Term) → Holds s t → FirstDeep
     → (p ≡ length s / 16 → first too_deep t ≡ none) × (p ≢ length s / 16 → (first too_deep t ≡ some p) × (p < length s / 16))
 deep_tells s p t h f =
     let n = holds_size s t h in
-    place_tells (length s / 16) p (first too_deep t) (λ q e. omega (arith, deep-below 1 0 t q (deep-first t ∙ e))) (f t (whole_stands t h.is) ∙ ap (placeOr (length s / 16)) (deep-first t))
+    place_tells (length s / 16) p (first too_deep t) (λ q e. omega (arith, deep-below 1 0 t q (deep-first t ∙ e))) (f t (whole_stands t h.is) ∙ ap (place_or (length s / 16)) (deep-first t))
 
 -- the verdict by what the searches find: 4, 5, and what is found of the scopes
 module _ (s ends : List ℕ) (e : EndsFrom s ends 0) (p : ℕ) (f : FirstDeep s 0 1 p) where

@@ -8,7 +8,7 @@ ghost use Rattle.cows.specs.Kinds.{live_kind};
 ghost use Rattle.cows.specs.Places.{way_to, sub};
 ghost use Rattle.records.specs.Atoms.{number_of};
 ghost use Rattle.records.specs.Holds.{Holds};
-ghost use Rattle.records.specs.Answers.{foundOf};
+ghost use Rattle.records.specs.Answers.{found_of};
 ghost use Rattle.ways.specs.Known.{Table, Known, EndPlaces};
 ghost use Rattle.ways.specs.Ways.{Over, Step, scope_of, Placed};
 
@@ -98,7 +98,7 @@ fn delimits(s: &[u8], p: usize, atom: Atom) -> bool
 // The delimitation of an atom that encloses place a.
 pub fn scope(s: &[u8], ends: &[u16], a: usize, atom: Atom) -> Found
     requires { Known s.now ends.now × (a < length s.now / 16) }
-    ensures { (t : Term) → Table s.now ends.now t → result ≡ foundOf (scope_of (number_of atom) (way_to t a)) }
+    ensures { (t : Term) → Table s.now ends.now t → result ≡ found_of (scope_of (number_of atom) (way_to t a)) }
 {
     let mut p = 0;
     while p < a {

@@ -9,7 +9,7 @@ pub returns-then-s-p-ne-DELIMITATION : goal.returns-then-s-p-ne-DELIMITATION
 returns-then-s-p-ne-DELIMITATION c t h l m = sym (holds_other _ t h _ l c.if-s-p-ne-DELIMITATION.true)
 
 pub returns-in_default : goal.returns-in_default
-returns-in_default c t h l m = sym (holds_no-label _ t h _ l c.if-s-p-ne-DELIMITATION.false _ refl (no_label _ (rw c.atom_at-atom.ensures at c.in_default.in_default-own.keys2)))
+returns-in_default c t h l m = sym (holds_no-label _ t h _ l c.if-s-p-ne-DELIMITATION.false _ refl (no_label _ (rw c.atom_at-atom.ensures at c.in_default.not-Label)))
 
 pub marked-requires : goal.marked-requires
 marked-requires c = let k = is-label _ _ (sym c.atom_at-atom.ensures ∙ c.in-Label.is) in

@@ -3,16 +3,16 @@ use mathlib.Core.Path.{◌≡◌, sym, ◌∙◌}
 use mathlib.Core.Option.{Option, none, some}
 use Prim.Native.Nat.{ℕ}
 use Rattle.cows.specs.Basics.{or_else}
-use Rattle.records.specs.Answers.{foundOf}
+use Rattle.records.specs.Answers.{found_of}
 use Rattle.records.proofs.Laws.{found_at, found_nothing}
 use Rattle.holding.proofs.first_marked.Goals as goal
 
 -- the first of two places, where the first is there and where it is not
-first-there : (p q : Option ℕ) (n : ℕ) → p ≡ some n → foundOf (some n) ≡ foundOf (or_else p q)
+first-there : (p q : Option ℕ) (n : ℕ) → p ≡ some n → found_of (some n) ≡ found_of (or_else p q)
 unfolding or_else
 first-there p q n e = rw e
 
-second-there : (p q : Option ℕ) → p ≡ none → foundOf q ≡ foundOf (or_else p q)
+second-there : (p q : Option ℕ) → p ≡ none → found_of q ≡ found_of (or_else p q)
 unfolding or_else
 second-there p q e = rw e
 

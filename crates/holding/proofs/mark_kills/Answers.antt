@@ -21,7 +21,7 @@ loop-i-init c = (omega arith, c.requires.1, λ b. (λ e. b, λ t h. marking_star
 pub loop-i-preserved-in_default : goal.loop-i-preserved-in_default
 loop-i-preserved-in_default c = let q = c.requires.0 in
     let r = kill-range _ _ q.term q.table c.loop-i.i (omega arith) c.if-kind-eq-KILL.true _ refl in
-    let l = no_label _ (rw c.atom_at-atom.ensures at c.in_default.in_default-own.keys2) in
+    let l = no_label _ (rw c.atom_at-atom.ensures at c.in_default.not-Label) in
     absurd (omega arith)
 
 pub mark-requires : goal.mark-requires

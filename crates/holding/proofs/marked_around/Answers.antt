@@ -3,7 +3,7 @@ use mathlib.Core.Path.{sym, ap, ◌∙◌}
 use Prim.Native.Nat.{◌-◌}
 use native.Mathlib.Omega.{arith}
 use Rattle.cows.specs.Terms.{Term}
-use Rattle.records.specs.Answers.{foundOf}
+use Rattle.records.specs.Answers.{found_of}
 use Rattle.ways.specs.Known.{Table}
 use Rattle.ways.specs.Ways.{Over}
 use Rattle.ways.proofs.KnownTables.{table_ended, table_inside}
@@ -21,7 +21,7 @@ delimits_marked-requires c = let q = c.requires in (omega (arith, q.0.whole), q.
 pub returns-then-delimits_marked : goal.returns-then-delimits_marked
 returns-then-delimits_marked c t h m v = let (x, e) = c.loop-p.invariant t h in
     let i = table_inside _ _ t h _ c.requires.1 in
-    ap foundOf (sym (first_around t h.within _ i v _ x (omega arith) (e m) (sym (c.delimits_marked.ensures t h.holds x.inside m) ∙ c.if-delimits_marked.true)))
+    ap found_of (sym (first_around t h.within _ i v _ x (omega arith) (e m) (sym (c.delimits_marked.ensures t h.holds x.inside m) ∙ c.if-delimits_marked.true)))
 
 pub loop-p-smaller : goal.loop-p-smaller
 loop-p-smaller c = step_less c.requires.0 (λ t h. c.down-p.ensures t (table_ended _ _ t h) (c.loop-p.invariant t h).0 (omega arith))
@@ -35,4 +35,4 @@ pub returns : goal.returns
 returns c t h m v = let (x, e) = c.loop-p.invariant t h in
     let i = table_inside _ _ t h _ c.requires.1 in
     let o = outside-end (killed t) t x (omega arith) (e m) in
-    ap foundOf (sym (none-held t h.within _ _ i i v v o o))
+    ap found_of (sym (none-held t h.within _ _ i i v v o o))

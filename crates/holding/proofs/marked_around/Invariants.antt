@@ -3,7 +3,7 @@ use mathlib.Core.Path.{sym, ap, ◌∙◌}
 use Prim.Native.Nat.{◌-◌}
 use native.Mathlib.Omega.{arith}
 use Rattle.cows.specs.Terms.{Term}
-use Rattle.records.specs.Answers.{foundOf}
+use Rattle.records.specs.Answers.{found_of}
 use Rattle.ways.specs.Known.{Table}
 use Rattle.ways.specs.Ways.{Over}
 use Rattle.ways.proofs.KnownTables.{table_ended, table_inside}

@@ -1,4 +1,4 @@
-use Rattle.std.proofs.Common.{◌≡◌, ℕ, ◌-◌, ◌*◌, ◌/◌, ◌<◌, ◌≤◌, true, length, get_or, refl, arith, below_more}
+use Rattle.std.proofs.Common.{◌≡◌, ℕ, ◌+◌, ◌-◌, ◌*◌, ◌/◌, ◌<◌, ◌≤◌, true, length, get_or, refl, arith, below_more}
 use Rattle.cows.specs.Basics.{every}
 use Rattle.ranges.specs.Ranges.{field_rows, ranged}
 use Rattle.ranges.proofs.Gathering.{Tables, row_below, gathered-ranged}
@@ -28,7 +28,7 @@ loop-i-preserved c = let v = c.loop-i in (
   omega (arith, c.out-in-loop-i-1.given),
   λ z.
       below_more _ v.i (v.invariant.4 (λ j m. (c.gather.ensures j m (z j m)).0))
-      (gathered-ranged v.invariant.0 c.args.s.now (16 * v.i) _ (omega (arith, c.wide8-in-loop-i.ensures.0, c.wide8.ensures.0, row_below c.loop-i.invariant.0 c.wide8-kind.result c.wide8-count.result)) (omega (arith, c.shared_slice_known-in-loop-i-1.given (16 * v.i)))
+      (gathered-ranged v.invariant.0 c.args.s.now (16 * v.i) (c.wide8.result + c.wide8-in-loop-i.result) (omega (arith, c.wide8-in-loop-i.ensures.0, c.wide8.ensures.0, row_below c.loop-i.invariant.0 c.wide8-kind.result c.wide8-count.result)) (omega (arith, c.shared_slice_known-in-loop-i-1.given (16 * v.i)))
       (λ j m. (c.gather.ensures j m (z j m)).1)),
 )
 

@@ -5,7 +5,7 @@ use native.Mathlib.Omega.{arith}
 use lib.ListN.{length, drop}
 use Rattle.cows.specs.Cut.{cut, first_failing}
 use Rattle.cows.proofs.Cut.{failing_here, passing_here, none_left}
-use Rattle.records.specs.Answers.{placeOr}
+use Rattle.records.specs.Answers.{place_or}
 use Rattle.orc.specs.Scripts.{right_record8}
 use Rattle.scripts.proofs.first_malformed.Goals as goal
 
@@ -14,7 +14,7 @@ loop-i-init c = (refl, refl)
 
 pub returns-then-not-record8_right : goal.returns-then-not-record8_right
 returns-then-not-record8_right c = let v = c.loop-i.invariant in
-    sym (ap (placeOr _) (v.1 ∙ failing_here 8 _ _ _ _ (omega arith) c.record8_right.ensures c.if-not-record8_right.true-raw))
+    sym (ap (place_or _) (v.1 ∙ failing_here 8 _ _ _ _ (omega arith) c.record8_right.ensures c.if-not-record8_right.true-raw))
 
 pub loop-i-preserved : goal.loop-i-preserved
 loop-i-preserved c = let v = c.loop-i.invariant in
@@ -22,4 +22,4 @@ loop-i-preserved c = let v = c.loop-i.invariant in
 
 pub returns : goal.returns
 returns c = let v = c.loop-i.invariant in
-    v.0 ∙ sym (ap (placeOr _) (v.1 ∙ none_left 8 _ _ _ (omega arith)))
+    v.0 ∙ sym (ap (place_or _) (v.1 ∙ none_left 8 _ _ _ (omega arith)))

@@ -6,7 +6,7 @@ use Rattle.timeout.proofs.Judged.{asks_cut, gives_cut}
 use Rattle.timeout.proofs.write.Goals as goal
 
 pub cut-requires : goal.cut-requires
-cut-requires c = asks_cut _ _ _ _ _ c.requires
+cut-requires c = let w = asks_cut _ _ _ _ _ c.requires in record { span = w.0; room = w.1 }
 
 pub returns : goal.returns
 returns c = let q = c.requires in

@@ -9,7 +9,7 @@ use native.Mathlib.Omega.{arith}
 use lib.ListN.{length}
 use Rattle.cows.specs.Cut.{cut, first_failing}
 use Rattle.cows.proofs.Cut.{failing_below, length_cut}
-use Rattle.records.specs.Answers.{placeOr}
+use Rattle.records.specs.Answers.{place_or}
 use Rattle.records.proofs.Laws.{place_tells}
 use Rattle.tables.proofs.Judging.{slice_bytes}
 use Rattle.stepper.proofs.Stepping.{refused_answers, answers_as}
@@ -20,7 +20,7 @@ use Rattle.translator.proofs.translate.Statement.{statement}
 use Rattle.translator.proofs.translate.Tie as tie
 
 -- what the search for a wrong record tells
-search-tells : (b : List ℕ) (m : ℕ) → m ≡ placeOr (length b / 8) (first_failing right_record8 0 (cut 8 b))
+search-tells : (b : List ℕ) (m : ℕ) → m ≡ place_or (length b / 8) (first_failing right_record8 0 (cut 8 b))
     → (m ≡ length b / 8 → first_failing right_record8 0 (cut 8 b) ≡ none) × (m ≢ length b / 8 → (first_failing right_record8 0 (cut 8 b) ≡ some m) × (m < length b / 8))
 search-tells b m e = place_tells (length b / 8) m _ (λ p h. omega (arith, failing_below right_record8 0 (cut 8 b) p h, length_cut 8 b)) e
 

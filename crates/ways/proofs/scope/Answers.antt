@@ -6,7 +6,7 @@ use native.Mathlib.Omega.{arith}
 use Rattle.cows.specs.Terms.{Term}
 use Rattle.cows.specs.Places.{way_to}
 use Rattle.records.specs.Atoms.{number_of}
-use Rattle.records.specs.Answers.{foundOf}
+use Rattle.records.specs.Answers.{found_of}
 use Rattle.ways.specs.Known.{Table}
 use Rattle.ways.specs.Ways.{scope_of, Over}
 use Rattle.ways.proofs.KnownTables.{table_ended, table_inside}
@@ -25,7 +25,7 @@ pub returns-then-delimits : goal.returns-then-delimits
 unfolding scope_of
 returns-then-delimits c t h = let v = (c.loop-p.invariant t h).0 in
     let i = table_inside _ _ t h _ c.requires.1 in
-    ap foundOf (sym (stop_scope h.within.formed i v (omega arith) _ (sym (c.delimits.ensures t h.holds v.inside) ∙ c.if-delimits.true)))
+    ap found_of (sym (stop_scope h.within.formed i v (omega arith) _ (sym (c.delimits.ensures t h.holds v.inside) ∙ c.if-delimits.true)))
 
 pub loop-p-smaller : goal.loop-p-smaller
 unfolding scope_of
@@ -40,4 +40,4 @@ loop-p-preserved c t h = let (v, e) = c.loop-p.invariant t h in
 pub returns : goal.returns
 unfolding scope_of
 returns c t h = let (v, e) = c.loop-p.invariant t h in
-    ap foundOf (sym e ∙ at_end (λ p. scope_of (number_of c.args.atom) (way_to t p)) v (omega arith))
+    ap found_of (sym e ∙ at_end (λ p. scope_of (number_of c.args.atom) (way_to t p)) v (omega arith))

@@ -6,7 +6,7 @@ use native.Mathlib.Omega.{arith}
 use Rattle.cows.specs.Terms.{Term}
 use Rattle.cows.specs.Places.{way_to}
 use Rattle.records.specs.Atoms.{number_of}
-use Rattle.records.specs.Answers.{foundOf}
+use Rattle.records.specs.Answers.{found_of}
 use Rattle.ways.specs.Known.{Table}
 use Rattle.ways.specs.Ways.{scope_of, Over}
 use Rattle.ways.proofs.KnownTables.{table_ended, table_inside}

@@ -3,12 +3,12 @@ use mathlib.Core.Path.{sym, ap}
 use native.Mathlib.Omega.{arith}
 use borrow.Author.Tests.{not-true}
 use Rattle.cows.proofs.Basics.{or_false}
-use Rattle.records.specs.Answers.{foundOf}
+use Rattle.records.specs.Answers.{found_of}
 use Rattle.holding.proofs.Conflicting.{none-under, alone_tighter}
 use Rattle.holding.proofs.conflicts.first_rival.Goals as goal
 
 pub returns-then-l-eq0 : goal.returns-then-l-eq0
-returns-then-l-eq0 c t q m z e x y f = rw c.if-l-eq0.true (ap foundOf (sym (none-under t m)))
+returns-then-l-eq0 c t q m z e x y f = rw c.if-l-eq0.true (ap found_of (sym (none-under t m)))
 
 pub any_rival-requires : goal.any_rival-requires
 any_rival-requires c = let q = c.requires in omega (arith, q.0.whole)
@@ -21,7 +21,7 @@ any_rival-requires-2 c = let q = c.requires in omega (arith, q.0.whole)
 
 pub returns-then-not-any_rival : goal.returns-then-not-any_rival
 returns-then-not-any_rival c t q m z e x y f = let (u, v) = or_false _ _ (not-true _ c.if-not-any_rival.true-raw) in
-    ap foundOf (sym (alone_tighter z _ _ _ q m e x f (c.any_rival.ensures u) (c.any_rival-2.ensures v)))
+    ap found_of (sym (alone_tighter z _ _ _ q m e x f (c.any_rival.ensures u) (c.any_rival-2.ensures v)))
 
 pub returns : goal.returns
 returns c t q m z e x y f = c.first_tighter.ensures t m z x y

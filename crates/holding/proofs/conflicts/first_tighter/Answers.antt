@@ -7,7 +7,7 @@ use Rattle.cows.specs.Terms.{Term, Action}
 use Rattle.cows.specs.Kinds.{ready_kind}
 use Rattle.cows.specs.Active.{ready}
 use Rattle.cows.specs.Moves.{closed_action, tighter}
-use Rattle.records.specs.Answers.{foundOf}
+use Rattle.records.specs.Answers.{found_of}
 use Rattle.ways.specs.Known.{Table}
 use Rattle.matching.specs.Matching.{ActionAt}
 use Rattle.ways.proofs.KnownTables.{table_size}
@@ -26,7 +26,7 @@ tighter-requires c = omega (arith, c.requires.0.whole)
 
 pub returns-then-tighter : goal.returns-then-tighter
 unfolding tighter ready
-returns-then-tighter c t m h k z = ap foundOf (sym (table_found _ _ t h _ (omega arith) ready_kind _ (c.loop-i.invariant.1 t m h k z) (λ i. c.tighter.ensures t m h.holds i k z) c.if-tighter.true))
+returns-then-tighter c t m h k z = ap found_of (sym (table_found _ _ t h _ (omega arith) ready_kind _ (c.loop-i.invariant.1 t m h k z) (λ i. c.tighter.ensures t m h.holds i k z) c.if-tighter.true))
 
 pub loop-i-preserved-then-ready_kind : goal.loop-i-preserved-then-ready_kind
 unfolding tighter ready
@@ -52,4 +52,4 @@ loop-i-preserved c = let q = c.requires.0 in (
 
 pub returns : goal.returns
 unfolding tighter ready
-returns c t m h k z = ap foundOf (sym (seeking_end _ _ t _ (c.loop-i.invariant.1 t m h k z) (omega (arith, table_size _ _ t h))))
+returns c t m h k z = ap found_of (sym (seeking_end _ _ t _ (c.loop-i.invariant.1 t m h k z) (omega (arith, table_size _ _ t h))))

@@ -7,7 +7,7 @@ use Rattle.cows.specs.Terms.{Term, Action}
 use Rattle.cows.specs.Kinds.{ready_kind}
 use Rattle.cows.specs.Active.{ready}
 use Rattle.cows.specs.Moves.{closed_action, tighter}
-use Rattle.records.specs.Answers.{foundOf}
+use Rattle.records.specs.Answers.{found_of}
 use Rattle.ways.specs.Known.{Table}
 use Rattle.matching.specs.Matching.{ActionAt}
 use Rattle.ways.proofs.KnownTables.{table_size}
