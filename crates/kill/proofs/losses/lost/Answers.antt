@@ -1,0 +1,60 @@
+-- Each turn of the loop goes on to a later place; what it does to the count is in proofs/Losing.
+use borrow.Author.Rules.{rules}
+use mathlib.Core.Path.{refl}
+use mathlib.Core.Logic.{⊎_elim}
+use Prim.Native.Nat.{◌+◌, ◌-◌, ◌/◌, ◌≤◌}
+use native.Mathlib.Omega.{arith}
+use lib.ListN.{length}
+use Rattle.cows.specs.Terms.{Term}
+use Rattle.cows.specs.Places.{sub}
+use Rattle.ways.specs.Known.{Table}
+use Rattle.kill.proofs.Losing.{Losing, end_fits, losing_start, losing_end, losing_on, losing_gone, losing_kept, losing_alone}
+use Rattle.kill.proofs.losses.lost.Goals as goal
+
+pub loop-i-init : goal.loop-i-init
+loop-i-init c = let (q, l) = c.requires in
+    let e = c.wide16-end.ensures.0 in
+    let f = end_fits _ _ q.term q.table _ l _ e in
+    (omega arith, f.0, f.1, λ t h. losing_start _ _ t h _ l _ e _)
+
+pub loop-i-preserved-then-kind-lt-RECEIVE : goal.loop-i-preserved-then-kind-lt-RECEIVE
+loop-i-preserved-then-kind-lt-RECEIVE c = let v = c.loop-i.invariant in (omega arith, omega arith, v.2, λ t h. losing_alone _ _ h.end _ _ _ _ _ _ (v.3 t h) (omega arith) _ refl (λ k. omega arith) (λ k. absurd (omega arith)))
+
+pub overflow_sub-gone : goal.overflow_sub-gone
+overflow_sub-gone c = let n = losing_on c.requires.0 c.loop-i.invariant.3 (omega arith) c.wide16-next.ensures.0 in omega arith
+
+pub overflow_sub-gone-then-kind-lt-PARALLEL : goal.overflow_sub-gone-then-kind-lt-PARALLEL
+overflow_sub-gone-then-kind-lt-PARALLEL c = let n = losing_on c.requires.0 c.loop-i.invariant.3 (omega arith) c.wide16-next.ensures.0 in omega arith
+
+pub overflow_add-gone : goal.overflow_add-gone
+overflow_add-gone c = let n = losing_on c.requires.0 c.loop-i.invariant.3 (omega arith) c.wide16-next.ensures.0 in omega (arith, c.requires.0.few)
+
+pub loop-i-smaller-then-kind-lt-PARALLEL : goal.loop-i-smaller-then-kind-lt-PARALLEL
+loop-i-smaller-then-kind-lt-PARALLEL c = let n = losing_on c.requires.0 c.loop-i.invariant.3 (omega arith) c.wide16-next.ensures.0 in omega arith
+
+pub loop-i-preserved-then-kind-lt-PARALLEL : goal.loop-i-preserved-then-kind-lt-PARALLEL
+loop-i-preserved-then-kind-lt-PARALLEL c = let v = c.loop-i.invariant in
+    let e = c.wide16-next.ensures.0 in
+    let n = losing_on c.requires.0 v.3 (omega arith) e in
+    (omega arith, n.1, v.2, λ t h. losing_gone _ _ h.end _ _ _ _ _ _ (v.3 t h) (omega arith) _ e c.if-kind-lt-PARALLEL.true)
+
+pub loop-i-smaller-then-a-i : goal.loop-i-smaller-then-a-i
+loop-i-smaller-then-a-i c = let n = losing_on c.requires.0 c.loop-i.invariant.3 (omega arith) c.wide16-next-then-kind-eq-PROTECTION.ensures.0 in omega arith
+
+pub loop-i-preserved-then-a-i : goal.loop-i-preserved-then-a-i
+loop-i-preserved-then-a-i c = let v = c.loop-i.invariant in
+    let e = c.wide16-next-then-kind-eq-PROTECTION.ensures.0 in
+    let n = losing_on c.requires.0 v.3 (omega arith) e in
+    (omega arith, n.1, v.2, λ t h. losing_kept _ _ h.end _ _ _ _ _ _ (v.3 t h) (omega arith) _ e c.if-kind-eq-PROTECTION.true c.if-a-i.true)
+
+pub loop-i-preserved : goal.loop-i-preserved
+loop-i-preserved c = let v = c.loop-i.invariant in (
+  omega arith,
+  omega arith,
+  v.2,
+  λ t h. losing_alone _ _ h.end _ _ _ _ _ _ (v.3 t h) (omega arith) _ refl (λ k. c.if-kind-lt-PARALLEL.false)
+      (λ k. ⊎_elim (λ w. rw w.2.ensures.0 at w.3.left) (λ w. absurd (w.left k)) c.if-kind-eq-PROTECTION.branch),
+)
+
+pub returns : goal.returns
+returns c t h = losing_end _ _ t h _ c.requires.1 _ c.wide16-end.ensures.0 _ _ _ (c.loop-i.invariant.3 t h) (omega arith)
