@@ -1,6 +1,5 @@
 use mathlib.Core.Path.{◌≡◌, sym, ◌∙◌}
 use mathlib.Core.Bool.{true}
-use mathlib.Core.Logic.{⊎_elim}
 use Prim.Native.Nat.{ℕ, ◌-◌, ◌≤◌, ◌<◌}
 use native.Mathlib.Omega.{arith}
 use lib.Bits.{bit_and}
@@ -12,6 +11,7 @@ use Rattle.cows.proofs.Basics.{and_true}
 use Rattle.index.specs.Index.{Clear, UsesRight}
 use Rattle.index.proofs.Bounds.{and_clear, short_right, long_right}
 use Rattle.index.proofs.uses_right.Goals as goal
+use Rattle.index.proofs.uses_right.Goals.{then-x-ne0, else-x-ne0}
 
 pub loop-i-init : goal.loop-i-init
 loop-i-init c = (omega arith, λ f a q l. absurd (omega arith))
@@ -77,16 +77,16 @@ pub loop-i-preserved : goal.loop-i-preserved
 loop-i-preserved c = let o = c.loop-i in
     let a = c.args in (
       omega arith,
-      λ f t. ⊎_elim
-          (λ w.
-          let (p, u, r) = long_right a.s.now a.index.now a.shift a.mask _ _ _ _ _ c.wide16-k.ensures.0 c.wide64-at.ensures.0 c.word_at-x.ensures c.faults-fault.ensures
-          _ _ _ _ _ w.2.ensures w.3.ensures w.4.ensures w.5.ensures w.1.ensures _ o.fault _ o.apart w.7 w.8 f t in
-          below_more _ _ (o.invariant.1 p u) r)
-          (λ w.
-          let (p, r) = short_right a.s.now a.index.now a.shift a.mask _ _ _ _ _ c.wide16-k.ensures.0 c.wide64-at.ensures.0 c.word_at-x.ensures c.faults-fault.ensures
-          w.0.left _ o.fault w.1 f in
-          below_more _ _ (o.invariant.1 p (sym w.2 ∙ t)) r)
-          c.if-x-ne0.branch,
+      λ f t. elim c.if-x-ne0.branch [
+        | then-x-ne0 w ↦
+            let (p, u, r) = long_right a.s.now a.index.now a.shift a.mask _ _ _ _ _ c.wide16-k.ensures.0 c.wide64-at.ensures.0 c.word_at-x.ensures c.faults-fault.ensures
+            _ _ _ _ _ w.word_at.ensures w.word_at-then-x-ne0.ensures w.word_at-then-x-ne0-2.ensures w.distinct4-d.ensures w.faults-fault-then-x-ne0.ensures _ o.fault _ o.apart w.fault-is w.apart-is f t in
+            below_more _ _ (o.invariant.1 p u) r
+        | else-x-ne0 w ↦
+            let (p, r) = short_right a.s.now a.index.now a.shift a.mask _ _ _ _ _ c.wide16-k.ensures.0 c.wide64-at.ensures.0 c.word_at-x.ensures c.faults-fault.ensures
+            w.if-x-ne0.false _ o.fault w.fault-is f in
+            below_more _ _ (o.invariant.1 p (sym w.apart-is ∙ t)) r
+      ],
     )
 
 pub returns : goal.returns
