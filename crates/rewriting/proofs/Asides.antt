@@ -149,3 +149,7 @@ module _ {s ends : List ℕ} {i a : ℕ} {d : List ℕ} {j : ℕ}
 
       pub way_second_both : {e' : List ℕ} {p' q' : ℕ} → d' ≡ put d j (take 16 (drop i s)) → Rewrites (halt_aside (place_in p a)) s p e q e' p' q' → Rewrites (halt_aside (place_in i a)) s i d j e' p' q'
       way_second_both x v = two_children _ halt _ _ (rest p) r b.at in_rest (omega (arith, kinds)) w at kinds x v
+
+-- what halting beside the way asks, as its two clauses
+pub aside_clauses : {A B : Type 0} → A × B → record { rewritable : A; place_of : B }
+aside_clauses h = record { rewritable = h.0; place_of = h.1 }

@@ -21,7 +21,7 @@ pub atom_at-atom-requires : goal.atom_at-atom-requires
 atom_at-atom-requires c = let q = c.requires in let i = found_inside c.place_at.ensures q c.if-not-place_at.false in omega (arith, q.few)
 
 pub returns-in_default : goal.returns-in_default
-returns-in_default c t h = absurd (label_there _ t _ (found-live c.place_at.ensures h c.if-not-place_at.false) _ h (no_label _ (rw c.atom_at-atom.ensures at c.in_default.in_default-own.keys2)))
+returns-in_default c t h = absurd (label_there _ t _ (found-live c.place_at.ensures h c.if-not-place_at.false) _ h (no_label _ (rw c.atom_at-atom.ensures at c.in_default.not-Label)))
 
 pub scope-requires : goal.scope-requires
 scope-requires c = let q = c.requires in
@@ -33,7 +33,10 @@ returns-in_default-scope c t h = let l = found-live c.place_at.ensures h c.if-no
     absurd (scope_there _ t _ l _ h _ k _ (c.scope.ensures t h) c.in_default-scope.is)
 
 pub overflow_add-from : goal.overflow_add-from
-overflow_add-from c = let (q, i) = lost-requires c c.lifetimes in omega (arith, q.few)
+overflow_add-from c = let q = c.requires in
+    let l = found-live c.place_at.ensures q.table c.if-not-place_at.false in
+    let k = sym c.atom_at-atom.ensures ∙ c.in-Label.is in
+    omega (arith, q.few, body-inside _ q.term _ l _ q.table _ k _ (c.scope.ensures q.term q.table) _ c.in-At.is)
 
 pub lost-requires : goal.lost-requires
 lost-requires c = let q = c.requires in

@@ -1,6 +1,7 @@
 use borrow.Author.Rules.{rules}
 use native.Mathlib.Omega.{arith}
 use Rattle.plans.proofs.Planning.{gives}
+use Rattle.rewriting.proofs.Asides.{aside_clauses}
 use Rattle.kill.proofs.Judged.{head_fits, body_asks, behind_fits, gives_kill}
 use Rattle.kill.proofs.write.Goals as goal
 
@@ -17,7 +18,7 @@ pub overflow_mul-a : goal.overflow_mul-a
 overflow_mul-a c = let q = c.requires in omega (arith, head_fits _ _ _ _ _ q, q.known.few, q.known.whole)
 
 pub aside_at-places-requires : goal.aside_at-places-requires
-aside_at-places-requires c = body_asks _ _ _ _ _ c.requires _ (search rules)
+aside_at-places-requires c = aside_clauses (body_asks _ _ _ _ _ c.requires _ (search rules))
 
 pub overflow_sub-s : goal.overflow_sub-s
 overflow_sub-s c = (behind_fits _ _ _ _ _ c.requires c.aside_at-places.ensures).0

@@ -4,15 +4,13 @@ use native.Mathlib.Omega.{arith}
 use borrow.Author.Rules.{rules}
 use borrow.Author.Tests.{not-true, not-false}
 use lib.ListN.{length}
+use Rattle.rewriting.proofs.Asides.{aside_clauses}
 use Rattle.settling.proofs.Steps.{free_asks, free_gives, scope_asks, scope_gives, first_on, second_on, two_on, one_on}
 use Rattle.settling.proofs.+settle_at.Goals as goal
 
--- what a copy asks, and what halting beside the way asks, as their two clauses
+-- what a copy asks, as its two clauses
 copying : {A B : Type 0} → A × B → record { rewritable : A; passes : B }
 copying h = record { rewritable = h.0; passes = h.1 }
-
-halting : {A B : Type 0} → A × B → record { rewritable : A; place_of : B }
-halting h = record { rewritable = h.0; place_of = h.1 }
 
 pub copy_term-requires : goal.copy_term-requires
 copy_term-requires t c = let r = c.requires in
@@ -24,7 +22,7 @@ returns-then-not-any_between t c = let r = c.requires in
 
 pub aside_at-requires : goal.aside_at-requires
 aside_at-requires t c = let r = c.requires in
-    rw c.wide16.ensures.0 (halting (scope_asks r.rewritable r.aligned r.scopes c.index_of-i.ensures (search rules) (search rules) (search rules)))
+    rw c.wide16.ensures.0 (aside_clauses (scope_asks r.rewritable r.aligned r.scopes c.index_of-i.ensures (search rules) (search rules) (search rules)))
 
 pub returns-then-i-scopes : goal.returns-then-i-scopes
 returns-then-i-scopes t c = let r = c.requires in

@@ -1,7 +1,6 @@
 -- Each turn of the loop goes on to a later place; what it does to the count is in proofs/Losing.
 use borrow.Author.Rules.{rules}
 use mathlib.Core.Path.{refl}
-use mathlib.Core.Logic.{⊎_elim}
 use Prim.Native.Nat.{◌+◌, ◌-◌, ◌/◌, ◌≤◌}
 use native.Mathlib.Omega.{arith}
 use lib.ListN.{length}
@@ -10,6 +9,7 @@ use Rattle.cows.specs.Places.{sub}
 use Rattle.ways.specs.Known.{Table}
 use Rattle.kill.proofs.Losing.{Losing, end_fits, losing_start, losing_end, losing_on, losing_gone, losing_kept, losing_alone}
 use Rattle.kill.proofs.losses.lost.Goals as goal
+use Rattle.kill.proofs.losses.lost.Goals.{then-kind-eq-PROTECTION+else-a-i, else-kind-eq-PROTECTION}
 
 pub loop-i-init : goal.loop-i-init
 loop-i-init c = let (q, l) = c.requires in
@@ -53,7 +53,10 @@ loop-i-preserved c = let v = c.loop-i.invariant in (
   omega arith,
   v.2,
   λ t h. losing_alone _ _ h.end _ _ _ _ _ _ (v.3 t h) (omega arith) _ refl (λ k. c.if-kind-lt-PARALLEL.false)
-      (λ k. ⊎_elim (λ w. rw w.2.ensures.0 at w.3.left) (λ w. absurd (w.left k)) c.if-kind-eq-PROTECTION.branch),
+      (λ k. elim c.if-kind-eq-PROTECTION.branch [
+        | then-kind-eq-PROTECTION+else-a-i w ↦ rw w.wide16-next-then-kind-eq-PROTECTION.ensures.0 at w.if-a-i.false
+        | else-kind-eq-PROTECTION w ↦ absurd (w.if-kind-eq-PROTECTION.false k)
+      ]),
 )
 
 pub returns : goal.returns

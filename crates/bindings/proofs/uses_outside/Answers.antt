@@ -12,8 +12,7 @@ use Rattle.cows.specs.Terms.{variable}
 use Rattle.cows.specs.Format.{word}
 use Rattle.cows.proofs.Basics.{never, or_false}
 use Rattle.bindings.specs.Marks.{uses_outside}
-use Rattle.bindings.proofs.uses_outside.Statement.{statement}
-use Rattle.bindings.proofs.uses_outside.Tie as tie
+use Rattle.bindings.proofs.uses_outside.Goals as goal
 
 passes : (call v d : Bool) → (not call || not v) ≡ true → false ≡ (call && v && d)
 passes true true d h = never h
@@ -36,17 +35,11 @@ module _ (s : List ℕ) (i : ℕ) (marks : List ℕ) {x : ℕ} {v : Bool} (e : x
     outside : {k : ℕ} → k ≡ x - first_variable → not (eqb (get_or marks k 0) 2) ≡ uses_outside s i marks
     outside k = rw (not-false (calls s i) (or_false (not (calls s i)) (not v) h).0, ← e, in-variables, k)
 
-pub uses-outside-spec : {M : Type 1} → statement M
-uses-outside-spec =
-    tie.close
-    (tie.spec
-    (λ c. search rules) (λ c. search rules)
-    (λ c κs. search rules)
-    (λ c. search rules) (λ c. search rules)
-    (λ c κs. search rules)
-    (λ c. let x = c.before.before.before in not-outside _ _ x.before.before.before.args.marks.now x.word_at.ensures c.before.in-variables.ensures c.if1.true)
-    (λ c κs. let x = c.before.before.before in in-variables _ _ x.before.before.before.args.marks.now x.word_at.ensures c.before.in-variables.ensures c.if1.false)
-    (λ c. search rules)
-    (λ c.
-    let t = c.before.before in let x = t.before.before.before in
-    outside _ _ x.before.before.before.args.marks.now x.word_at.ensures t.before.in-variables.ensures t.if1.false c.before.slot.ensures.0))
+pub returns-then-s-i : goal.returns-then-s-i
+returns-then-s-i c = not-outside _ _ c.args.marks.now c.word_at-x.ensures c.in_variables.ensures c.if-s-i.true
+
+pub slot-requires : goal.slot-requires
+slot-requires c = in-variables _ _ c.args.marks.now c.word_at-x.ensures c.in_variables.ensures c.if-s-i.false
+
+pub returns : goal.returns
+returns c = outside _ _ c.args.marks.now c.word_at-x.ensures c.in_variables.ensures c.if-s-i.false c.slot.ensures.0

@@ -6,8 +6,7 @@ use native.Mathlib.Omega.{arith}
 use lib.Dec.{ltb, eqb}
 use borrow.Author.Tests.{ltb-true, ltb-false}
 use Rattle.cows.proofs.Basics.{and_true, cond_case}
-use Rattle.assigning.proofs.held_past.Statement.{statement}
-use Rattle.assigning.proofs.held_past.Tie as tie
+use Rattle.assigning.proofs.held_past.Goals as goal
 
 module _ (role held end : ℕ) where
   counts : (eqb role 8 && ltb held end) ≡ true → end ≡ cond (eqb role 8) (max held end) held
@@ -16,8 +15,8 @@ module _ (role held end : ℕ) where
   counts-not : (eqb role 8 && ltb held end) ≡ false → held ≡ cond (eqb role 8) (max held end) held
   counts-not e = cond_case (λ r. held ≡ r) (eqb role 8) (λ p. omega (arith, ltb-false held end (sym (ap (λ b. b && ltb held end) p) ∙ e))) (λ p. refl)
 
-pub held-past-spec : {M : Type 1} → statement M
-held-past-spec =
-    tie.close (tie.spec
-    (λ c. let a = c.before.args in counts a.role a.held a.end c.if1.true)
-    (λ c. let a = c.before.args in counts-not a.role a.held a.end c.if1.false))
+pub returns-then-role-held : goal.returns-then-role-held
+returns-then-role-held c = let a = c.args in counts a.role a.held a.end c.if-role-held.true
+
+pub returns-else-role-held : goal.returns-else-role-held
+returns-else-role-held c = let a = c.args in counts-not a.role a.held a.end c.if-role-held.false

@@ -1,0 +1,18 @@
+use borrow.Author.Rules.{rules}
+use mathlib.Core.Path.{◌≡◌, refl, ◌∙◌}
+use Prim.Native.Nat.{ℕ, ◌-◌, ◌≤◌, ◌<◌}
+use native.Mathlib.Omega.{arith}
+use lib.ListN.{length, get_or, length-set}
+use Rattle.cows.specs.Terms.{Term, size}
+use Rattle.ways.specs.Known.{Table}
+use Rattle.ways.proofs.KnownTables.{table_size}
+use Rattle.ways.proofs.Seeking.{table_next}
+use Rattle.roles.specs.Roles.{ready_role}
+use Rattle.assigning.proofs.Living.{Living, living_start, living_end, living_through, living_over}
+use Rattle.assigning.proofs.assign_live.Given as goal
+
+abbrev pub invariant-loop-i : goal.invariant-loop-i
+invariant-loop-i l =     (l.i ≤ l.n) × (length l.cast ≡ length l.initial.cast) × ((t : Term) → Table l.s l.ends t → ((l.n : ℕ) → l.n < size t → get_or l.initial.cast l.n 0 ≡ ready_role t l.n) → Living t l.i l.held l.cast)
+
+abbrev pub decreases-loop-i : goal.decreases-loop-i
+decreases-loop-i l = l.n - l.i

@@ -1,0 +1,18 @@
+use borrow.Author.Rules.{rules}
+use mathlib.Core.Path.{◌≡◌, refl, ◌∙◌}
+use Prim.Native.Nat.{◌-◌, ◌≤◌}
+use native.Mathlib.Omega.{arith}
+use lib.ListN.{length}
+use Rattle.cows.specs.Terms.{Term}
+use Rattle.ways.specs.Known.{Table}
+use Rattle.ways.proofs.KnownTables.{table_size}
+use Rattle.ways.proofs.Seeking.{table_next}
+use Rattle.chains.specs.Chains.{Blank}
+use Rattle.assigning.proofs.Noting.{Noting, noting_start, noting_end, noting_through, noting_over}
+use Rattle.assigning.proofs.assign_ready.Given as goal
+
+abbrev pub invariant-loop-i : goal.invariant-loop-i
+invariant-loop-i l = (l.i ≤ l.n) × (length l.cast ≡ length l.initial.cast) × ((t : Term) → Table l.s l.ends t → Blank l.initial.cast → Noting t l.i l.cast)
+
+abbrev pub decreases-loop-i : goal.decreases-loop-i
+decreases-loop-i l = l.n - l.i

@@ -1,0 +1,7 @@
+use borrow.Author.Rules.{rules}
+use Rattle.cows.specs.Format.{bytes2, layout, record16}
+use Rattle.clauses.proofs.put_delimitation.Goals as goal
+
+pub returns : goal.returns
+unfolding record16 layout bytes2
+returns c = c.put_fields.ensures
