@@ -1,6 +1,6 @@
 -- A composition that binds a variable, by the marks that the code sets (proofs/Parts).
 use mathlib.Core.Path.{◌≡◌, refl, sym, ap, subst, ◌∙◌}
-use mathlib.Core.Logic.{◌≢◌, ◌⊎◌, ⊎_elim}
+use mathlib.Core.Logic.{◌≢◌, ◌⊎◌}
 use mathlib.Core.Bool.{Bool, true, false, cond}
 use mathlib.Core.List.{List}
 use Prim.Native.Nat.{ℕ, ◌+◌, ◌*◌, ◌-◌, ◌≤◌}
@@ -54,9 +54,11 @@ composes_binding a b (composed symmetric f g) h = absurd (b (at_kind _ h))
 composes_binding a b (composed (asymmetric x) f g) h = (f, g, rw (at_kind _ h, at_where x f g h))
 
 -- a mark that the code picks by the kind
-pub picked : {A B : Type 0} (k v a b : ℕ) → (A → k ≡ 4) → (B → k ≢ 4) → (A × (v ≡ a)) ⊎ (B × (v ≡ b)) → v ≡ cond (eqb k 4) a b
-picked k v a b f g =
-    ⊎_elim (λ w. rw (eq-eqb k 4 (f w.0)) w.1) (λ w. rw (ne_eqb k 4 (g w.0)) w.1)
+pub picked : (k v a b : ℕ) → k ≡ 4 → v ≡ a → v ≡ cond (eqb k 4) a b
+picked k v a b e h = rw (eq-eqb k 4 e) h
+
+pub picked_other : (k v a b : ℕ) → k ≢ 4 → v ≡ b → v ≡ cond (eqb k 4) a b
+picked_other k v a b e h = rw (ne_eqb k 4 e) h
 
 -- The composition at place n binds x, whose mark is at k.
 module _ {s : List ℕ} {n : ℕ} {marks : List ℕ} (q : Scannable s n marks) (low : 2 ≤ get_or s (8 * n) 0) (no : get_or s (8 * n) 0 ≢ 3) {x : ℕ} (is : x ≡ word s (8 * n + 2)) where

@@ -12,7 +12,7 @@ use Rattle.assigning.proofs.Living.{Living, living_start, living_end, living_thr
 use Rattle.assigning.proofs.assign_live.Given as goal
 
 abbrev pub invariant-loop-i : goal.invariant-loop-i
-invariant-loop-i l =     (l.i ≤ l.n) × (length l.cast ≡ length l.initial.cast) × ((t : Term) → Table l.s l.ends t → ((l.n : ℕ) → l.n < size t → get_or l.initial.cast l.n 0 ≡ ready_role t l.n) → Living t l.i l.held l.cast)
+invariant-loop-i l = (l.i ≤ l.n) × (length l.cast ≡ length l.initial.cast) × ((t : Term) → Table l.s l.ends t → ((k : ℕ) → k < size t → get_or l.initial.cast k 0 ≡ ready_role t k) → Living t l.i l.held l.cast)
 
 abbrev pub decreases-loop-i : goal.decreases-loop-i
 decreases-loop-i l = l.n - l.i

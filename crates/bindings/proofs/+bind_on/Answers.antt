@@ -7,8 +7,9 @@ use lib.ListN.{length, length-set}
 use Rattle.orc.specs.Expressions.{symmetric}
 use Rattle.bindings.proofs.Acts.{act_fault, act-passed}
 use Rattle.bindings.proofs.Parts.{told, parallel_at, left_asks, right_asks, left_fault, both_read}
-use Rattle.bindings.proofs.Binding.{composes_binding, picked, binds-variable, bound_twice, left-bound, both-bound}
+use Rattle.bindings.proofs.Binding.{composes_binding, picked, picked_other, binds-variable, bound_twice, left-bound, both-bound}
 use Rattle.bindings.proofs.+bind_on.Goals as goal
+use Rattle.bindings.proofs.+bind_on.Goals.{then-kind-eq-WHERE, else-kind-eq-WHERE, then-kind-eq-WHERE-2, else-kind-eq-WHERE-2}
 
 pub returns-then-uses_outside : goal.returns-then-uses_outside
 returns-then-uses_outside t c = act_fault c.if-kind-lt-SEQUENCE.true c.requires (sym c.uses_outside.ensures ∙ c.if-uses_outside.true)
@@ -44,7 +45,10 @@ bind_on-left-requires-2 t c = let q = c.requires in
 pub returns-in_default-left : goal.returns-in_default-left
 returns-in_default-left t c = let e = c.in_default-left.is in
     told (sym e) (left-bound c.requires c.if-kind-lt-SEQUENCE.false c.if-kind-eq-PARALLEL.false c.word_at.ensures c.slot-x.ensures.0
-    c.if-marks-x-ne-UNSEEN.false (picked _ _ 2 1 (λ w. w.taken) (λ w. w.left) c.if-kind-eq-WHERE.branch) (told e c.bind_on-left-2.ensures))
+    c.if-marks-x-ne-UNSEEN.false (elim c.if-kind-eq-WHERE.branch [
+      | then-kind-eq-WHERE w ↦ picked _ _ 2 1 w.if-kind-eq-WHERE.true w.marks-is
+      | else-kind-eq-WHERE w ↦ picked_other _ _ 2 1 w.if-kind-eq-WHERE.false w.marks-is
+    ]) (told e c.bind_on-left-2.ensures))
 
 pub bind_on-right-requires : goal.bind_on-right-requires
 bind_on-right-requires t c = let r = told c.in-Behind-left.is c.bind_on-left-2.ensures in
@@ -55,5 +59,11 @@ bounds-marks-x-4 t c = omega (arith, c.slot-x.ensures.1, c.bind_on-right.ensures
 
 pub returns : goal.returns
 returns t c = both-bound c.requires c.if-kind-lt-SEQUENCE.false c.if-kind-eq-PARALLEL.false c.word_at.ensures c.slot-x.ensures.0
-    c.if-marks-x-ne-UNSEEN.false (picked _ _ 2 1 (λ w. w.taken) (λ w. w.left) c.if-kind-eq-WHERE.branch) (told c.in-Behind-left.is c.bind_on-left-2.ensures)
-    (picked _ _ 1 2 (λ w. w.taken) (λ w. w.left) c.if-kind-eq-WHERE-2.branch) c.bind_on-right.ensures
+    c.if-marks-x-ne-UNSEEN.false (elim c.if-kind-eq-WHERE.branch [
+      | then-kind-eq-WHERE w ↦ picked _ _ 2 1 w.if-kind-eq-WHERE.true w.marks-is
+      | else-kind-eq-WHERE w ↦ picked_other _ _ 2 1 w.if-kind-eq-WHERE.false w.marks-is
+    ]) (told c.in-Behind-left.is c.bind_on-left-2.ensures)
+    (elim c.if-kind-eq-WHERE-2.branch [
+      | then-kind-eq-WHERE-2 w ↦ picked _ _ 1 2 w.if-kind-eq-WHERE-2.true w.marks-is
+      | else-kind-eq-WHERE-2 w ↦ picked_other _ _ 1 2 w.if-kind-eq-WHERE-2.false w.marks-is
+    ]) c.bind_on-right.ensures

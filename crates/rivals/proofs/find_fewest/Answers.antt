@@ -1,0 +1,27 @@
+-- The places before r are counted.
+use borrow.Author.Rules.{rules}
+use mathlib.Core.Path.{◌≡◌, refl, subst}
+use Prim.Native.Nat.{ℕ, ◌-◌, ◌≤◌, ◌<◌}
+use native.Mathlib.Omega.{arith}
+use lib.ListN.{length, get_or}
+use Rattle.cows.specs.Terms.{Term, size}
+use Rattle.ways.specs.Known.{Table}
+use Rattle.ways.proofs.KnownTables.{table_size}
+use Rattle.roles.specs.Roles.{unfit, Cast}
+use Rattle.rivals.proofs.Counted.{Counted, counted_start, counted_on, counted-end}
+use Rattle.rivals.proofs.find_fewest.Goals as goal
+
+pub loop-r-init : goal.loop-r-init
+loop-r-init c = (omega arith, refl, λ t h k z. counted_start t _ z)
+
+pub lower-requires : goal.lower-requires
+lower-requires c = let p = c.requires in record { senders = p.1; inside = omega arith; roles = p.0.room; room = omega arith }
+
+pub loop-r-preserved : goal.loop-r-preserved
+loop-r-preserved c = let l = c.loop-r in
+    (omega arith, omega arith, λ t h k z. counted_on t _ _ _ (l.invariant.2 t h k z) (c.lower.ensures t h.holds k))
+
+pub returns : goal.returns
+returns c t h k z = let l = c.loop-r in
+    let q : l.r ≡ size t = omega (arith, table_size _ _ t h) in
+    counted-end t _ (subst (Counted t _) q (l.invariant.2 t h k z))
