@@ -1,0 +1,12 @@
+use borrow.Author.Rules.{rules}
+use native.Mathlib.Omega.{arith}
+use Rattle.records.proofs.StandsIn.{holds_size}
+use Rattle.meetings.proofs.SlotScopes.{behind_most}
+use Rattle.meetings.proofs.put_scope.Goals as goal
+
+pub overflow_cast-sent : goal.overflow_cast-sent
+overflow_cast-sent c = let z = c.requires.0 in
+    omega (arith, c.behind.ensures z.term z.holds, behind_most z.term c.word_at.result, holds_size _ _ z.holds, z.few)
+
+pub returns : goal.returns
+returns c t h = rw (c.behind.ensures t h, c.word_at.ensures)

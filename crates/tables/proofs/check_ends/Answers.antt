@@ -1,0 +1,5 @@
+use borrow.Author.Rules.{rules}
+use Rattle.tables.proofs.check_ends.Goals as goal
+
+pub returns : goal.returns
+returns c = rw c.answer_of.ensures c.judge_table.ensures
