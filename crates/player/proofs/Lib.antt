@@ -11,5 +11,3 @@ pub mod Writing
 pub mod Playing
 pub mod Whole
 pub mod Theorems
-pub mod Structs
-pub mod Again

@@ -8,8 +8,6 @@ use Prim.Native.Nat.{ℕ, ◌+◌, ◌*◌, ◌/◌, ◌≤◌, ◌<◌}
 use native.Mathlib.Omega.{arith}
 use lib.ListN.{length, get_or}
 use lib.Seq.{length-take-le}
-use types.Run.{OneOf, miss}
-use denote.Enum.Declared.{tag_of}
 use Rattle.cows.specs.Basics.{Result, refuse, accept, ◌>>=◌, need}
 use Rattle.cows.specs.Terms.{Term, under, replication, size, prefixed, replicates, below}
 use Rattle.cows.specs.Places.{sub}
@@ -32,7 +30,6 @@ use Rattle.tables.specs.declared.Reply.{Reply}
 use Rattle.proposals.specs.declared.Move as code
 use Rattle.proposals.specs.declared.Move.TheVariants.{Kill, Communicate, Timeout, Elapse, Unfold, Extrude, None}
 use Rattle.proposals.specs.Proposals.{move_of}
-use Rattle.proposals.specs.contracts.Move as kinds
 use Rattle.stepper.specs.Replies.{reply_of, reply_in}
 use Rattle.stepper.proofs.Stepping.{table_known}
 use Rattle.stepper.proofs.Moved.{reply_fitted, asks}
@@ -52,16 +49,16 @@ use Rattle.player.specs.Making.{CanMake, Makes}
 use Rattle.player.proofs.Loading.{body-load}
 
 -- only an unfolding copies anything
-pub copied_none : (s ends : List ℕ) (m : code.Move) → OneOf (0 ∷ 1 ∷ 2 ∷ 3 ∷ 5 ∷ 6 ∷ []) (tag_of kinds.the_type m) → Copied s ends m 0
+pub copied_none : (s ends : List ℕ) (m : code.Move) → ((x : ℕ) → m ≡ Unfold x → ⊥) → Copied s ends m 0
 unfolding copies
 copied_none s ends m h = record { is = λ t _ v e. none m h t v e; few = omega arith }
   where
-    none : (m : code.Move) → OneOf (0 ∷ 1 ∷ 2 ∷ 3 ∷ 5 ∷ 6 ∷ []) (tag_of kinds.the_type m) → (t : Term) (v : Move) → move_of m ≡ some v → 0 ≡ copies t v
+    none : (m : code.Move) → ((x : ℕ) → m ≡ Unfold x → ⊥) → (t : Term) (v : Move) → move_of m ≡ some v → 0 ≡ copies t v
     none (Kill a) h t v e = ap (copies t) (same_some e)
     none (Communicate a b) h t v e = ap (copies t) (same_some e)
     none (Timeout a) h t v e = ap (copies t) (same_some e)
     none (Elapse d) h t v e = ap (copies t) (same_some e)
-    none (Unfold a) h t v e = absurd (miss (0 ∷ 1 ∷ 2 ∷ 3 ∷ 5 ∷ 6 ∷ []) 4 tt h)
+    none (Unfold a) h t v e = absurd (h a refl)
     none (Extrude a) h t v e = ap (copies t) (same_some e)
     none None h t v e = absurd (let z : ◌≡◌ {A = ℕ} 0 1 = cc in omega arith)
 

@@ -1,0 +1,5 @@
+use borrow.Author.Rules.{rules}
+use Rattle.player.proofs.refused.Goals as goal
+
+pub returns : goal.returns
+returns c = rw (c.refusal.ensures, c.zeros.ensures)

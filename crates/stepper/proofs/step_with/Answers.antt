@@ -1,0 +1,17 @@
+use borrow.Author.Rules.{rules}
+use native.Mathlib.Omega.{arith}
+use Rattle.tables.proofs.Judging.{slice_bytes}
+use Rattle.stepper.proofs.Stepping.{table_refused, table_read, read_known, read_stepped}
+use Rattle.stepper.proofs.Theorems.{promised}
+use Rattle.stepper.proofs.step_with.Goals as goal
+
+pub returns-then-checked-ne0 : goal.returns-then-checked-ne0
+returns-then-checked-ne0 c = promised _ _ _ _ _ (slice_bytes c.args.table.now (λ i. omega (arith, c.shared_slice_known-1.given i))) (table_refused _ _ _ _ _ c.check_ends-checked.ensures c.if-checked-ne0.true)
+
+pub step_known-requires : goal.step_known-requires
+step_known-requires c = read_known _ _ (table_read _ _ _ (slice_bytes c.args.table.now (λ i. omega (arith, c.shared_slice_known-1.given i))) c.check_ends-checked.ensures c.if-checked-ne0.false)
+
+pub returns : goal.returns
+returns c = let b = slice_bytes c.args.table.now (λ i. omega (arith, c.shared_slice_known-1.given i)) in
+    let q = table_read _ _ _ b c.check_ends-checked.ensures c.if-checked-ne0.false in
+    promised _ _ _ _ _ b (read_stepped _ _ _ _ _ _ q _ c.read_move.ensures (c.step_known.ensures q.term q.table))
