@@ -108,7 +108,7 @@ module _ {s ends ps scopes : List ℕ} {gone : ℕ} (q : CanFire s ends ps scope
   h = q.join.known.table
 
   live : All (LiveKill t) ps
-  live = accepted-live t ps q.all_live_lem
+  live = accepted-live t ps q.all_are_live
 
   pub all_before : AllBefore (length ends) scopes
   all_before = subst (AllBefore (length ends)) (sym q.scopes_are) (scopes_before s ends t h ps live)
@@ -131,7 +131,7 @@ module _ {s ends ps scopes : List ℕ} {gone : ℕ} (q : CanFire s ends ps scope
       left = after_joint t ps
 
       accepted : joint_at t ps ≡ accept left
-      accepted = passed_joint t ps (number_passed ps q.join.number, q.all_live_lem, clash_at.1 l)
+      accepted = passed_joint t ps (number_passed ps q.join.number, q.all_are_live, clash_at.1 l)
 
       records : size t ≡ size left + gone
       records = omega (arith, joint_records t left ps h.within accepted, q.gone_are)

@@ -59,7 +59,7 @@ module _ {t : Term} {ps scopes : List ℕ} {i gone a : ℕ} {r : Plan} (w : With
   pub gathers_absent : NotAllowed r.judgement → Gathers t ps scopes (Absent a)
   gathers_absent k = record {
     absent = λ b e. let z : a ≡ b = cc in rw (← z) (h.live_so ∙ (ap (all_live t) (drop_here ps i l at) ∙ dead_here t a (drop (i + 1) ps) (else_dead t w a q k)));
-    all_live_lem = λ g e. absurd (let z : ◌≡◌ {A = ℕ} 0 1 = cc in omega arith);
+    all_are_live = λ g e. absurd (let z : ◌≡◌ {A = ℕ} 0 1 = cc in omega arith);
     scopes_are = λ g e. absurd (let z : ◌≡◌ {A = ℕ} 0 1 = cc in omega arith);
     gone_are = λ g e. absurd (let z : ◌≡◌ {A = ℕ} 0 1 = cc in omega arith);
   }
@@ -72,7 +72,7 @@ gathers_gone {t} {ps} {scopes} {i} {gone} h l k =
     let z = drop-end ps i l k in
     record {
       absent = λ b e. absurd (let z : ◌≡◌ {A = ℕ} 0 1 = cc in omega arith);
-      all_live_lem = λ g e. h.live_so ∙ rw z;
+      all_are_live = λ g e. h.live_so ∙ rw z;
       scopes_are = λ g e. rw n at h.scopes_so ∙ ap (map (kill_scope t)) (take-length ps);
       gone_are = λ g e. let y : gone ≡ g = cc in omega (arith, h.gone_so, ap (gone_by_all t) z);
     }

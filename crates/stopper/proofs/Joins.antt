@@ -48,11 +48,11 @@ module _ {s ends ps places : List ℕ} {r : Gathered} (q : CanJoin s ends ps) (g
   pub can_fire : (n : ℕ) → r ≡ Gone n → CanFire s ends ps (take (length ps) places) n
   can_fire n e =
       let x = g q.known.term q.known.table in
-      record { join = q; all_live_lem = x.all_live_lem n e; scopes_are = x.scopes_are n e; gone_are = x.gone_are n e }
+      record { join = q; all_are_live = x.all_are_live n e; scopes_are = x.scopes_are n e; gone_are = x.gone_are n e }
 
   pub live-told : {out after : List ℕ} {z : Played} (n : ℕ) → r ≡ Gone n → ((t : Term) → Table s ends t → JointAnswers (fire_term t ps (length out)) ps out after z)
       → (t : Term) → Table s ends t → JointAnswers (joint_term t ps (length out)) ps out after z
-  live-told {out} {after} {z} n e k t h = subst (λ x. JointAnswers x ps out after z) (sym (joint_live t ps (length out) q.number ((g t h).all_live_lem n e))) (k t h)
+  live-told {out} {after} {z} n e k t h = subst (λ x. JointAnswers x ps out after z) (sym (joint_live t ps (length out) q.number ((g t h).all_are_live n e))) (k t h)
 
 -- on any bytes
 module _ (table ps out after : List ℕ) (r : Played) where

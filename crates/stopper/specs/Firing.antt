@@ -16,7 +16,7 @@ pub record CanJoin (s ends ps : List ℕ) : Type 0 where
 -- The places are those of live kills, with their scopes and the records that they take away.
 pub record CanFire (s ends ps scopes : List ℕ) (gone : ℕ) : Type 0 where
   pub join : CanJoin s ends ps
-  pub all_live_lem : all_live join.known.term ps ≡ accept tt
+  pub all_are_live : all_live join.known.term ps ≡ accept tt
   pub scopes_are : scopes ≡ map (kill_scope join.known.term) ps
   pub gone_are : gone ≡ gone_by_all join.known.term ps
 

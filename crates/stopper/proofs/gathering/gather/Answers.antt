@@ -1,0 +1,42 @@
+use borrow.Author.Rules.{rules}
+use mathlib.Core.Path.{◌≡◌, refl}
+use Prim.Native.Nat.{◌*◌, ◌-◌, ◌≤◌}
+use native.Mathlib.Omega.{arith}
+use lib.ListN.{length}
+use Rattle.cows.specs.Terms.{Term}
+use Rattle.ways.specs.Known.{Table}
+use Rattle.ways.proofs.KnownTables.{table_size}
+use Rattle.stopper.proofs.Gathers.{Gathering, gathering_start, from_fits, left_fits, gathering_turn, gathers_absent, gathers_gone}
+use Rattle.stopper.proofs.gathering.gather.Goals as goal
+
+pub loop-i-init : goal.loop-i-init
+loop-i-init c = (omega arith, refl, omega arith, λ t h. gathering_start t _ _)
+
+pub returns-in_default : goal.returns-in_default
+returns-in_default c t h = gathers_absent h.within (c.loop-i.invariant.3 t h) (omega arith) c.wide16-a.ensures.0 (c.judge-plan.ensures t h) (search rules)
+
+pub overflow_cast-scopes : goal.overflow_cast-scopes
+overflow_cast-scopes c =
+    let q = c.requires.0 in
+    omega (arith, q.few, table_size _ _ q.term q.table, from_fits q.table.within (c.loop-i.invariant.3 q.term q.table) (omega arith) c.wide16-a.ensures.0 (c.judge-plan.ensures q.term q.table) _ c.in-Allowed.is _ (table_size _ _ q.term q.table))
+
+pub overflow_sub-gone : goal.overflow_sub-gone
+overflow_sub-gone c =
+    let q = c.requires.0 in
+    left_fits q.table.within (c.loop-i.invariant.3 q.term q.table) (omega arith) c.wide16-a.ensures.0 (c.judge-plan.ensures q.term q.table) _ c.in-Allowed.is _ (table_size _ _ q.term q.table)
+
+pub overflow_add-gone : goal.overflow_add-gone
+overflow_add-gone c = let q = c.requires.0 in omega (arith, q.few, c.loop-i.invariant)
+
+pub loop-i-preserved : goal.loop-i-preserved
+loop-i-preserved c =
+    let v = c.loop-i.invariant in
+    let q = c.requires in (
+      omega arith,
+      search rules,
+      omega (arith, q.0.few, v),
+      λ t h. gathering_turn h.within (v.3 t h) (omega arith) c.wide16-a.ensures.0 (c.judge-plan.ensures t h) _ c.in-Allowed.is _ (table_size _ _ t h) (omega (arith, v, q)),
+    )
+
+pub returns : goal.returns
+returns c t h = gathers_gone (c.loop-i.invariant.3 t h) (omega arith) (omega arith)
