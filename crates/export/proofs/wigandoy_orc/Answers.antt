@@ -1,0 +1,13 @@
+use borrow.Author.Rules.{rules}
+use mathlib.Core.Path.{sym, ap, subst, ◌∙◌}
+use native.Mathlib.Omega.{arith}
+use Rattle.tables.proofs.Judging.{slice_bytes}
+use Rattle.export.specs.Packing.{Fits, packed}
+use Rattle.export.proofs.Fits.{orc_fits}
+use Rattle.export.proofs.wigandoy_orc.Goals as goal
+
+pub pack-requires : goal.pack-requires
+pack-requires c = subst Fits (sym c.translate.ensures.0.replies) (orc_fits _ _ _ _ (slice_bytes c.args.script.now (λ i. omega (arith, c.shared_slice_known-1.given i))))
+
+pub returns : goal.returns
+returns c = let o = c.translate.ensures.0 in record { replies = c.pack.ensures ∙ ap packed o.replies; output = o.output }
