@@ -1,4 +1,4 @@
-/* Wigandoy: the stepper for COWS tables, as a static library (`rt staticlib export` writes target/staticlib/libexport.a).
+/* Wigandoy: the stepper for COWS tables, as a static library (`rt lib` in crates/export writes crates/export/out/libexport.a).
  *
  * A table is 1 to 2,048 records of 16 bytes in prefix order; a move is 6 bytes (kind, 0, a, b; a and b 16 bits,
  * little-endian): 0 kill at a, 1 communication of receive a and invoke b, 2 timeout at a, 3 time passes by a (each live

@@ -1,7 +1,7 @@
-// Links the static library that `rt staticlib export` writes; and, where BASELINE names the folder of its compiled crate, the baseline of the benchmark.
+// Links the static library that `rt lib` writes in crates/export; and, where BASELINE names the folder of its compiled crate, the baseline of the benchmark.
 fn main() {
     let root = std::path::Path::new(env!("CARGO_MANIFEST_DIR")).parent().unwrap();
-    let folder = root.join("target/staticlib");
+    let folder = root.join("crates/export/out");
     println!("cargo:rustc-link-search=native={}", folder.display());
     println!("cargo:rustc-link-lib=static=export");
     println!("cargo:rerun-if-changed={}", folder.join("libexport.a").display());

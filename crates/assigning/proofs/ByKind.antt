@@ -1,23 +1,21 @@
 -- What a record says of the roles (specs/Assigning, noted; roles, specs/Roles, live_role), by the bytes of its kind and its fields.
 use mathlib.Core.Path.{◌≡◌, refl, sym, ap, subst, ◌∙◌}
 use mathlib.Core.Logic.{◌≢◌}
-use mathlib.Core.Bool.{Bool, false, cond, not, ◌&&◌, ◌||◌}
-use mathlib.Core.List.{List, [], ◌∷◌}
+use mathlib.Core.Bool.{Bool, false, cond, ◌&&◌}
+use mathlib.Core.List.{List}
 use Prim.Native.Nat.{ℕ, ◌+◌, ◌*◌, ◌-◌, ◌/◌, ◌≤◌, ◌<◌}
 use native.Mathlib.Omega.{arith}
 use lib.Dec.{ltb, leb, eqb}
 use lib.ListN.{length, get_or, set}
-use Rattle.cows.specs.Terms.{nil, kill, invoke, receive, wait, protection, delimitation, replication, Term, leaf, under, both, size, variable, label, below}
+use Rattle.cows.specs.Terms.{nil, kill, invoke, receive, wait, protection, delimitation, replication, Term, leaf, under, both, size, label, below}
 use Rattle.cows.specs.Kinds.{root, kind_of}
 use Rattle.cows.specs.Places.{sub}
 use Rattle.cows.specs.Format.{word, record16}
 use Rattle.cows.specs.Within.{Right, Within}
-use Rattle.cows.specs.Basics.{any}
-use Rattle.cows.specs.Moves.{closed_action}
-use Rattle.cows.proofs.Fields.{kind_is, kind-kill, kind-invoke, kind-receive, kind-wait, kind-delimitation, first-kill, first-delimitation, interval-wait, first-invoke, second_invoke, slot-invoke}
+use Rattle.cows.proofs.Fields.{kind_is, kind-receive, kind-wait, kind-delimitation, first-delimitation, interval-wait}
 use Rattle.cows.proofs.Sets.{value-range, variable-range, label-range, set_case}
 use Rattle.cows.proofs.Stands.{right_at}
-use Rattle.cows.proofs.Basics.{not_so, or_none}
+use Rattle.cows.proofs.Basics.{not_so}
 use Rattle.records.specs.Atoms.{closed_at}
 use Rattle.records.specs.Holds.{Holds}
 use Rattle.records.proofs.StandsIn.{holds_size, holds_kind, holds_word}

@@ -12,21 +12,20 @@ use lib.ListN.{length, get_or, set}
 use lib.Seq.{get_or-set_same, get_or-set_other}
 use borrow.Author.Tests.{lt-ltb, le-ltb, eqb-true, eq-eqb}
 use Rattle.cows.specs.Basics.{found_with, found, first_from, place_if, or_else}
-use Rattle.cows.specs.Terms.{nil, kill, invoke, receive, wait, protection, delimitation, replication, Term, leaf, under, both, size, variable, bindable, uses, uses_basic, kills, prefixed, receives, delimits, delimits_at}
+use Rattle.cows.specs.Terms.{nil, kill, invoke, receive, wait, protection, delimitation, replication, Term, leaf, under, both, size, kills, prefixed, receives, delimits, delimits_at}
 use Rattle.cows.specs.Kinds.{ready_kind, root, kind_of, open_kinds}
-use Rattle.cows.specs.Places.{spot_at, way_to, sub, first, enclosed}
-use Rattle.cows.specs.Within.{Bound, Within}
+use Rattle.cows.specs.Places.{spot_at, way_to, sub, first}
+use Rattle.cows.specs.Within.{Within}
 use Rattle.cows.specs.Active.{ready}
 use Rattle.cows.specs.Moves.{ready_kill}
 use Rattle.cows.proofs.Basics.{clash, eq_case, lt_case, or_right, or_none, and_none, not_so, holds_some, first_from_append, from_next, none-first_from}
-use Rattle.cows.proofs.Stands.{scoped_at}
 use Rattle.cows.proofs.Reach.{enclosed_reaches}
 use Rattle.records.proofs.StandsIn.{holds_kind}
 use Rattle.ways.specs.Known.{Table}
 use Rattle.ways.proofs.KnownTables.{table_size, table_inside}
 use Rattle.ways.proofs.Once.{one_delimitation}
 use Rattle.ways.proofs.Seeking.{seeking_start}
-use Rattle.holding.proofs.HeldBack.{kill-label, kill-enclosed}
+use Rattle.holding.proofs.HeldBack.{kill-enclosed}
 use Rattle.roles.specs.Roles.{holding, rivalling, behind_of, ready_role, holder_role, role_if, rival_role}
 use Rattle.chains.specs.Chains.{Blank}
 use Rattle.chains.proofs.Chaining.{some_of, none_of}

@@ -11,14 +11,14 @@ use lib.Seq.{length-take-le}
 use borrow.Author.Tests.{eq-eqb, ne_eqb}
 use Rattle.cows.specs.Basics.{any, found_with}
 use Rattle.cows.specs.Terms.{nil, kill, invoke, receive, wait, protection, delimitation, replication, choice, parallel, Term, leaf, Action, variable, size, delimits, delimits_atom, below, invoke_of}
-use Rattle.cows.specs.Kinds.{Node, basic, prefix, join, root}
+use Rattle.cows.specs.Kinds.{Node, basic, prefix, join}
 use Rattle.cows.specs.Places.{sub}
 use Rattle.cows.specs.Format.{byte, word, nodes, layout, record16, bytes, encode}
 use Rattle.cows.specs.Within.{Right, Within}
 use Rattle.cows.specs.Allows.{Matches}
 use Rattle.cows.specs.Moves.{Substitution, map_basic, silence, image}
 use Rattle.cows.proofs.Rows.{length_record16}
-use Rattle.cows.proofs.Fields.{drop-bytes, append_bytes, first-delimitation}
+use Rattle.cows.proofs.Fields.{drop-bytes, append_bytes}
 use Rattle.cows.proofs.Records.{RightNode}
 use Rattle.cows.proofs.Format.{length-nodes, RightNodes, right_nodes}
 use Rattle.cows.proofs.CommunicateKeeps.{AllBind, values_fit, all-in-scope}

@@ -14,7 +14,7 @@ use Rattle.cows.specs.Terms.{nil, kill, Prefix, receive, wait, protection, delim
 use Rattle.cows.specs.Kinds.{open_kinds}
 use Rattle.cows.specs.Places.{Frame, inside, left_of, right_of, plug, Way, fill, way_to, sub, first, enclosed, frame_chooses, passed}
 use Rattle.cows.specs.Within.{Right, counts, Within}
-use Rattle.cows.specs.Active.{live, wanted, on_kind}
+use Rattle.cows.specs.Active.{wanted, on_kind}
 use Rattle.cows.specs.Moves.{Substitution, binds, halt_beside, halt_inside, after_kill, kill_at, fit, matched, in_scope, held_back, tighter, silence, continue, bind, communicate_at, timeout_at, elapse_by, renaming, after_unfold, unfold_at, fitting, exchange, after_extrude, extrude_at, Move, Kill, Communicate, Timeout, Elapse, Unfold, Extrude, successor, fresh_copy}
 use Rattle.cows.specs.Allows.{Stands, StandsLive, Meets, Renames, Ended, Choice, Exchanged, Replaced, Instantiated, Elapsed, Parent, on_left, on_right, protected, delimited, Allows, by_kill, by_communicate, by_timeout, by_elapse, by_unfold, by_extrude}
 use Rattle.cows.proofs.Basics.{never, or_false, or_right, not_so, any_append, bind-accept, same_accept, forbid-accept, place_if-none}

@@ -13,7 +13,7 @@ use lib.Seq.{get_or-append-add, get_or-drop}
 use borrow.Author.Tests.{ltb-false, le-ltb}
 use Rattle.cows.specs.Basics.{place_if, Result, refuse, accept, ◌>>=◌, ◌>>◌, forbid, need}
 use Rattle.cows.specs.Terms.{Term, size, depth}
-use Rattle.cows.specs.Format.{encode, records}
+use Rattle.cows.specs.Format.{encode}
 use Rattle.cows.specs.Tables.{judge}
 use Rattle.cows.specs.Moves.{Move, successor}
 use Rattle.cows.specs.Step.{read_move, proposed, over_limits, fitted, step_term, judge_step, reply_to, written, step_reply, step_output}

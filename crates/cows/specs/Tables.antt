@@ -2,7 +2,7 @@
 use Rattle.std.specs.Prelude.{Bool, false, not, ◌&&◌, ◌||◌, List, [], ◌∷◌, map, ℕ, zero, suc, ◌+◌, ◌%◌, ltb, eqb, length}
 use Rattle.std.proofs.Math.Option.{Option, none, some}
 use Rattle.cows.specs.Limits.{max_bytes, max_depth}
-use Rattle.cows.specs.Basics.{any, member, found_with, found, place_if, first_from, Result, accept, ◌>>=◌, ◌>>◌, forbid}
+use Rattle.cows.specs.Basics.{any, member, found_with, found, place_if, first_from, Result, accept, ◌>>◌, forbid}
 use Rattle.cows.specs.Terms.{Term, value, bindable, uses, binders, delimits, delimits_at, prefixed}
 use Rattle.cows.specs.Kinds.{Node, kind, children_of, guard}
 use Rattle.cows.specs.Places.{Way, Spot, sub, first, enclosed, frame_chooses}

@@ -1,11 +1,11 @@
 -- Criteria: the tests by which the open moves are listed without trying them (request 2026-01). Most of a test is what a record says by itself; what is
 -- left for a pair of records is put into few numbers. For a term within the limits they agree with the rules (proofs/Theorems).
-use Rattle.std.specs.Prelude.{Bool, false, cond, not, ◌&&◌, List, [], ◌∷◌, ◌++◌, map, ℕ, suc, ◌+◌, ◌≤◌, max, leb, length}
+use Rattle.std.specs.Prelude.{Bool, false, not, ◌&&◌, List, [], ◌∷◌, ◌++◌, map, ℕ, suc, ◌+◌, leb, length}
 use Rattle.cows.specs.Limits.{max_records, max_depth}
 use Rattle.cows.specs.Terms.{Term, size, depth}
 use Rattle.cows.specs.Places.{plug, Way, way_to, sub}
 use Rattle.cows.specs.Moves.{Move, Kill, Communicate, Timeout, Unfold, Extrude}
-use Rattle.roles.specs.Roles.{holding, held_until, full, crowded, firing, expiring, repeating, floating, meets}
+use Rattle.roles.specs.Roles.{full, crowded, firing, expiring, repeating, floating, meets}
 use Rattle.opening.specs.Opening.{up_from, filter, each}
 
 -- 20 for an unfolding at place a: the table gets as many records as stand there, and what stands there goes deeper by one.

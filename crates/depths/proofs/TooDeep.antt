@@ -8,7 +8,7 @@ use native.Mathlib.Omega.{arith}
 use lib.ListN.{length, get_or}
 use borrow.Author.Tests.{lt-ltb, le-ltb}
 use Rattle.cows.specs.Basics.{place_if, or_else}
-use Rattle.cows.specs.Terms.{Join, Term, leaf, under, both, size}
+use Rattle.cows.specs.Terms.{Join, Term, leaf, under, both}
 use Rattle.cows.specs.Kinds.{children_of}
 use Rattle.cows.proofs.Format.{length-encode}
 use Rattle.records.specs.Answers.{place_or}

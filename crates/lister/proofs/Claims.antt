@@ -6,7 +6,7 @@ use Prim.Native.Nat.{ℕ, ◌*◌}
 use native.Mathlib.Omega.{arith}
 use lib.ListN.{length, drop}
 use lib.Seq.{take_at, drop_at}
-use Rattle.cows.specs.Basics.{Result, refuse, accept, ◌>>=◌}
+use Rattle.cows.specs.Basics.{Result, refuse, accept}
 use Rattle.cows.specs.Cut.{pieces}
 use Rattle.cows.specs.Terms.{Term}
 use Rattle.cows.specs.Format.{AreBytes}

@@ -1,8 +1,7 @@
 -- The arrays as they are made: there is no role yet, and no rival is known.
-use mathlib.Core.Path.{◌≡◌}
-use Prim.Native.Nat.{ℕ, ◌*◌, ◌≤◌, ◌<◌}
+use Prim.Native.Nat.{ℕ, ◌*◌, ◌≤◌}
 use native.Mathlib.Omega.{arith}
-use lib.ListN.{length, get_or, replicate, length-replicate, get_or-replicate}
+use lib.ListN.{replicate, length-replicate, get_or-replicate}
 use Rattle.roles.specs.Roles.{unfit}
 use Rattle.lister.specs.Listing.{Desks}
 

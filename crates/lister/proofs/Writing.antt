@@ -1,18 +1,18 @@
 -- There is room for each part of the list when it is written, and what is left in the end is the list.
-use mathlib.Core.Path.{◌≡◌, refl, ap, subst, ◌∙◌}
-use mathlib.Core.Bool.{Bool, true, false, cond}
-use mathlib.Core.List.{List, []}
-use Prim.Native.Nat.{ℕ, ◌+◌, ◌*◌, ◌/◌, ◌≤◌, ◌<◌}
+use mathlib.Core.Path.{◌≡◌, ap, ◌∙◌}
+use mathlib.Core.Bool.{Bool, true, false}
+use mathlib.Core.List.{List}
+use Prim.Native.Nat.{ℕ, ◌+◌, ◌*◌, ◌/◌, ◌≤◌}
 use native.Mathlib.Omega.{arith}
 use lib.Dec.{eqb}
 use lib.ListN.{length, get_or}
-use Rattle.cows.specs.Terms.{Term, size}
+use Rattle.cows.specs.Terms.{Term}
 use Rattle.cows.proofs.Basics.{never}
 use Rattle.records.specs.Rewrites.{put}
 use Rattle.records.proofs.Put.{length-put}
 use Rattle.ways.specs.Known.{Table}
-use Rattle.ways.proofs.KnownTables.{one_table, table_size}
-use Rattle.roles.specs.Roles.{Cast, receiver_role, sender_role, kill_role, timeout_role, unfold_role, extrude_role}
+use Rattle.ways.proofs.KnownTables.{table_size}
+use Rattle.roles.specs.Roles.{receiver_role, sender_role, kill_role, timeout_role, unfold_role, extrude_role}
 use Rattle.opening.specs.Opening.{up_from, each, six_byte_form, open_moves}
 use Rattle.opening.proofs.Theorems.{open_number}
 use Rattle.opening.proofs.Lists.{length-filter, length_up_from}

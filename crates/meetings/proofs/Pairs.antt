@@ -1,17 +1,17 @@
 -- Pairs that meet (roles, specs/Roles, meets): their parties, the class that these share, and the test by what the two bind.
-use mathlib.Core.Path.{◌≡◌, refl, ap}
+use mathlib.Core.Path.{◌≡◌, ap}
 use mathlib.Core.Bool.{true, false, not, ◌&&◌}
 use mathlib.Core.List.{List}
-use mathlib.Core.Option.{Option, none, some}
+use mathlib.Core.Option.{some}
 use Prim.Native.Nat.{ℕ}
 use lib.Dec.{eqb}
 use lib.ListN.{length}
 use Rattle.cows.specs.Basics.{every, found_with, found}
 use Rattle.cows.specs.Terms.{Term, leaf, under, Action, receive_of, invoke_of, invokes, prefixed, receives, below}
 use Rattle.cows.specs.Places.{sub}
-use Rattle.cows.specs.Moves.{Substitution, Mismatch, Matching, binds, differs, closed_action, fit, in_scope}
+use Rattle.cows.specs.Moves.{Substitution, Mismatch, binds, differs, closed_action, fit, in_scope}
 use Rattle.cows.specs.Allows.{StandsLive}
-use Rattle.cows.proofs.Basics.{never, and_true, true_and, found_some, holds_some}
+use Rattle.cows.proofs.Basics.{and_true, true_and, found_some, holds_some}
 use Rattle.cows.proofs.Stands.{looks, invokes_is, wanted-live}
 use Rattle.cows.proofs.Meeting.{fit_fits}
 use Rattle.ways.specs.Known.{Table}

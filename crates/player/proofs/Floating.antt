@@ -9,7 +9,6 @@ use lib.ListN.{length, get_or, length-append, get_or-append}
 use lib.Seq.{get_or-append-add}
 use Rattle.cows.specs.Terms.{delimitation, Term, under, size}
 use Rattle.cows.specs.Places.{plug, sub}
-use Rattle.cows.specs.Records.{ahead}
 use Rattle.cows.proofs.Basics.{bool_case}
 use Rattle.cows.proofs.Places.{spot_fits}
 use Rattle.records.specs.Holds.{Holds}

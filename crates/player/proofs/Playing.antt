@@ -12,7 +12,7 @@ use Rattle.cows.specs.Terms.{Term, size}
 use Rattle.cows.specs.Format.{bytes2, byte, word}
 use Rattle.cows.specs.Within.{Within}
 use Rattle.cows.specs.Moves.{Move}
-use Rattle.cows.specs.Step.{Reply, read_move, step_term}
+use Rattle.cows.specs.Step.{read_move, step_term}
 use Rattle.cows.specs.Run.{no_tally, RunState, start, run, judgement, turn, kept, replies, reply_bytes, reply6}
 use Rattle.cows.specs.Cut.{cut, pieces}
 use Rattle.cows.proofs.Lists.{run_more, replies_more, bytes_more, length-replies, length-bytes}

@@ -2,7 +2,7 @@
 use mathlib.Core.Path.{◌≡◌, refl, sym, ap, subst, ◌∙◌}
 use mathlib.Core.Logic.{◌≢◌}
 use mathlib.Core.Bool.{Bool, true, false, not, cond}
-use mathlib.Core.List.{List, [], ◌∷◌}
+use mathlib.Core.List.{List}
 use mathlib.Core.Option.{Option, some}
 use Prim.Native.Nat.{ℕ, ◌+◌, ◌*◌, ◌/◌, ◌≤◌, ◌<◌}
 use native.Mathlib.Omega.{arith}
@@ -15,7 +15,6 @@ use Rattle.cows.specs.Active.{wanted}
 use Rattle.cows.specs.Within.{Within}
 use Rattle.cows.specs.Allows.{StandsLive}
 use Rattle.cows.specs.Moves.{Move, unfold_at, successor}
-use Rattle.cows.specs.Moves as meaning
 use Rattle.cows.specs.Step.{proposed, step_term, reply_to}
 use Rattle.cows.specs.Load.{load, copies}
 use Rattle.cows.specs.Run.{no_tally, sum, adds, RunState, judgement, enter, turn, kept}

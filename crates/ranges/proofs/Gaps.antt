@@ -1,9 +1,9 @@
 -- A ranged record has nothing behind an empty second slot.
-use Rattle.std.proofs.Common.{◌≡◌, ℕ, ◌+◌, ◌<◌, Bool, true, ◌&&◌, ◌||◌, eqb, ltb, leb, List, [], ◌∷◌, get_or, refl, arith, eqb-true, leb-true}
+use Rattle.std.proofs.Common.{◌≡◌, ℕ, ◌+◌, Bool, true, ◌&&◌, ◌||◌, eqb, ltb, leb, List, [], ◌∷◌, get_or, refl, arith, eqb-true, leb-true}
 use Rattle.cows.specs.Basics.{every, All}
 use Rattle.cows.specs.Format.{word}
 use Rattle.cows.proofs.Basics.{and_true, bool_case}
-use Rattle.ranges.specs.Ranges.{zero_only, field_rows, within, fields_within, ranged}
+use Rattle.ranges.specs.Ranges.{zero_only, field_rows, fields_within, ranged}
 use Rattle.ranges.proofs.FieldRanges.{row_within, bounds, any_all}
 
 -- a row whose second slot may not be empty, or whose third and fourth must be

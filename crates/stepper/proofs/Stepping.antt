@@ -6,7 +6,7 @@ use mathlib.Core.Option.{Option}
 use Prim.Native.Nat.{ℕ}
 use native.Mathlib.Omega.{arith}
 use lib.ListN.{length}
-use Rattle.cows.specs.Basics.{Result, refuse, accept, ◌>>=◌, ◌>>◌}
+use Rattle.cows.specs.Basics.{Result, refuse, accept, ◌>>=◌}
 use Rattle.cows.specs.Terms.{Term, size}
 use Rattle.cows.specs.Format.{AreBytes}
 use Rattle.cows.specs.Tables.{judge}

@@ -6,7 +6,7 @@ use Prim.Native.Nat.{ℕ, zero, suc, ◌+◌, ◌*◌, ◌-◌, ◌/◌, ◌≤�
 use native.Mathlib.Omega.{arith}
 use lib.ListN.{length, get_or}
 use borrow.Author.Tests.{lt-ltb, le-ltb}
-use Rattle.cows.specs.Basics.{All, place_if, Result, refuse, accept, ◌>>=◌, ◌>>◌, forbid}
+use Rattle.cows.specs.Basics.{All, place_if, Result, refuse, accept, ◌>>◌, forbid}
 use Rattle.cows.specs.Terms.{delimitation, Term, size}
 use Rattle.cows.specs.Kinds.{kind_of, open_kinds}
 use Rattle.cows.specs.Places.{sub}

@@ -3,14 +3,14 @@ use mathlib.Core.Path.{◌≡◌, refl, sym, ap, ◌∙◌}
 use mathlib.Core.Logic.{◌≢◌}
 use mathlib.Core.Bool.{true}
 use mathlib.Core.List.{List, map}
-use mathlib.Core.Option.{Option, none, some}
-use Prim.Native.Nat.{ℕ, ◌+◌, ◌-◌, ◌*◌, ◌/◌, ◌%◌, ◌≤◌, ◌<◌}
+use mathlib.Core.Option.{none, some}
+use Prim.Native.Nat.{ℕ, ◌-◌, ◌*◌, ◌/◌, ◌<◌}
 use native.Mathlib.Omega.{arith}
-use lib.ListN.{length, get_or}
-use Rattle.cows.specs.Terms.{Term, size}
+use lib.ListN.{length}
+use Rattle.cows.specs.Terms.{Term}
 use Rattle.cows.specs.Places.{first}
-use Rattle.cows.specs.Format.{AreBytes, read_node, records, decode, word}
-use Rattle.cows.specs.Tables.{first_wrong, too_deep, no_guard, judge_term}
+use Rattle.cows.specs.Format.{AreBytes, read_node, records, decode}
+use Rattle.cows.specs.Tables.{first_wrong, too_deep, judge_term}
 use Rattle.cows.proofs.Tables.{records_hold}
 use Rattle.cows.proofs.Refusals.{shallow_first}
 use Rattle.records.specs.Answers.{place_or}
@@ -21,7 +21,7 @@ use Rattle.records.proofs.Shapes.{end_shape}
 use Rattle.records.proofs.StandsIn.{holds_size, whole_stands}
 use Rattle.ranges.proofs.FieldRanges.{none_wrong}
 use Rattle.ranges.proofs.Gaps.{no_gap}
-use Rattle.depths.specs.Depths.{Standing, deep_in}
+use Rattle.depths.specs.Depths.{Standing}
 use Rattle.depths.proofs.Deep.{standing}
 use Rattle.depths.proofs.Searches.{deep-first, deep-below}
 use Rattle.depths.proofs.TooDeep.{FirstDeep}

@@ -2,7 +2,7 @@
 use Rattle.std.specs.Prelude.{◌≡◌, List, map, ℕ, ◌%◌, ◌≤◌, ◌<◌, length}
 use Rattle.std.proofs.Math.Option.{none}
 use Rattle.cows.specs.Limits.{max_bytes}
-use Rattle.cows.specs.Basics.{Result, refuse, accept, ◌>>=◌, ◌>>◌, forbid}
+use Rattle.cows.specs.Basics.{Result, refuse, accept, ◌>>◌, forbid}
 use Rattle.cows.specs.Terms.{Term, size}
 use Rattle.cows.specs.Places.{first}
 use Rattle.cows.specs.Format.{read_node, records, decode}

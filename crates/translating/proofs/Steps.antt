@@ -6,7 +6,7 @@ use Prim.Native.Nat.{ℕ, ◌+◌, ◌*◌, ◌≤◌, ◌<◌}
 use native.Mathlib.Omega.{arith}
 use lib.ListN.{length, length-append}
 use Rattle.cows.specs.Limits.{first_label}
-use Rattle.cows.specs.Terms.{parallel, leaf, both, value, label}
+use Rattle.cows.specs.Terms.{parallel, leaf, both, value}
 use Rattle.cows.specs.Kinds.{basic, join}
 use Rattle.cows.specs.Format.{record16, bytes, encode}
 use Rattle.cows.proofs.Sets.{in-values, in_labels}

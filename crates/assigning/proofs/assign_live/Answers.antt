@@ -1,15 +1,10 @@
 -- The live records before place i have their roles.
-use borrow.Author.Rules.{rules}
-use mathlib.Core.Path.{◌≡◌, refl, ◌∙◌}
-use Prim.Native.Nat.{ℕ, ◌-◌, ◌≤◌, ◌<◌}
+use mathlib.Core.Path.{refl, ◌∙◌}
 use native.Mathlib.Omega.{arith}
-use lib.ListN.{length, get_or, length-set}
-use Rattle.cows.specs.Terms.{Term, size}
-use Rattle.ways.specs.Known.{Table}
+use lib.ListN.{length-set}
 use Rattle.ways.proofs.KnownTables.{table_size}
 use Rattle.ways.proofs.Seeking.{table_next}
-use Rattle.roles.specs.Roles.{ready_role}
-use Rattle.assigning.proofs.Living.{Living, living_start, living_end, living_through, living_over}
+use Rattle.assigning.proofs.Living.{living_start, living_end, living_through, living_over}
 use Rattle.assigning.proofs.assign_live.Goals as goal
 
 pub loop-i-init : goal.loop-i-init

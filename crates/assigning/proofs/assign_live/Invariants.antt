@@ -1,14 +1,10 @@
-use borrow.Author.Rules.{rules}
-use mathlib.Core.Path.{◌≡◌, refl, ◌∙◌}
+use mathlib.Core.Path.{◌≡◌}
 use Prim.Native.Nat.{ℕ, ◌-◌, ◌≤◌, ◌<◌}
-use native.Mathlib.Omega.{arith}
-use lib.ListN.{length, get_or, length-set}
+use lib.ListN.{length, get_or}
 use Rattle.cows.specs.Terms.{Term, size}
 use Rattle.ways.specs.Known.{Table}
-use Rattle.ways.proofs.KnownTables.{table_size}
-use Rattle.ways.proofs.Seeking.{table_next}
 use Rattle.roles.specs.Roles.{ready_role}
-use Rattle.assigning.proofs.Living.{Living, living_start, living_end, living_through, living_over}
+use Rattle.assigning.proofs.Living.{Living}
 use Rattle.assigning.proofs.assign_live.Given as goal
 
 abbrev pub invariant-loop-i : goal.invariant-loop-i

@@ -1,15 +1,9 @@
 -- The ready records before place i are noted.
-use borrow.Author.Rules.{rules}
-use mathlib.Core.Path.{◌≡◌, refl, ◌∙◌}
-use Prim.Native.Nat.{◌-◌, ◌≤◌}
+use mathlib.Core.Path.{refl, ◌∙◌}
 use native.Mathlib.Omega.{arith}
-use lib.ListN.{length}
-use Rattle.cows.specs.Terms.{Term}
-use Rattle.ways.specs.Known.{Table}
 use Rattle.ways.proofs.KnownTables.{table_size}
 use Rattle.ways.proofs.Seeking.{table_next}
-use Rattle.chains.specs.Chains.{Blank}
-use Rattle.assigning.proofs.Noting.{Noting, noting_start, noting_end, noting_through, noting_over}
+use Rattle.assigning.proofs.Noting.{noting_start, noting_end, noting_through, noting_over}
 use Rattle.assigning.proofs.assign_ready.Goals as goal
 
 pub loop-i-init : goal.loop-i-init

@@ -1,14 +1,10 @@
-use borrow.Author.Rules.{rules}
-use mathlib.Core.Path.{◌≡◌, refl, ◌∙◌}
+use mathlib.Core.Path.{◌≡◌}
 use Prim.Native.Nat.{◌-◌, ◌≤◌}
-use native.Mathlib.Omega.{arith}
 use lib.ListN.{length}
 use Rattle.cows.specs.Terms.{Term}
 use Rattle.ways.specs.Known.{Table}
-use Rattle.ways.proofs.KnownTables.{table_size}
-use Rattle.ways.proofs.Seeking.{table_next}
 use Rattle.chains.specs.Chains.{Blank}
-use Rattle.assigning.proofs.Noting.{Noting, noting_start, noting_end, noting_through, noting_over}
+use Rattle.assigning.proofs.Noting.{Noting}
 use Rattle.assigning.proofs.assign_ready.Given as goal
 
 abbrev pub invariant-loop-i : goal.invariant-loop-i

@@ -1,5 +1,4 @@
 -- What a ready record says, by its kind.
-use borrow.Author.Rules.{rules}
 use native.Mathlib.Omega.{arith}
 use Rattle.assigning.proofs.ByKind.{kill-behind, noted-kill, noted-receive, noted-none}
 use Rattle.assigning.proofs.note.Goals as goal

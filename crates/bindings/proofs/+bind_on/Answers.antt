@@ -1,9 +1,7 @@
 -- Each call has fewer records left. What is known at each return is in proofs/Acts for a record without parts, in proofs/Parts for a parallel, and in proofs/Binding for the others.
 use mathlib.Core.Path.{refl, sym, ◌∙◌}
-use Prim.Native.Nat.{ℕ, ◌<◌, ◌-◌}
 use native.Mathlib.Omega.{arith}
-use borrow.Author.Rules.{rules}
-use lib.ListN.{length, length-set}
+use lib.ListN.{length-set}
 use Rattle.orc.specs.Expressions.{symmetric}
 use Rattle.bindings.proofs.Acts.{act_fault, act-passed}
 use Rattle.bindings.proofs.Parts.{told, parallel_at, left_asks, right_asks, left_fault, both_read}

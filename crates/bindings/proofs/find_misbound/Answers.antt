@@ -1,5 +1,4 @@
 -- At the start no variable is bound.
-use borrow.Author.Rules.{rules}
 use mathlib.Core.Path.{refl}
 use Rattle.bindings.proofs.Parts.{told}
 use Rattle.bindings.proofs.Whole.{start, whole_asks, whole_behind, whole_fault}

@@ -1,10 +1,7 @@
-use borrow.Author.Rules.{rules}
-use mathlib.Core.Path.{◌≡◌, sym, subst, ◌∙◌}
 use Prim.Native.Nat.{◌/◌, ◌≤◌}
-use native.Mathlib.Omega.{arith}
 use lib.ListN.{length}
 use Rattle.chains.proofs.Chaining.{steps_left}
-use Rattle.chains.proofs.Finding.{Finding, walk_most, finding_start, finding_end, finding_found, finding_on, finding_less}
+use Rattle.chains.proofs.Finding.{Finding}
 use Rattle.chains.proofs.behind.Given as goal
 
 abbrev pub invariant-loop-e : goal.invariant-loop-e

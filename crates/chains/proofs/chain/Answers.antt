@@ -1,11 +1,10 @@
 -- The marked records from place i on are chained.
-use borrow.Author.Rules.{rules}
 use mathlib.Core.Path.{◌≡◌, refl, sym, subst, ◌∙◌}
-use Prim.Native.Nat.{◌+◌, ◌-◌, ◌/◌, ◌≤◌}
+use Prim.Native.Nat.{◌+◌, ◌-◌}
 use native.Mathlib.Omega.{arith}
-use lib.ListN.{length, length-set}
+use lib.ListN.{length-set}
 use borrow.Author.Tests.{eq-eqb, ne_eqb}
-use Rattle.chains.specs.Chains.{class_at, carries, Chained}
+use Rattle.chains.specs.Chains.{carries, Chained}
 use Rattle.chains.proofs.Chaining.{chained_start, chained_other, chained_put}
 use Rattle.chains.proofs.chain.Goals as goal
 

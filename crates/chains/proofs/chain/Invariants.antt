@@ -1,11 +1,7 @@
-use borrow.Author.Rules.{rules}
-use mathlib.Core.Path.{◌≡◌, refl, sym, subst, ◌∙◌}
-use Prim.Native.Nat.{◌+◌, ◌-◌, ◌/◌, ◌≤◌}
-use native.Mathlib.Omega.{arith}
-use lib.ListN.{length, length-set}
-use borrow.Author.Tests.{eq-eqb, ne_eqb}
+use mathlib.Core.Path.{◌≡◌}
+use Prim.Native.Nat.{◌/◌, ◌≤◌}
+use lib.ListN.{length}
 use Rattle.chains.specs.Chains.{class_at, carries, Chained}
-use Rattle.chains.proofs.Chaining.{chained_start, chained_other, chained_put}
 use Rattle.chains.proofs.chain.Given as goal
 
 abbrev pub invariant-loop-i : goal.invariant-loop-i

@@ -1,4 +1,3 @@
-use borrow.Author.Rules.{rules}
 use mathlib.Core.Path.{sym}
 use Rattle.chains.specs.Chains.{class_at}
 use Rattle.chains.proofs.class_at.Goals as goal

@@ -1,4 +1,3 @@
-use borrow.Author.Rules.{rules}
 use Rattle.clauses.proofs.Records.{call-put, nothing_put}
 use Rattle.clauses.proofs.put_act.Goals as goal
 

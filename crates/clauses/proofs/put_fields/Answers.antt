@@ -1,5 +1,4 @@
 -- Eight numbers, one behind the other.
-use borrow.Author.Rules.{rules}
 use native.Mathlib.Omega.{arith}
 use Rattle.cows.specs.Format.{bytes2}
 use Rattle.records.proofs.Put.{and_then}

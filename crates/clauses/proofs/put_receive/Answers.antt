@@ -1,4 +1,3 @@
-use borrow.Author.Rules.{rules}
 use Rattle.cows.specs.Format.{bytes2, layout, record16}
 use Rattle.clauses.proofs.put_receive.Goals as goal
 

@@ -1,4 +1,3 @@
-use borrow.Author.Rules.{rules}
 use native.Mathlib.Omega.{arith}
 use Rattle.clauses.proofs.Records.{record_last, record_then}
 use Rattle.clauses.proofs.put_where_middle.Goals as goal

@@ -1,4 +1,3 @@
-use borrow.Author.Rules.{rules}
 use native.Mathlib.Omega.{arith}
 use Rattle.cows.specs.Format.{bytes2, layout, record16}
 use Rattle.clauses.proofs.Records.{record_last, record_then}

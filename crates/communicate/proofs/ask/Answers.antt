@@ -1,4 +1,3 @@
-use borrow.Author.Rules.{rules}
 use mathlib.Core.Path.{sym, ap, ◌∙◌}
 use Rattle.cows.specs.Basics.{refuse}
 use Rattle.communicate.proofs.Judged.{parties_fit, differ}

@@ -1,4 +1,3 @@
-use borrow.Author.Rules.{rules}
 use mathlib.Core.Path.{ap, ◌∙◌}
 use Rattle.ways.proofs.KnownTables.{none-live, found-live, found_inside, found-start}
 use Rattle.plans.specs.Plans.{result_of}

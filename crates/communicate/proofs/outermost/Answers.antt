@@ -1,4 +1,3 @@
-use borrow.Author.Rules.{rules}
 use Rattle.ways.proofs.KnownTables.{table_inside}
 use Rattle.communicate.proofs.Outside.{over_itself, outers}
 use Rattle.communicate.proofs.outermost.Goals as goal

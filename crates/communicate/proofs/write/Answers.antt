@@ -1,4 +1,3 @@
-use borrow.Author.Rules.{rules}
 use native.Mathlib.Omega.{arith}
 use Rattle.plans.proofs.Planning.{gives}
 use Rattle.communicate.proofs.Written.{asks_span, asks_parts, asks_unchanged, low_inside, joined}

@@ -1,17 +1,13 @@
 -- Below place i only what is left of the roles stands there, and the ways to the children are told.
-use borrow.Author.Rules.{rules}
-use mathlib.Core.Path.{◌≡◌, refl, ◌∙◌}
-use Prim.Native.Nat.{◌-◌, ◌/◌, ◌≤◌}
+use mathlib.Core.Path.{refl, ◌∙◌}
 use native.Mathlib.Omega.{arith}
-use lib.ListN.{length, replicate, length-set}
+use lib.ListN.{replicate, length-set}
 use Rattle.cows.specs.Limits.{max_records}
-use Rattle.cows.specs.Terms.{Term}
 use Rattle.cows.proofs.Basics.{get_d_zeros}
-use Rattle.ways.specs.Known.{Table}
 use Rattle.ways.proofs.KnownTables.{table_size}
-use Rattle.deepest.specs.Deepest.{Told, Telling}
+use Rattle.deepest.specs.Deepest.{Telling}
 use Rattle.deepest.proofs.Telling.{telling, told-start}
-use Rattle.deepest.proofs.Casting.{Roles, Casting, casting_start, casting_turn, casting_end}
+use Rattle.deepest.proofs.Casting.{casting_start, casting_turn, casting_end}
 use Rattle.deepest.proofs.dismiss_all.Goals as goal
 
 pub loop-i-init : goal.loop-i-init

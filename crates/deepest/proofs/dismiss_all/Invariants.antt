@@ -1,16 +1,11 @@
-use borrow.Author.Rules.{rules}
-use mathlib.Core.Path.{◌≡◌, refl, ◌∙◌}
+use mathlib.Core.Path.{◌≡◌}
 use Prim.Native.Nat.{◌-◌, ◌/◌, ◌≤◌}
-use native.Mathlib.Omega.{arith}
-use lib.ListN.{length, replicate, length-set}
+use lib.ListN.{length}
 use Rattle.cows.specs.Limits.{max_records}
 use Rattle.cows.specs.Terms.{Term}
-use Rattle.cows.proofs.Basics.{get_d_zeros}
 use Rattle.ways.specs.Known.{Table}
-use Rattle.ways.proofs.KnownTables.{table_size}
-use Rattle.deepest.specs.Deepest.{Told, Telling}
-use Rattle.deepest.proofs.Telling.{telling, told-start}
-use Rattle.deepest.proofs.Casting.{Roles, Casting, casting_start, casting_turn, casting_end}
+use Rattle.deepest.specs.Deepest.{Told}
+use Rattle.deepest.proofs.Casting.{Roles, Casting}
 use Rattle.deepest.proofs.dismiss_all.Given as goal
 
 abbrev pub invariant-loop-i : goal.invariant-loop-i

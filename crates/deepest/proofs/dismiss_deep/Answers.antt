@@ -1,5 +1,4 @@
 -- A table of too few records, or whose root is not deep enough, keeps its roles.
-use borrow.Author.Rules.{rules}
 use native.Mathlib.Omega.{arith}
 use Rattle.records.proofs.StandsIn.{whole_stands}
 use Rattle.depths.proofs.Deep.{depth-size}

@@ -1,9 +1,8 @@
 -- From place i on the depths are found.
-use borrow.Author.Rules.{rules}
 use mathlib.Core.Path.{◌≡◌, refl, subst, ◌∙◌}
-use Prim.Native.Nat.{◌+◌, ◌-◌, ◌/◌, ◌≤◌}
+use Prim.Native.Nat.{◌+◌, ◌-◌}
 use native.Mathlib.Omega.{arith}
-use lib.ListN.{length, length-set}
+use lib.ListN.{length-set}
 use Rattle.deepest.specs.Deepest.{Heights}
 use Rattle.deepest.proofs.Heights.{known_standing, heights_start, heights_turn}
 use Rattle.deepest.proofs.find_heights.Goals as goal

@@ -1,10 +1,7 @@
-use borrow.Author.Rules.{rules}
-use mathlib.Core.Path.{◌≡◌, refl, subst, ◌∙◌}
-use Prim.Native.Nat.{◌+◌, ◌-◌, ◌/◌, ◌≤◌}
-use native.Mathlib.Omega.{arith}
-use lib.ListN.{length, length-set}
+use mathlib.Core.Path.{◌≡◌}
+use Prim.Native.Nat.{◌/◌, ◌≤◌}
+use lib.ListN.{length}
 use Rattle.deepest.specs.Deepest.{Heights}
-use Rattle.deepest.proofs.Heights.{known_standing, heights_start, heights_turn}
 use Rattle.deepest.proofs.find_heights.Given as goal
 
 abbrev pub invariant-loop-i : goal.invariant-loop-i

@@ -1,5 +1,4 @@
 -- The children's depths are at hand: one more than the larger.
-use borrow.Author.Rules.{rules}
 use native.Mathlib.Omega.{arith}
 use Rattle.depths.proofs.Deep.{depth-none, depth_one, depth_two}
 use Rattle.deepest.proofs.Heights.{first_place, both_places}

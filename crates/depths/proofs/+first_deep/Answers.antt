@@ -1,8 +1,5 @@
 -- Each call has fewer records left.
-use Prim.Native.Nat.{ℕ, ◌<◌, ◌+◌, ◌-◌, ◌/◌}
 use native.Mathlib.Omega.{arith}
-use borrow.Author.Rules.{rules}
-use lib.ListN.{length}
 use Rattle.depths.proofs.Deep.{first_standing, second_standing}
 use Rattle.depths.proofs.TooDeep.{deep_here, deep-leaf, deep_one, deep-left, deep_right}
 use Rattle.depths.proofs.+first_deep.Goals as goal

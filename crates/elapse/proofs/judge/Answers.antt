@@ -1,4 +1,3 @@
-use borrow.Author.Rules.{rules}
 use mathlib.Core.Path.{refl, ap}
 use Rattle.cows.proofs.Recordwise.{no-time}
 use Rattle.plans.specs.Plans.{result_of}

@@ -1,15 +1,12 @@
 -- What the walk does at each record is in proofs/Lapsing.
 use borrow.Author.Rules.{rules}
-use mathlib.Core.Path.{◌≡◌, refl, sym}
-use Prim.Native.Nat.{◌*◌, ◌-◌, ◌≤◌, ◌<◌}
+use mathlib.Core.Path.{refl, sym}
+use Prim.Native.Nat.{◌*◌}
 use native.Mathlib.Omega.{arith}
-use lib.ListN.{length, take, drop}
 use lib.ListN.{take-append-drop}
 use lib.Seq.{length-take-le}
-use Rattle.cows.specs.Terms.{Term}
-use Rattle.ways.specs.Known.{Table}
 use Rattle.elapse.proofs.Walking.{ahead-next}
-use Rattle.elapse.proofs.Lapsing.{Lapsing, lapsing_start, lapsing_end, lapsing_still, lapsing_wait, lapsing_through}
+use Rattle.elapse.proofs.Lapsing.{lapsing_start, lapsing_end, lapsing_still, lapsing_wait, lapsing_through}
 use Rattle.elapse.proofs.lower_waits.Goals as goal
 
 pub loop-p-init : goal.loop-p-init

@@ -1,14 +1,9 @@
-use borrow.Author.Rules.{rules}
-use mathlib.Core.Path.{◌≡◌, refl, sym}
+use mathlib.Core.Path.{◌≡◌}
 use Prim.Native.Nat.{◌*◌, ◌-◌, ◌≤◌, ◌<◌}
-use native.Mathlib.Omega.{arith}
 use lib.ListN.{length, take, drop}
-use lib.ListN.{take-append-drop}
-use lib.Seq.{length-take-le}
 use Rattle.cows.specs.Terms.{Term}
 use Rattle.ways.specs.Known.{Table}
-use Rattle.elapse.proofs.Walking.{ahead-next}
-use Rattle.elapse.proofs.Lapsing.{Lapsing, lapsing_start, lapsing_end, lapsing_still, lapsing_wait, lapsing_through}
+use Rattle.elapse.proofs.Lapsing.{Lapsing}
 use Rattle.elapse.proofs.lower_waits.Given as goal
 
 abbrev pub invariant-loop-p : goal.invariant-loop-p

@@ -1,4 +1,3 @@
-use borrow.Author.Rules.{rules}
 use native.Mathlib.Omega.{arith}
 use Rattle.plans.proofs.Planning.{gives}
 use Rattle.elapse.proofs.Judged.{room, known_copied, table_copied, gives_elapsed}

@@ -1,14 +1,7 @@
-use borrow.Author.Rules.{rules}
-use mathlib.Core.Path.{◌≡◌, refl, subst}
-use mathlib.Core.Bool.{false}
+use mathlib.Core.Path.{◌≡◌}
 use Prim.Native.Nat.{◌-◌, ◌≤◌}
-use native.Mathlib.Omega.{arith}
-use lib.Dec.{eqb}
-use lib.ListN.{length, get_or}
-use Rattle.records.proofs.Laws.{test_sum, test_small}
-use Rattle.opening.specs.Opening.{up_from, filter}
+use lib.ListN.{length}
 use Rattle.entries.specs.Entries.{places_of}
-use Rattle.entries.proofs.Entries.{place_counted}
 use Rattle.entries.proofs.count.Given as goal
 
 abbrev pub invariant-loop-i : goal.invariant-loop-i

@@ -1,11 +1,7 @@
-use borrow.Author.Rules.{rules}
-use mathlib.Core.Path.{◌≡◌, refl, ap, subst, ◌∙◌}
+use mathlib.Core.Path.{◌≡◌}
 use Prim.Native.Nat.{◌-◌, ◌≤◌}
-use native.Mathlib.Omega.{arith}
 use lib.ListN.{length}
-use Rattle.records.proofs.Put.{length-put}
 use Rattle.entries.specs.Entries.{Entered}
-use Rattle.entries.proofs.Entries.{listed_start, listed_on, listed-put, room_for}
 use Rattle.entries.proofs.put_kind.Given as goal
 
 abbrev pub invariant-loop-i : goal.invariant-loop-i

@@ -1,4 +1,3 @@
-use borrow.Author.Rules.{rules}
 use native.Mathlib.Omega.{arith}
 use Rattle.entries.proofs.Entries.{move_put}
 use Rattle.entries.proofs.put_move.Goals as goal

@@ -1,8 +1,5 @@
 -- Each call is at a later place, so fewer bytes are left; what measuring comes to at a record is in proofs/Measures.
-use Prim.Native.Nat.{ℕ, ◌<◌, ◌-◌}
-use borrow.Author.Rules.{rules}
 use native.Mathlib.Omega.{arith}
-use lib.ListN.{length}
 use Rattle.extents.proofs.Measures.{act_measured, left_measurable, right_measurable, parts_bounded, composed_measured}
 use Rattle.extents.proofs.+measure.Goals as goal
 

@@ -1,4 +1,3 @@
-use borrow.Author.Rules.{rules}
 use mathlib.Core.Path.{refl, ap}
 use native.Mathlib.Omega.{arith}
 use Rattle.ways.proofs.KnownTables.{way_short, none-live, found-live, found_inside, found_above, found_parent}

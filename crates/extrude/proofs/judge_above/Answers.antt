@@ -1,4 +1,3 @@
-use borrow.Author.Rules.{rules}
 use borrow.Author.Tests.{not-true, not-false}
 use mathlib.Core.Path.{sym, ◌∙◌}
 use Rattle.extrude.proofs.Judged.{lift_stuck, lift_plain, beside_standing, lift_beside, lift_deep}

@@ -1,9 +1,8 @@
 use borrow.Author.Rules.{rules}
-use mathlib.Core.Path.{◌≡◌, refl}
-use Prim.Native.Nat.{◌-◌, ◌≤◌, ◌<◌}
+use mathlib.Core.Path.{refl}
+use Prim.Native.Nat.{◌-◌}
 use native.Mathlib.Omega.{arith}
-use lib.ListN.{length, get_or}
-use Rattle.extrude.proofs.Raising.{EndsRaised, ends_start, ends_step, ends_done}
+use Rattle.extrude.proofs.Raising.{ends_start, ends_step, ends_done}
 use Rattle.extrude.proofs.lift_ends.Goals as goal
 
 pub loop-i-init : goal.loop-i-init

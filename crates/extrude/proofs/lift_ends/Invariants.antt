@@ -1,9 +1,7 @@
-use borrow.Author.Rules.{rules}
-use mathlib.Core.Path.{◌≡◌, refl}
-use Prim.Native.Nat.{◌-◌, ◌≤◌, ◌<◌}
-use native.Mathlib.Omega.{arith}
+use mathlib.Core.Path.{◌≡◌}
+use Prim.Native.Nat.{◌≤◌, ◌<◌}
 use lib.ListN.{length, get_or}
-use Rattle.extrude.proofs.Raising.{EndsRaised, ends_start, ends_step, ends_done}
+use Rattle.extrude.proofs.Raising.{EndsRaised}
 use Rattle.extrude.proofs.lift_ends.Given as goal
 
 abbrev pub invariant-loop-i : goal.invariant-loop-i

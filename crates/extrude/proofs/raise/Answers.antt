@@ -1,8 +1,6 @@
 use borrow.Author.Rules.{rules}
 use mathlib.Core.Path.{◌≡◌, refl, ap, ◌∙◌}
-use Prim.Native.Nat.{◌≤◌}
 use native.Mathlib.Omega.{arith}
-use lib.ListN.{length}
 use Rattle.extrude.specs.Extruding.{raised}
 use Rattle.extrude.proofs.Raising.{raised-start, raised_step}
 use Rattle.extrude.proofs.raise.Goals as goal

@@ -1,10 +1,7 @@
-use borrow.Author.Rules.{rules}
-use mathlib.Core.Path.{◌≡◌, refl, ap, ◌∙◌}
+use mathlib.Core.Path.{◌≡◌}
 use Prim.Native.Nat.{◌≤◌}
-use native.Mathlib.Omega.{arith}
 use lib.ListN.{length}
 use Rattle.extrude.specs.Extruding.{raised}
-use Rattle.extrude.proofs.Raising.{raised-start, raised_step}
 use Rattle.extrude.proofs.raise.Given as goal
 
 abbrev pub invariant-loop-i : goal.invariant-loop-i

@@ -1,4 +1,3 @@
-use borrow.Author.Rules.{rules}
 use mathlib.Core.Path.{ap, ◌∙◌}
 use Rattle.records.specs.Rewrites.{put}
 use Rattle.plans.proofs.Planning.{gives}

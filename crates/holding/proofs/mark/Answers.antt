@@ -1,4 +1,3 @@
-use borrow.Author.Rules.{rules}
 use native.Mathlib.Omega.{arith}
 use Rattle.holding.proofs.Bits.{sets_mark}
 use Rattle.holding.proofs.mark.Goals as goal

@@ -1,4 +1,3 @@
-use borrow.Author.Rules.{rules}
 use Rattle.holding.specs.Holding.{mark_of}
 use Rattle.holding.proofs.marked.Goals as goal
 

@@ -1,9 +1,8 @@
 use mathlib.Core.Path.{◌≡◌, refl, ap, ◌∙◌}
-use Prim.Native.Nat.{◌-◌, ◌≤◌, ◌<◌}
+use Prim.Native.Nat.{◌<◌}
 use native.Mathlib.Omega.{arith}
 use lib.ListN.{length, get_or, length-set}
 use Rattle.cows.proofs.Basics.{never}
-use Rattle.index.specs.Index.{Entered}
 use Rattle.index.proofs.Bounds.{slot-inside, ends_small}
 use Rattle.index.proofs.Entries.{enter-none, enter-turn}
 use Rattle.index.proofs.enter.Goals as goal

@@ -1,11 +1,7 @@
-use mathlib.Core.Path.{◌≡◌, refl, ap, ◌∙◌}
-use Prim.Native.Nat.{◌-◌, ◌≤◌, ◌<◌}
-use native.Mathlib.Omega.{arith}
-use lib.ListN.{length, get_or, length-set}
-use Rattle.cows.proofs.Basics.{never}
+use mathlib.Core.Path.{◌≡◌}
+use Prim.Native.Nat.{◌-◌, ◌≤◌}
+use lib.ListN.{length}
 use Rattle.index.specs.Index.{Entered}
-use Rattle.index.proofs.Bounds.{slot-inside, ends_small}
-use Rattle.index.proofs.Entries.{enter-none, enter-turn}
 use Rattle.index.proofs.enter.Given as goal
 
 abbrev pub invariant-loop-i : goal.invariant-loop-i

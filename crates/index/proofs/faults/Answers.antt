@@ -1,4 +1,3 @@
-use borrow.Author.Rules.{rules}
 use Rattle.index.proofs.Bounds.{three-fine}
 use Rattle.index.proofs.faults.Goals as goal
 

@@ -1,8 +1,5 @@
-use mathlib.Core.Path.{◌∙◌}
-use borrow.Author.Rules.{rules}
 use native.Mathlib.Omega.{arith}
 use lib.ListN.{length-set}
-use borrow.Author.Tests.{not-false}
 use Rattle.cows.proofs.Basics.{never}
 use Rattle.ranges.proofs.Lists.{listed-inside}
 use Rattle.index.proofs.Entries.{ready, listed-bound, patterns_apart}

@@ -1,4 +1,3 @@
-use borrow.Author.Rules.{rules}
 use Rattle.index.specs.Index.{slot_of}
 use Rattle.index.proofs.slot.Goals as goal
 

@@ -1,4 +1,3 @@
-use borrow.Author.Rules.{rules}
 use native.Mathlib.Omega.{arith}
 use Rattle.index.proofs.Bounds.{slot-inside, fault_hit, fault_miss}
 use Rattle.index.proofs.use_fault.Goals as goal

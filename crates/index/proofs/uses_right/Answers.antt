@@ -1,14 +1,10 @@
-use mathlib.Core.Path.{◌≡◌, sym, ◌∙◌}
-use mathlib.Core.Bool.{true}
-use Prim.Native.Nat.{ℕ, ◌-◌, ◌≤◌, ◌<◌}
+use mathlib.Core.Path.{sym, ◌∙◌}
 use native.Mathlib.Omega.{arith}
 use lib.Bits.{bit_and}
 use lib.Dec.{eqb}
-use lib.ListN.{get_or}
 use borrow.Author.Count.{below_more}
 use borrow.Author.Tests.{eqb-true}
 use Rattle.cows.proofs.Basics.{and_true}
-use Rattle.index.specs.Index.{Clear, UsesRight}
 use Rattle.index.proofs.Bounds.{and_clear, short_right, long_right}
 use Rattle.index.proofs.uses_right.Goals as goal
 use Rattle.index.proofs.uses_right.Goals.{then-x-ne0, else-x-ne0}

@@ -1,4 +1,3 @@
-use borrow.Author.Rules.{rules}
 use Rattle.lister.proofs.assign.Goals as goal
 
 pub returns : goal.returns

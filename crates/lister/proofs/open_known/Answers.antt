@@ -1,5 +1,4 @@
 -- Each size of table has arrays of its own.
-use borrow.Author.Rules.{rules}
 use native.Mathlib.Omega.{arith}
 use Rattle.cows.proofs.Basics.{get_d_zeros}
 use Rattle.lister.proofs.Desks.{desks}

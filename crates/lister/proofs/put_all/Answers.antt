@@ -1,5 +1,4 @@
 -- Each part is written behind the ones before it.
-use borrow.Author.Rules.{rules}
 use Rattle.lister.proofs.Writing.{room_kills, space_meetings, room_timeouts, room_unfolds, room_extrudes, parts-put}
 use Rattle.lister.proofs.put_all.Goals as goal
 

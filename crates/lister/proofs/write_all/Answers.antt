@@ -1,6 +1,4 @@
-use borrow.Author.Rules.{rules}
 use mathlib.Core.Path.{ap}
-use Rattle.tables.specs.declared.Reply.{Reply}
 use Rattle.lister.proofs.Listing.{answered_fully}
 use Rattle.lister.proofs.write_all.Goals as goal
 

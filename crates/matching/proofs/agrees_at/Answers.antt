@@ -1,4 +1,3 @@
-use borrow.Author.Rules.{rules}
 use Rattle.records.proofs.Atoms.{number_class, variable_class}
 use Rattle.matching.proofs.agrees_at.Goals as goal
 

@@ -1,4 +1,3 @@
-use borrow.Author.Rules.{rules}
 use Rattle.cows.specs.Moves.{mismatch_number}
 use Rattle.matching.proofs.difference_number.Goals as goal
 

@@ -1,4 +1,3 @@
-use borrow.Author.Rules.{rules}
 use mathlib.Core.Path.{◌∙◌}
 use Rattle.matching.proofs.Matches.{closed_ends}
 use Rattle.matching.proofs.fits.Goals as goal

@@ -1,4 +1,3 @@
-use borrow.Author.Rules.{rules}
 use borrow.Author.Tests.{not-true, not-false}
 use mathlib.Core.Bool.{◌&&◌}
 use Rattle.matching.specs.Matching.{slots_at}

@@ -1,13 +1,10 @@
-use borrow.Author.Rules.{rules}
 use borrow.Author.Tests.{ne_eqb}
 use mathlib.Core.Path.{◌≡◌, refl, sym, ap, subst, ◌∙◌}
-use Prim.Native.Nat.{◌*◌, ◌-◌, ◌≤◌}
+use Prim.Native.Nat.{◌*◌}
 use native.Mathlib.Omega.{arith}
 use lib.ListN.{length}
-use Rattle.cows.specs.Terms.{Term, size}
-use Rattle.ways.specs.Known.{Table}
+use Rattle.cows.specs.Terms.{size}
 use Rattle.ways.proofs.KnownTables.{table_size}
-use Rattle.roles.specs.Roles.{Cast}
 use Rattle.meetings.specs.Reaching.{SentTo}
 use Rattle.meetings.proofs.Meets.{cast_sender}
 use Rattle.meetings.proofs.Sending.{sent_over, sent_all}

@@ -1,17 +1,10 @@
-use borrow.Author.Rules.{rules}
-use borrow.Author.Tests.{ne_eqb}
-use mathlib.Core.Path.{◌≡◌, refl, sym, ap, subst, ◌∙◌}
-use mathlib.Core.Logic.{⊎_elim}
+use mathlib.Core.Path.{◌≡◌}
 use Prim.Native.Nat.{◌*◌, ◌-◌, ◌≤◌}
-use native.Mathlib.Omega.{arith}
 use lib.ListN.{length}
-use Rattle.cows.specs.Terms.{Term, size}
+use Rattle.cows.specs.Terms.{Term}
 use Rattle.ways.specs.Known.{Table}
-use Rattle.ways.proofs.KnownTables.{table_size}
 use Rattle.roles.specs.Roles.{Cast}
 use Rattle.meetings.specs.Reaching.{SentTo}
-use Rattle.meetings.proofs.Meets.{cast_sender}
-use Rattle.meetings.proofs.Sending.{sent_over, sent_all}
 use Rattle.meetings.proofs.find_scopes.Given as goal
 
 abbrev pub invariant-loop-b : goal.invariant-loop-b

@@ -1,15 +1,12 @@
-use borrow.Author.Rules.{rules}
 use borrow.Author.Tests.{ne_eqb}
-use mathlib.Core.Path.{◌≡◌, refl, sym, ap, ◌∙◌}
-use Prim.Native.Nat.{◌+◌, ◌-◌, ◌≤◌}
+use mathlib.Core.Path.{refl, sym, ap, ◌∙◌}
+use Prim.Native.Nat.{◌+◌}
 use native.Mathlib.Omega.{arith}
 use lib.ListN.{length, get_or}
-use Rattle.cows.specs.Terms.{Term}
-use Rattle.ways.specs.Known.{Table}
 use Rattle.ways.proofs.KnownTables.{table_size, table_inside}
 use Rattle.meetings.specs.Meetings.{meetings_at, meetings_of}
 use Rattle.meetings.proofs.Meets.{cast_receiver}
-use Rattle.meetings.proofs.Listing.{Listing, listing_start, listing_on, listing-end}
+use Rattle.meetings.proofs.Listing.{listing_start, listing_on, listing-end}
 use Rattle.meetings.proofs.Walks.{later_of, later_start, later_next, later_end, later_over, space_at}
 use Rattle.meetings.proofs.put_meetings.Goals as goal
 use Rattle.meetings.proofs.put_meetings.Goals.{then-cast-a-eq-RECEIVER, else-cast-a-eq-RECEIVER}

@@ -1,4 +1,3 @@
-use borrow.Author.Rules.{rules}
 use native.Mathlib.Omega.{arith}
 use Rattle.records.proofs.StandsIn.{holds_size}
 use Rattle.meetings.proofs.SlotScopes.{behind_most}

@@ -1,4 +1,3 @@
-use borrow.Author.Rules.{rules}
 use Rattle.meetings.proofs.SlotScopes.{low_few}
 use Rattle.meetings.proofs.reach_of.Goals as goal
 

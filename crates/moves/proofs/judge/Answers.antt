@@ -1,4 +1,3 @@
-use borrow.Author.Rules.{rules}
 use Rattle.cows.specs.Basics.{◌>>=◌, need}
 use Rattle.cows.specs.Moves.{successor}
 use Rattle.cows.specs.Step.{proposed}

@@ -1,4 +1,3 @@
-use borrow.Author.Rules.{rules}
 use mathlib.Core.Path.{refl}
 use Rattle.cows.specs.Basics.{◌>>=◌, need}
 use Rattle.cows.specs.Moves.{successor}

@@ -1,8 +1,5 @@
 -- Each call is at a later place, so fewer records are left; what reading comes to at a record is in proofs/Steps.
-use Prim.Native.Nat.{ℕ, ◌<◌, ◌-◌, ◌/◌}
-use borrow.Author.Rules.{rules}
 use native.Mathlib.Omega.{arith}
-use lib.ListN.{length}
 use Rattle.nesting.proofs.Steps.{stops, inside, single_read, left_fault, right_read}
 use Rattle.nesting.proofs.+nest_on.Goals as goal
 

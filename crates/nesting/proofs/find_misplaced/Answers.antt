@@ -1,5 +1,4 @@
 use mathlib.Core.Path.{ap, ◌∙◌}
-use borrow.Author.Rules.{rules}
 use Rattle.records.specs.Answers.{found_of}
 use Rattle.nesting.proofs.Steps.{whole_read, whole_fault}
 use Rattle.nesting.proofs.find_misplaced.Goals as goal

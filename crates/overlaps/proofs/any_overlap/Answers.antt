@@ -1,9 +1,5 @@
-use borrow.Author.Rules.{rules}
-use mathlib.Core.Path.{◌≡◌, refl, sym, ap, ◌∙◌}
-use Prim.Native.Nat.{◌-◌, ◌≤◌}
+use mathlib.Core.Path.{refl, sym, ap, ◌∙◌}
 use native.Mathlib.Omega.{arith}
-use lib.ListN.{length, drop}
-use Rattle.cows.specs.Basics.{any}
 use Rattle.settling.proofs.Searching.{any-stop, any-turn, any-end}
 use Rattle.overlaps.specs.Overlaps.{overlap}
 use Rattle.overlaps.proofs.Overlapping.{before_at}

@@ -1,12 +1,8 @@
-use borrow.Author.Rules.{rules}
-use mathlib.Core.Path.{◌≡◌}
-use mathlib.Core.List.{[]}
-use Prim.Native.Nat.{◌+◌, ◌-◌, ◌≤◌}
+use Prim.Native.Nat.{◌+◌}
 use native.Mathlib.Omega.{arith}
-use lib.ListN.{length, take, drop}
+use lib.ListN.{length}
 use lib.Seq.{length-take-le}
 use Rattle.cows.proofs.Cut.{all_take}
-use Rattle.overlaps.specs.Overlaps.{first_overlap}
 use Rattle.overlaps.proofs.Overlapping.{before_at, behind_before, overlap-stop, overlap-turn, overlap-end}
 use Rattle.overlaps.proofs.first_overlap.Goals as goal
 

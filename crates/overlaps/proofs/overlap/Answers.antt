@@ -1,4 +1,3 @@
-use borrow.Author.Rules.{rules}
 use Rattle.overlaps.specs.Overlaps.{overlap}
 use Rattle.overlaps.proofs.overlap.Goals as goal
 

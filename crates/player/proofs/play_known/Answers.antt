@@ -1,5 +1,4 @@
-use borrow.Author.Rules.{rules}
-use mathlib.Core.Path.{sym, ◌∙◌}
+use mathlib.Core.Path.{sym}
 use native.Mathlib.Omega.{arith}
 use Rattle.player.proofs.Whole.{room_whole, part_whole, keeps-first, opens, last_fits, plays_term}
 use Rattle.player.proofs.play_known.Goals as goal

@@ -1,4 +1,3 @@
-use borrow.Author.Rules.{rules}
 use Rattle.proposals.proofs.SixBytes.{wrong_length_lem, right_tests}
 use Rattle.proposals.proofs.right_move.Goals as goal
 

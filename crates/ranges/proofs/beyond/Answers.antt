@@ -1,4 +1,4 @@
-use Rattle.std.proofs.Common.{arith, rules}
+use Rattle.std.proofs.Common.{arith}
 use Rattle.ranges.proofs.Gathering.{round_within}
 use Rattle.ranges.proofs.beyond.Goals as goal
 

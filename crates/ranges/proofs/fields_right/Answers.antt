@@ -1,7 +1,7 @@
-use Rattle.std.proofs.Common.{◌≡◌, ℕ, ◌+◌, ◌-◌, ◌*◌, ◌/◌, ◌<◌, ◌≤◌, true, length, get_or, refl, arith, below_more}
+use Rattle.std.proofs.Common.{◌+◌, ◌*◌, refl, arith, below_more}
 use Rattle.cows.specs.Basics.{every}
-use Rattle.ranges.specs.Ranges.{field_rows, ranged}
-use Rattle.ranges.proofs.Gathering.{Tables, row_below, gathered-ranged}
+use Rattle.ranges.specs.Ranges.{field_rows}
+use Rattle.ranges.proofs.Gathering.{row_below, gathered-ranged}
 use Rattle.ranges.proofs.fields_right.Goals as goal
 
 pub loop-i-init : goal.loop-i-init

@@ -1,7 +1,6 @@
-use Rattle.std.proofs.Common.{◌≡◌, ℕ, ◌-◌, ◌*◌, ◌/◌, ◌<◌, ◌≤◌, true, length, get_or, refl, arith, below_more}
-use Rattle.cows.specs.Basics.{every}
-use Rattle.ranges.specs.Ranges.{field_rows, ranged}
-use Rattle.ranges.proofs.Gathering.{Tables, row_below, gathered-ranged}
+use Rattle.std.proofs.Common.{◌≡◌, ℕ, ◌-◌, ◌*◌, ◌/◌, ◌<◌, ◌≤◌, true, length, get_or}
+use Rattle.ranges.specs.Ranges.{ranged}
+use Rattle.ranges.proofs.Gathering.{Tables}
 use Rattle.ranges.proofs.fields_right.Given as goal
 
 abbrev pub invariant-loop-i : goal.invariant-loop-i

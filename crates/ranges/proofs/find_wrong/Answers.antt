@@ -1,6 +1,4 @@
-use Rattle.std.proofs.Common.{◌≡◌, ◌-◌, ◌/◌, length, drop, sym, refl, ap, ◌∙◌, arith}
-use Rattle.cows.specs.Format.{records}
-use Rattle.cows.specs.Tables.{first_wrong}
+use Rattle.std.proofs.Common.{sym, refl, ap, ◌∙◌, arith}
 use Rattle.cows.proofs.Cut.{failing_here, passing_here, none_left}
 use Rattle.records.specs.Answers.{place_or}
 use Rattle.ranges.proofs.find_wrong.Goals as goal

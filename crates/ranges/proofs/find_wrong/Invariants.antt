@@ -1,8 +1,6 @@
-use Rattle.std.proofs.Common.{◌≡◌, ◌-◌, ◌/◌, length, drop, sym, refl, ap, ◌∙◌, arith}
+use Rattle.std.proofs.Common.{◌≡◌, ◌-◌, ◌/◌, length, drop}
 use Rattle.cows.specs.Format.{records}
 use Rattle.cows.specs.Tables.{first_wrong}
-use Rattle.cows.proofs.Cut.{failing_here, passing_here, none_left}
-use Rattle.records.specs.Answers.{place_or}
 use Rattle.ranges.proofs.find_wrong.Given as goal
 
 abbrev pub invariant-loop-i : goal.invariant-loop-i

@@ -1,5 +1,4 @@
-use Rattle.std.proofs.Common.{◌≡◌, ℕ, ◌-◌, ◌≤◌, length, get_or, refl, arith, length-set}
-use Rattle.ranges.specs.Ranges.{Gathers}
+use Rattle.std.proofs.Common.{refl, arith, length-set}
 use Rattle.ranges.proofs.Gathering.{gather_turn}
 use Rattle.ranges.proofs.gather.Goals as goal
 

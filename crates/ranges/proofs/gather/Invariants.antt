@@ -1,6 +1,5 @@
-use Rattle.std.proofs.Common.{◌≡◌, ℕ, ◌-◌, ◌≤◌, length, get_or, refl, arith, length-set}
+use Rattle.std.proofs.Common.{◌≡◌, ℕ, ◌-◌, ◌≤◌, length, get_or}
 use Rattle.ranges.specs.Ranges.{Gathers}
-use Rattle.ranges.proofs.Gathering.{gather_turn}
 use Rattle.ranges.proofs.gather.Given as goal
 
 abbrev pub invariant-loop-j : goal.invariant-loop-j

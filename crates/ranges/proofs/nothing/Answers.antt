@@ -1,4 +1,4 @@
-use Rattle.std.proofs.Common.{◌≡◌, ℕ, ◌-◌, ◌<◌, ◌≤◌, get_or, arith, below_more, eqb-true}
+use Rattle.std.proofs.Common.{arith, below_more, eqb-true}
 use Rattle.ranges.proofs.Gathering.{or_nothing}
 use Rattle.ranges.proofs.nothing.Goals as goal
 

@@ -1,5 +1,4 @@
-use Rattle.std.proofs.Common.{◌≡◌, ℕ, ◌-◌, ◌<◌, ◌≤◌, get_or, arith, below_more, eqb-true}
-use Rattle.ranges.proofs.Gathering.{or_nothing}
+use Rattle.std.proofs.Common.{◌≡◌, ℕ, ◌-◌, ◌<◌, ◌≤◌, get_or}
 use Rattle.ranges.proofs.nothing.Given as goal
 
 abbrev pub invariant-loop-j : goal.invariant-loop-j

@@ -1,4 +1,3 @@
-use borrow.Author.Rules.{rules}
 use Rattle.readers.proofs.Terms.{read_behind, read_fault}
 use Rattle.readers.proofs.term_at.Goals as goal
 

@@ -1,4 +1,3 @@
-use borrow.Author.Rules.{rules}
 use mathlib.Core.Path.{ap, ◌∙◌}
 use Rattle.records.specs.Atoms.{class_of}
 use Rattle.records.proofs.atom_at.Goals as goal

@@ -1,4 +1,3 @@
-use borrow.Author.Rules.{rules}
 use Rattle.records.proofs.Atoms.{variable_class}
 use Rattle.records.specs.Atoms.{closed_at}
 use Rattle.records.proofs.closed.Goals as goal

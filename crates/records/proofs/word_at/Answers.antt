@@ -1,4 +1,3 @@
-use borrow.Author.Rules.{rules}
 use native.Mathlib.Numerals.{add-one}
 use Rattle.cows.specs.Format.{word, byte}
 use Rattle.records.proofs.word_at.Goals as goal

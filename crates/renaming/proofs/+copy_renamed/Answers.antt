@@ -1,6 +1,4 @@
 -- Each call is by more names.
-use borrow.Author.Rules.{rules}
-use Prim.Native.Nat.{ℕ, ◌<◌, ◌-◌}
 use native.Mathlib.Omega.{arith}
 use Rattle.renaming.proofs.+copy_renamed.Goals as goal
 

@@ -1,6 +1,4 @@
-use borrow.Author.Rules.{rules}
-use Prim.Native.Nat.{ℕ, ◌<◌, ◌-◌}
-use native.Mathlib.Omega.{arith}
+use Prim.Native.Nat.{◌-◌}
 use Rattle.renaming.proofs.+copy_renamed.Given as goal
 
 abbrev pub decreases-copy_renamed : goal.decreases-copy_renamed

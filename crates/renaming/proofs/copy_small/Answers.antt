@@ -1,4 +1,3 @@
-use borrow.Author.Rules.{rules}
 use native.Mathlib.Omega.{arith}
 use Rattle.renaming.proofs.Copies.{blank_new}
 use Rattle.renaming.proofs.copy_small.Goals as goal

@@ -1,13 +1,10 @@
-use borrow.Author.Rules.{rules}
-use mathlib.Core.Path.{◌≡◌, refl, subst}
+use mathlib.Core.Path.{◌≡◌}
 use Prim.Native.Nat.{ℕ, ◌-◌, ◌≤◌, ◌<◌}
-use native.Mathlib.Omega.{arith}
 use lib.ListN.{length, get_or}
 use Rattle.cows.specs.Terms.{Term, size}
 use Rattle.ways.specs.Known.{Table}
-use Rattle.ways.proofs.KnownTables.{table_size}
 use Rattle.roles.specs.Roles.{unfit, Cast}
-use Rattle.rivals.proofs.Counted.{Counted, counted_start, counted_on, counted-end}
+use Rattle.rivals.proofs.Counted.{Counted}
 use Rattle.rivals.proofs.find_fewest.Given as goal
 
 abbrev pub invariant-loop-r : goal.invariant-loop-r

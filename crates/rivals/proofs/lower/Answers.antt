@@ -1,11 +1,7 @@
 -- The walk along the chain of the class: the invokes before the place reached are lowered (proofs/Lowering).
-use borrow.Author.Rules.{rules}
 use borrow.Author.Tests.{not-true, not-false}
 use mathlib.Core.Path.{◌≡◌, refl, sym, subst}
-use Prim.Native.Nat.{◌/◌, ◌≤◌}
 use native.Mathlib.Omega.{arith}
-use lib.ListN.{length}
-use Rattle.chains.proofs.Chaining.{steps_left}
 use Rattle.rivals.proofs.Lowering.{Lowering, lowered_none, lowering_start, lowering_most, lowering_less, lowering_end, lowering_past, lowering_put}
 use Rattle.rivals.proofs.lower.Goals as goal
 

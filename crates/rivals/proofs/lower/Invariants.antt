@@ -1,11 +1,8 @@
-use borrow.Author.Rules.{rules}
-use borrow.Author.Tests.{not-true, not-false}
-use mathlib.Core.Path.{◌≡◌, refl, sym, subst}
+use mathlib.Core.Path.{◌≡◌}
 use Prim.Native.Nat.{◌/◌, ◌≤◌}
-use native.Mathlib.Omega.{arith}
 use lib.ListN.{length}
 use Rattle.chains.proofs.Chaining.{steps_left}
-use Rattle.rivals.proofs.Lowering.{Lowering, lowered_none, lowering_start, lowering_most, lowering_less, lowering_end, lowering_past, lowering_put}
+use Rattle.rivals.proofs.Lowering.{Lowering}
 use Rattle.rivals.proofs.lower.Given as goal
 
 abbrev pub invariant-loop-e : goal.invariant-loop-e

@@ -1,4 +1,3 @@
-use borrow.Author.Rules.{rules}
 use Rattle.rows.specs.Rows.{quad}
 use Rattle.rows.proofs.quad_at.Goals as goal
 

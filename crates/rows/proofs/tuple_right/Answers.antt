@@ -1,4 +1,3 @@
-use borrow.Author.Rules.{rules}
 use Rattle.rows.proofs.Tested.{tuple_piece}
 use Rattle.rows.proofs.tuple_right.Goals as goal
 

@@ -1,12 +1,10 @@
-use borrow.Author.Rules.{rules}
 use mathlib.Core.Path.{◌≡◌, refl, ap, ◌∙◌}
-use Prim.Native.Nat.{◌/◌, ◌-◌, ◌≤◌, ◌<◌}
+use Prim.Native.Nat.{◌<◌}
 use native.Mathlib.Omega.{arith}
-use lib.ListN.{length, length-set}
-use Rattle.cows.specs.Terms.{Term, size}
+use lib.ListN.{length-set}
+use Rattle.cows.specs.Terms.{size}
 use Rattle.cows.proofs.Basics.{never}
-use Rattle.records.specs.Holds.{Holds}
-use Rattle.scopes.specs.Scopes.{Keeps, GrowingDirectory, entered_of}
+use Rattle.scopes.specs.Scopes.{entered_of}
 use Rattle.scopes.proofs.Directory.{keeps_as, growing_top, blank_growing, blank_keeps, store_growing}
 use Rattle.scopes.proofs.Marks.{entered-none, entered_all}
 use Rattle.records.proofs.StandsIn.{holds_size}

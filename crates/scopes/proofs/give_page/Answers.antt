@@ -1,4 +1,3 @@
-use borrow.Author.Rules.{rules}
 use native.Mathlib.Omega.{arith}
 use Rattle.scopes.proofs.Directory.{page_there, page_full, page_new}
 use Rattle.scopes.proofs.give_page.Goals as goal

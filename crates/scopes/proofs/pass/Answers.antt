@@ -1,11 +1,7 @@
-use mathlib.Core.Path.{◌≡◌, refl, sym, ◌∙◌}
-use Prim.Native.Nat.{◌/◌, ◌-◌, ◌≤◌}
+use mathlib.Core.Path.{refl, sym, ◌∙◌}
 use native.Mathlib.Omega.{arith}
-use lib.ListN.{length}
-use Rattle.cows.specs.Terms.{Term}
-use Rattle.scopes.specs.Scopes.{Paged, PassedTo}
 use Rattle.scopes.proofs.NextPlace.{pass_other}
-use Rattle.scopes.proofs.Passing.{first_most, Going, going_start, going_turn, going_open, going_clash, going_fine, level_two, found-delimitation, found_other}
+use Rattle.scopes.proofs.Passing.{first_most, going_start, going_turn, going_open, going_clash, going_fine, level_two, found-delimitation, found_other}
 use Rattle.scopes.proofs.pass.Goals as goal
 
 pub loop-j-init : goal.loop-j-init

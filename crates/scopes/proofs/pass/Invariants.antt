@@ -1,11 +1,9 @@
-use mathlib.Core.Path.{◌≡◌, refl, sym, ◌∙◌}
+use mathlib.Core.Path.{◌≡◌}
 use Prim.Native.Nat.{◌/◌, ◌-◌, ◌≤◌}
-use native.Mathlib.Omega.{arith}
 use lib.ListN.{length}
 use Rattle.cows.specs.Terms.{Term}
 use Rattle.scopes.specs.Scopes.{Paged, PassedTo}
-use Rattle.scopes.proofs.NextPlace.{pass_other}
-use Rattle.scopes.proofs.Passing.{first_most, Going, going_start, going_turn, going_open, going_clash, going_fine, level_two, found-delimitation, found_other}
+use Rattle.scopes.proofs.Passing.{Going}
 use Rattle.scopes.proofs.pass.Given as goal
 
 abbrev pub invariant-loop-j : goal.invariant-loop-j

@@ -1,8 +1,4 @@
-use borrow.Author.Rules.{rules}
-use mathlib.Core.Logic.{⊎_elim}
-use mathlib.Core.Path.{ap, ◌∙◌}
 use native.Mathlib.Omega.{arith}
-use lib.ListN.{length, length-set}
 use Rattle.scopes.proofs.Directory.{store_paged}
 use Rattle.scopes.proofs.NextPlace.{pass_again, pass_farther, pass_nearer}
 use Rattle.scopes.proofs.pass_delimitation.Goals as goal

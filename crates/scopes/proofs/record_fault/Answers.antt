@@ -1,5 +1,3 @@
-use borrow.Author.Rules.{rules}
-use native.Mathlib.Omega.{arith}
 use Rattle.scopes.proofs.Uses.{use-level, endpoint_level, kill-level, none-level}
 use Rattle.scopes.proofs.record_fault.Goals as goal
 

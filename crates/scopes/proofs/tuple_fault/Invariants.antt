@@ -1,16 +1,11 @@
-use borrow.Author.Rules.{rules}
 use mathlib.Core.Path.{◌≡◌}
 use mathlib.Core.Bool.{Bool, true}
 use mathlib.Core.List.{List}
 use Prim.Native.Nat.{ℕ, ◌-◌, ◌≤◌}
-use native.Mathlib.Omega.{arith}
 use lib.ListN.{take}
-use lib.Seq.{take_all}
 use Rattle.cows.specs.Basics.{any, every}
 use Rattle.cows.specs.Terms.{atom}
-use Rattle.cows.specs.Format.{byte}
 use Rattle.scopes.specs.Scopes.{level, Levels, TupleAt}
-use Rattle.scopes.proofs.Uses.{tuple-start, tuple-turn}
 use Rattle.scopes.proofs.tuple_fault.Given as goal
 
 abbrev pub invariant-loop-i : goal.invariant-loop-i

@@ -1,4 +1,3 @@
-use borrow.Author.Rules.{rules}
 use native.Mathlib.Omega.{arith}
 use Rattle.ways.proofs.KnownTables.{table_inside}
 use Rattle.scoping.proofs.Scoping.{every_in_scope, slots}

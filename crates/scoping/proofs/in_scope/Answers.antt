@@ -1,4 +1,3 @@
-use borrow.Author.Rules.{rules}
 use mathlib.Core.Path.{sym, ◌∙◌}
 use Rattle.records.proofs.Laws.{found_at, found_nothing}
 use Rattle.ways.proofs.KnownTables.{table_inside}

@@ -1,4 +1,3 @@
-use borrow.Author.Rules.{rules}
 use mathlib.Core.Path.{sym, ◌∙◌}
 use Rattle.matching.proofs.Slots.{takes-pair, takes-nothing}
 use Rattle.scoping.proofs.slot_in_scope.Goals as goal

@@ -1,12 +1,8 @@
 -- The records below i are right.
-use mathlib.Core.Path.{◌≡◌, refl, sym, ap, ◌∙◌}
-use Prim.Native.Nat.{◌-◌, ◌/◌}
+use mathlib.Core.Path.{refl, sym, ap, ◌∙◌}
 use native.Mathlib.Omega.{arith}
-use lib.ListN.{length, drop}
-use Rattle.cows.specs.Cut.{cut, first_failing}
 use Rattle.cows.proofs.Cut.{failing_here, passing_here, none_left}
 use Rattle.records.specs.Answers.{place_or}
-use Rattle.orc.specs.Scripts.{right_record8}
 use Rattle.scripts.proofs.first_malformed.Goals as goal
 
 pub loop-i-init : goal.loop-i-init

@@ -1,10 +1,7 @@
-use mathlib.Core.Path.{◌≡◌, refl, sym, ap, ◌∙◌}
+use mathlib.Core.Path.{◌≡◌}
 use Prim.Native.Nat.{◌-◌, ◌/◌}
-use native.Mathlib.Omega.{arith}
 use lib.ListN.{length, drop}
 use Rattle.cows.specs.Cut.{cut, first_failing}
-use Rattle.cows.proofs.Cut.{failing_here, passing_here, none_left}
-use Rattle.records.specs.Answers.{place_or}
 use Rattle.orc.specs.Scripts.{right_record8}
 use Rattle.scripts.proofs.first_malformed.Given as goal
 

@@ -1,4 +1,3 @@
-use borrow.Author.Rules.{rules}
 use Rattle.cows.specs.Terms.{datum}
 use Rattle.scripts.proofs.in_data.Goals as goal
 

@@ -1,4 +1,3 @@
-use borrow.Author.Rules.{rules}
 use Prim.Native.Nat.{◌*◌}
 use Rattle.scripts.proofs.Rows.{tested_record}
 use Rattle.scripts.proofs.record8_right.Goals as goal

@@ -1,9 +1,7 @@
 -- Each call has fewer bytes left; what each record asks and gives is in proofs/Steps.
-use Prim.Native.Nat.{ℕ, ◌<◌, ◌-◌}
 use native.Mathlib.Omega.{arith}
 use borrow.Author.Rules.{rules}
 use borrow.Author.Tests.{not-true, not-false}
-use lib.ListN.{length}
 use Rattle.rewriting.proofs.Asides.{aside_clauses}
 use Rattle.settling.proofs.Steps.{free_asks, free_gives, scope_asks, scope_gives, first_on, second_on, two_on, one_on}
 use Rattle.settling.proofs.+settle_at.Goals as goal

@@ -1,9 +1,5 @@
-use borrow.Author.Rules.{rules}
-use mathlib.Core.Path.{◌≡◌, refl, sym, ap, ◌∙◌}
-use Prim.Native.Nat.{◌-◌, ◌≤◌}
+use mathlib.Core.Path.{refl, sym, ap, ◌∙◌}
 use native.Mathlib.Omega.{arith}
-use lib.ListN.{length, drop}
-use Rattle.cows.specs.Basics.{any}
 use Rattle.settling.specs.Searching.{between}
 use Rattle.settling.proofs.Searching.{any-stop, any-turn, any-end}
 use Rattle.settling.proofs.any_between.Goals as goal

@@ -1,11 +1,8 @@
-use borrow.Author.Rules.{rules}
-use mathlib.Core.Path.{◌≡◌, refl, sym, ap, ◌∙◌}
+use mathlib.Core.Path.{◌≡◌}
 use Prim.Native.Nat.{◌-◌, ◌≤◌}
-use native.Mathlib.Omega.{arith}
 use lib.ListN.{length, drop}
 use Rattle.cows.specs.Basics.{any}
 use Rattle.settling.specs.Searching.{between}
-use Rattle.settling.proofs.Searching.{any-stop, any-turn, any-end}
 use Rattle.settling.proofs.any_between.Given as goal
 
 abbrev pub invariant-loop-i : goal.invariant-loop-i

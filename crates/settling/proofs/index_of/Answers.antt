@@ -1,9 +1,5 @@
-use borrow.Author.Rules.{rules}
-use mathlib.Core.Path.{◌≡◌, sym, ◌∙◌}
-use Prim.Native.Nat.{◌+◌, ◌-◌, ◌≤◌}
+use mathlib.Core.Path.{sym, ◌∙◌}
 use native.Mathlib.Omega.{arith}
-use lib.ListN.{length, drop}
-use Rattle.settling.specs.Searching.{index_of}
 use Rattle.settling.proofs.Searching.{index_stop, index_turn, index_end}
 use Rattle.settling.proofs.index_of.Goals as goal
 

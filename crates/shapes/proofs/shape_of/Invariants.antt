@@ -1,14 +1,7 @@
-use mathlib.Core.Path.{◌≡◌, refl, ap, ◌∙◌}
-use mathlib.Core.Bool.{◌&&◌}
-use Prim.Native.Nat.{ℕ, suc, ◌+◌, ◌*◌, ◌-◌, ◌/◌, ◌%◌, ◌≤◌, ◌<◌}
-use native.Mathlib.Omega.{arith}
-use lib.Bits.{bit_and}
-use lib.Dec.{leb, eqb}
-use lib.ListN.{length, get_or, set, length-set}
-use mir.Val.{bool_byte}
-use Rattle.cows.specs.Kinds.{children_of}
-use Rattle.shapes.proofs.Picking.{mores, seconds, Masked, masked, masked_small}
-use Rattle.shapes.proofs.Passing.{Passed, pass_start, second_small, pass_turn, pass_done, in_room, accepted}
+use mathlib.Core.Path.{◌≡◌}
+use Prim.Native.Nat.{◌/◌}
+use lib.ListN.{length}
+use Rattle.shapes.proofs.Passing.{Passed}
 use Rattle.shapes.proofs.shape_of.Given as goal
 
 abbrev pub invariant-loop-i : goal.invariant-loop-i

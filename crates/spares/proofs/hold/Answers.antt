@@ -1,6 +1,4 @@
-use borrow.Author.Rules.{rules}
 use native.Mathlib.Omega.{arith}
-use lib.ListN.{length-set}
 use Rattle.spares.proofs.Marks.{held_low, held_high}
 use Rattle.spares.proofs.hold.Goals as goal
 

@@ -1,12 +1,7 @@
-use mathlib.Core.Path.{◌≡◌, sym, ap, subst}
-use mathlib.Core.List.{[], ◌∷◌}
-use Prim.Native.Nat.{ℕ, ◌+◌, ◌-◌, ◌*◌, ◌/◌, ◌≤◌}
-use native.Mathlib.Omega.{arith}
-use lib.ListN.{length, length-replicate}
-use Rattle.scripts.proofs.Standing.{script-count}
+use mathlib.Core.List.{◌∷◌}
+use Prim.Native.Nat.{◌+◌, ◌-◌, ◌*◌, ◌≤◌}
 use Rattle.spares.specs.Spares.{total, Holding}
-use Rattle.spares.proofs.Marks.{total_zeros, none-held}
-use Rattle.spares.proofs.Gathered.{gathered-atoms, held_start, held-turn, held-taken}
+use Rattle.spares.proofs.Gathered.{gathered-atoms}
 use Rattle.spares.proofs.hold_all.Given as goal
 
 abbrev pub invariant-loop-i : goal.invariant-loop-i

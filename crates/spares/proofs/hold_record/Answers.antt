@@ -1,4 +1,3 @@
-use borrow.Author.Rules.{rules}
 use Rattle.spares.proofs.Gathered.{held-call, held_plain}
 use Rattle.spares.proofs.hold_record.Goals as goal
 

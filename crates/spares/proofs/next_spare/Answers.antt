@@ -1,12 +1,8 @@
 -- Every value from v to n has a mark, so n and the marks from n on come to no more than v and those from v on.
-use borrow.Author.Rules.{rules}
 use mathlib.Core.Path.{◌≡◌, ap}
-use mathlib.Core.Logic.{◌≢◌}
-use Prim.Native.Nat.{ℕ, ◌+◌, ◌-◌, ◌≤◌, ◌<◌}
 use native.Mathlib.Omega.{arith}
-use lib.ListN.{get_or, drop}
+use lib.ListN.{get_or}
 use Rattle.cows.proofs.Basics.{lt_case}
-use Rattle.spares.specs.Spares.{total}
 use Rattle.spares.proofs.Marks.{total_from}
 use Rattle.spares.proofs.next_spare.Goals as goal
 

@@ -1,12 +1,7 @@
-use borrow.Author.Rules.{rules}
-use mathlib.Core.Path.{◌≡◌, ap}
 use mathlib.Core.Logic.{◌≢◌}
 use Prim.Native.Nat.{ℕ, ◌+◌, ◌-◌, ◌≤◌, ◌<◌}
-use native.Mathlib.Omega.{arith}
 use lib.ListN.{get_or, drop}
-use Rattle.cows.proofs.Basics.{lt_case}
 use Rattle.spares.specs.Spares.{total}
-use Rattle.spares.proofs.Marks.{total_from}
 use Rattle.spares.proofs.next_spare.Given as goal
 
 abbrev pub invariant-loop-n : goal.invariant-loop-n

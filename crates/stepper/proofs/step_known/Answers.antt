@@ -1,4 +1,3 @@
-use borrow.Author.Rules.{rules}
 use Rattle.cows.specs.Step.{step_term}
 use Rattle.stepper.proofs.Moved.{moved_written, moved_refused, asks}
 use Rattle.stepper.proofs.step_known.Goals as goal

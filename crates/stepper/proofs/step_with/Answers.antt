@@ -1,4 +1,3 @@
-use borrow.Author.Rules.{rules}
 use native.Mathlib.Omega.{arith}
 use Rattle.tables.proofs.Judging.{slice_bytes}
 use Rattle.stepper.proofs.Stepping.{table_refused, table_read, read_known, read_stepped}

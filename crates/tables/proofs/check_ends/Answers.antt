@@ -1,4 +1,3 @@
-use borrow.Author.Rules.{rules}
 use Rattle.tables.proofs.check_ends.Goals as goal
 
 pub returns : goal.returns

@@ -1,4 +1,3 @@
-use borrow.Author.Rules.{rules}
 use native.Mathlib.Omega.{arith}
 use Rattle.readers.proofs.Terms.{read_tells}
 use Rattle.tables.proofs.Passing.{read_standing, found-deep, found-choice, found_rest}

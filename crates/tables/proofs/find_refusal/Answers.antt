@@ -1,4 +1,3 @@
-use borrow.Author.Rules.{rules}
 use native.Mathlib.Omega.{arith}
 use Rattle.ranges.proofs.Wrong.{wrong_tells}
 use Rattle.tables.proofs.Judging.{whole_length, judge_record, judge_all}

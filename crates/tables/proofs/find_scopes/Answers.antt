@@ -1,4 +1,3 @@
-use borrow.Author.Rules.{rules}
 use mathlib.Core.Path.{sym, ◌∙◌}
 use Rattle.records.proofs.StandsIn.{holds_size}
 use Rattle.tables.proofs.Judging.{judge-fine, judge_open_lem, judge-clash}

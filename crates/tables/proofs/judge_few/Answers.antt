@@ -1,4 +1,3 @@
-use borrow.Author.Rules.{rules}
 use Rattle.tables.proofs.Judging.{whole_length, judge_all}
 use Rattle.tables.specs.declared.Verdict.TheVariants.{Accepted}
 use Rattle.tables.proofs.judge_few.Goals as goal

@@ -1,4 +1,3 @@
-use borrow.Author.Rules.{rules}
 use native.Mathlib.Omega.{arith}
 use Rattle.cows.specs.Tables.{wrong_length}
 use Rattle.tables.proofs.Judging.{judge-length, whole_records}

@@ -1,4 +1,3 @@
-use borrow.Author.Rules.{rules}
 use mathlib.Core.Path.{refl}
 use Rattle.cows.specs.Run.{adds}
 use Rattle.tally.proofs.Counting.{counts_by, counts-none}

@@ -1,5 +1,4 @@
 use mathlib.Core.Path.{refl}
-use borrow.Author.Rules.{rules}
 use Rattle.tally.specs.Counted.{sum_of}
 use Rattle.tally.proofs.sum.Goals as goal
 

@@ -1,4 +1,3 @@
-use borrow.Author.Rules.{rules}
 use Rattle.cows.specs.Run.{no_tally}
 use Rattle.tally.proofs.zeros.Goals as goal
 

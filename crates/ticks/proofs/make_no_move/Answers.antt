@@ -1,5 +1,5 @@
 -- The table's refusals, the number's, 21, or the table copied.
-use Rattle.std.proofs.Common.{arith, rules}
+use Rattle.std.proofs.Common.{arith}
 use Rattle.tables.proofs.Judging.{slice_bytes}
 use Rattle.ticks.proofs.Unmoved.{table_unmoved, refused_unmoved, short_unmoved, handed_unmoved}
 use Rattle.ticks.proofs.make_no_move.Goals as goal

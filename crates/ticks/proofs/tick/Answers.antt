@@ -1,5 +1,5 @@
 -- By the step, or with no move: both promises hold of what is answered.
-use Rattle.std.proofs.Common.{sym, ◌∙◌, arith, rules}
+use Rattle.std.proofs.Common.{sym, ◌∙◌, arith}
 use Rattle.ticks.proofs.Unmoved.{time_fits, moved_promised, unmoved_promised}
 use Rattle.ticks.proofs.tick.Goals as goal
 

@@ -1,8 +1,6 @@
 -- Each call is at a later place of the script, or hands the record at hand on by its kind; what the pass asks and gives at each kind is in proofs/Asks and proofs/Gives.
-use Prim.Native.Nat.{ℕ, ◌<◌, ◌-◌, ◌+◌, ◌*◌}
 use borrow.Author.Rules.{rules}
 use native.Mathlib.Omega.{arith}
-use lib.ListN.{length}
 use Rattle.orc.proofs.Format.{records_pos}
 use Rattle.translating.proofs.Asks.{act-kind, asked-parallel, asked_sequence, asked_where, parallel-left, parallel_right}
 use Rattle.translating.proofs.Asks.{sequence_room, sequence_left, sequence_middle_lem, sequence_right, where_room, where_left, where_middle_lem, where_right, where_tail_lem}

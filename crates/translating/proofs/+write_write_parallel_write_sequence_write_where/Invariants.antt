@@ -1,11 +1,5 @@
-use Prim.Native.Nat.{ℕ, ◌<◌, ◌-◌, ◌+◌, ◌*◌}
-use borrow.Author.Rules.{rules}
-use native.Mathlib.Omega.{arith}
+use Prim.Native.Nat.{◌-◌, ◌+◌, ◌*◌}
 use lib.ListN.{length}
-use Rattle.orc.proofs.Format.{records_pos}
-use Rattle.translating.proofs.Asks.{act-kind, asked-parallel, asked_sequence, asked_where, parallel-left, parallel_right}
-use Rattle.translating.proofs.Asks.{sequence_room, sequence_left, sequence_middle_lem, sequence_right, where_room, where_left, where_middle_lem, where_right, where_tail_lem}
-use Rattle.translating.proofs.Gives.{act_gives, parallel_gives, sequence_gives, where_gives}
 use Rattle.translating.proofs.+write_write_parallel_write_sequence_write_where.Given as goal
 
 -- twice the bytes behind the place, and one more before the record is handed on

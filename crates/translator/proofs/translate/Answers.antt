@@ -1,5 +1,4 @@
 -- 30 first; the equations and the claims are of what the judgement answers.
-use borrow.Author.Rules.{rules}
 use mathlib.Core.Path.{◌≡◌}
 use mathlib.Core.Logic.{◌≢◌}
 use mathlib.Core.List.{List}

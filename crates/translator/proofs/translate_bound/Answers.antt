@@ -1,5 +1,4 @@
 -- 32, by the search for a variable at fault.
-use borrow.Author.Rules.{rules}
 use mathlib.Core.Path.{sym, ◌∙◌}
 use Rattle.records.proofs.Laws.{found_at, found_nothing}
 use Rattle.stepper.proofs.Stepping.{refused_answers, answers_as}

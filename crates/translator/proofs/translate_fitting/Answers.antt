@@ -1,5 +1,4 @@
 -- 20 and 21 by the extent; else the translation is written.
-use borrow.Author.Rules.{rules}
 use native.Mathlib.Omega.{arith}
 use Rattle.stepper.proofs.Stepping.{refused_answers}
 use Rattle.scripts.proofs.Standing.{whole_at}

@@ -1,5 +1,4 @@
 -- 31, by the search for a wrong shape or depth.
-use borrow.Author.Rules.{rules}
 use mathlib.Core.Path.{sym, ◌∙◌}
 use native.Mathlib.Omega.{arith}
 use Rattle.records.proofs.Laws.{found_at, found_nothing}

@@ -1,5 +1,4 @@
 -- Marks of the values in use, and one pass from the first record on.
-use borrow.Author.Rules.{rules}
 use mathlib.Core.Path.{refl}
 use Rattle.translator.proofs.Writing.{start_writable, whole_written, known_few}
 use Rattle.translator.proofs.write_translation.Goals as goal

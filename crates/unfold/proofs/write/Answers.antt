@@ -1,4 +1,3 @@
-use borrow.Author.Rules.{rules}
 use native.Mathlib.Omega.{arith}
 use Rattle.plans.proofs.Planning.{gives}
 use Rattle.unfold.proofs.Judged.{asks_listed, asks_opens, gives_unfold}

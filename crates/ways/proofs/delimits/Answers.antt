@@ -1,4 +1,3 @@
-use borrow.Author.Rules.{rules}
 use Rattle.records.proofs.Atoms.{number_class}
 use Rattle.ways.proofs.Frames.{delimits-bytes}
 use Rattle.ways.proofs.delimits.Goals as goal

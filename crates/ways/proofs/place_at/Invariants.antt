@@ -1,18 +1,12 @@
-use borrow.Author.Rules.{rules}
-use borrow.Author.Tests.{not-true, not-false}
-use mathlib.Core.Path.{◌≡◌, sym, ap, ◌∙◌}
+use mathlib.Core.Path.{◌≡◌}
 use mathlib.Core.Bool.{true}
-use Prim.Native.Nat.{◌+◌, ◌-◌}
-use native.Mathlib.Omega.{arith}
+use Prim.Native.Nat.{◌-◌}
 use lib.ListN.{length}
-use Rattle.cows.specs.Basics.{every}
 use Rattle.cows.specs.Terms.{Term}
 use Rattle.cows.specs.Places.{way_to}
 use Rattle.cows.specs.Active.{live}
 use Rattle.ways.specs.Known.{Table}
 use Rattle.ways.specs.Ways.{Over, start_of, parent_of}
-use Rattle.ways.proofs.KnownTables.{table_ended, table_inside, way_short, past_end, other_kind, not_live, live_there_lem, placed_nowhere}
-use Rattle.ways.proofs.Descending.{way_root, over_root, step_live, step_count, step_parent, same_start, new-start, stop-live, step_less, at_end}
 use Rattle.ways.proofs.place_at.Given as goal
 
 abbrev pub invariant-loop-p : goal.invariant-loop-p

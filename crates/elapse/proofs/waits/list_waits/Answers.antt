@@ -1,14 +1,11 @@
 -- What the walk does at each record is in proofs/Listing.
 use borrow.Author.Rules.{rules}
-use mathlib.Core.Path.{◌≡◌, refl, ◌∙◌}
-use Prim.Native.Nat.{◌*◌, ◌-◌, ◌≤◌, ◌<◌}
+use mathlib.Core.Path.{refl, ◌∙◌}
+use Prim.Native.Nat.{◌*◌}
 use native.Mathlib.Omega.{arith}
-use lib.ListN.{length, take}
 use lib.Seq.{length-take-le, get_or-take}
-use Rattle.cows.specs.Terms.{Term}
-use Rattle.ways.specs.Known.{Table}
 use Rattle.elapse.proofs.Walking.{ahead-next}
-use Rattle.elapse.proofs.Listing.{Listing, listing_start, listing-end, listing_still, listing-wait, listing_through}
+use Rattle.elapse.proofs.Listing.{listing_start, listing-end, listing_still, listing-wait, listing_through}
 use Rattle.elapse.proofs.waits.list_waits.Goals as goal
 
 pub loop-p-init : goal.loop-p-init

@@ -1,13 +1,9 @@
-use borrow.Author.Rules.{rules}
-use mathlib.Core.Path.{◌≡◌, refl, ◌∙◌}
+use mathlib.Core.Path.{◌≡◌}
 use Prim.Native.Nat.{◌*◌, ◌-◌, ◌≤◌, ◌<◌}
-use native.Mathlib.Omega.{arith}
 use lib.ListN.{length, take}
-use lib.Seq.{length-take-le, get_or-take}
 use Rattle.cows.specs.Terms.{Term}
 use Rattle.ways.specs.Known.{Table}
-use Rattle.elapse.proofs.Walking.{ahead-next}
-use Rattle.elapse.proofs.Listing.{Listing, listing_start, listing-end, listing_still, listing-wait, listing_through}
+use Rattle.elapse.proofs.Listing.{Listing}
 use Rattle.elapse.proofs.waits.list_waits.Given as goal
 
 abbrev pub invariant-loop-p : goal.invariant-loop-p

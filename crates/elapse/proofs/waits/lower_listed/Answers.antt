@@ -1,15 +1,9 @@
 -- What lowering at each place does is in proofs/Listing.
 use borrow.Author.Rules.{rules}
-use mathlib.Core.Path.{◌≡◌, refl, ap, ◌∙◌}
-use mathlib.Core.List.{List, ◌++◌}
-use Prim.Native.Nat.{ℕ, ◌+◌, ◌*◌, ◌-◌, ◌≤◌}
+use mathlib.Core.Path.{refl, ap, ◌∙◌}
+use Prim.Native.Nat.{◌+◌, ◌*◌}
 use native.Mathlib.Omega.{arith}
-use lib.ListN.{length, drop}
-use Rattle.cows.specs.Terms.{Term}
-use Rattle.cows.specs.Format.{encode}
-use Rattle.cows.specs.Moves.{elapse}
-use Rattle.elapse.specs.Waits.{wait_places, Lists}
-use Rattle.elapse.proofs.Listing.{lowered, lists_room, lowering_start, lowering_next, lowering_end, listed-inside}
+use Rattle.elapse.proofs.Listing.{lists_room, lowering_start, lowering_next, lowering_end, listed-inside}
 use Rattle.elapse.proofs.waits.lower_listed.Goals as goal
 
 pub loop-i-init : goal.loop-i-init

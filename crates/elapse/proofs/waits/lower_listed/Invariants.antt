@@ -1,14 +1,12 @@
-use borrow.Author.Rules.{rules}
-use mathlib.Core.Path.{◌≡◌, refl, ap, ◌∙◌}
+use mathlib.Core.Path.{◌≡◌}
 use mathlib.Core.List.{List, ◌++◌}
-use Prim.Native.Nat.{ℕ, ◌+◌, ◌*◌, ◌-◌, ◌≤◌}
-use native.Mathlib.Omega.{arith}
+use Prim.Native.Nat.{ℕ, ◌*◌, ◌-◌, ◌≤◌}
 use lib.ListN.{length, drop}
 use Rattle.cows.specs.Terms.{Term}
 use Rattle.cows.specs.Format.{encode}
 use Rattle.cows.specs.Moves.{elapse}
 use Rattle.elapse.specs.Waits.{wait_places, Lists}
-use Rattle.elapse.proofs.Listing.{lowered, lists_room, lowering_start, lowering_next, lowering_end, listed-inside}
+use Rattle.elapse.proofs.Listing.{lowered}
 use Rattle.elapse.proofs.waits.lower_listed.Given as goal
 
 abbrev pub invariant-loop-i : goal.invariant-loop-i

@@ -1,10 +1,7 @@
-use borrow.Author.Rules.{rules}
 use mathlib.Core.Path.{◌≡◌}
 use mathlib.Core.Bool.{false}
 use Prim.Native.Nat.{ℕ, ◌-◌, ◌≤◌, ◌<◌}
-use native.Mathlib.Omega.{arith}
 use Rattle.holding.specs.Holding.{rival_at}
-use Rattle.holding.proofs.Conflicting.{rival_turn}
 use Rattle.holding.proofs.conflicts.any_rival.Given as goal
 
 abbrev pub invariant-loop-i : goal.invariant-loop-i

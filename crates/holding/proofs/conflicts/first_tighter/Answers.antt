@@ -1,19 +1,12 @@
-use borrow.Author.Rules.{rules}
-use mathlib.Core.Path.{◌≡◌, sym, ap}
-use mathlib.Core.Bool.{true}
-use Prim.Native.Nat.{◌-◌, ◌≤◌}
+use mathlib.Core.Path.{sym, ap}
 use native.Mathlib.Omega.{arith}
-use Rattle.cows.specs.Terms.{Term, Action}
 use Rattle.cows.specs.Kinds.{ready_kind}
 use Rattle.cows.specs.Active.{ready}
-use Rattle.cows.specs.Moves.{closed_action, tighter}
+use Rattle.cows.specs.Moves.{tighter}
 use Rattle.records.specs.Answers.{found_of}
-use Rattle.ways.specs.Known.{Table}
-use Rattle.matching.specs.Matching.{ActionAt}
 use Rattle.ways.proofs.KnownTables.{table_size}
-use Rattle.ways.proofs.Seeking.{Seeking, seeking_start, seeking_end, table_next, table_found, table_through, table_over}
+use Rattle.ways.proofs.Seeking.{seeking_start, seeking_end, table_next, table_found, table_through, table_over}
 use Rattle.holding.proofs.Marking.{}
-use Rattle.holding.proofs.Conflicting.{tightening}
 use Rattle.holding.proofs.conflicts.first_tighter.Goals as goal
 
 pub loop-i-init : goal.loop-i-init

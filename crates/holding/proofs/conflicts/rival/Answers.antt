@@ -1,4 +1,3 @@
-use borrow.Author.Rules.{rules}
 use Rattle.holding.specs.Holding.{rival_at}
 use Rattle.holding.proofs.conflicts.rival.Goals as goal
 

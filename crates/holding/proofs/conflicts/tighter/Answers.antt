@@ -1,4 +1,3 @@
-use borrow.Author.Rules.{rules}
 use mathlib.Core.Path.{sym, ◌∙◌}
 use Rattle.holding.proofs.Conflicting.{no-receive, receive_tests}
 use Rattle.holding.proofs.conflicts.tighter.Goals as goal

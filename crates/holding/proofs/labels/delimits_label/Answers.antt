@@ -1,4 +1,3 @@
-use borrow.Author.Rules.{rules}
 use mathlib.Core.Path.{sym}
 use Rattle.cows.proofs.Basics.{never}
 use Rattle.records.proofs.Atoms.{no_label}

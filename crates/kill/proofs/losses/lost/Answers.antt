@@ -1,13 +1,7 @@
 -- Each turn of the loop goes on to a later place; what it does to the count is in proofs/Losing.
-use borrow.Author.Rules.{rules}
 use mathlib.Core.Path.{refl}
-use Prim.Native.Nat.{◌+◌, ◌-◌, ◌/◌, ◌≤◌}
 use native.Mathlib.Omega.{arith}
-use lib.ListN.{length}
-use Rattle.cows.specs.Terms.{Term}
-use Rattle.cows.specs.Places.{sub}
-use Rattle.ways.specs.Known.{Table}
-use Rattle.kill.proofs.Losing.{Losing, end_fits, losing_start, losing_end, losing_on, losing_gone, losing_kept, losing_alone}
+use Rattle.kill.proofs.Losing.{end_fits, losing_start, losing_end, losing_on, losing_gone, losing_kept, losing_alone}
 use Rattle.kill.proofs.losses.lost.Goals as goal
 use Rattle.kill.proofs.losses.lost.Goals.{then-kind-eq-PROTECTION+else-a-i, else-kind-eq-PROTECTION}
 

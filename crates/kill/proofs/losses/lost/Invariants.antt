@@ -1,13 +1,9 @@
-use borrow.Author.Rules.{rules}
-use mathlib.Core.Path.{refl}
-use mathlib.Core.Logic.{⊎_elim}
 use Prim.Native.Nat.{◌+◌, ◌-◌, ◌/◌, ◌≤◌}
-use native.Mathlib.Omega.{arith}
 use lib.ListN.{length}
 use Rattle.cows.specs.Terms.{Term}
 use Rattle.cows.specs.Places.{sub}
 use Rattle.ways.specs.Known.{Table}
-use Rattle.kill.proofs.Losing.{Losing, end_fits, losing_start, losing_end, losing_on, losing_gone, losing_kept, losing_alone}
+use Rattle.kill.proofs.Losing.{Losing}
 use Rattle.kill.proofs.losses.lost.Given as goal
 
 abbrev pub invariant-loop-i : goal.invariant-loop-i

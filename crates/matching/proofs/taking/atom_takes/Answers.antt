@@ -1,4 +1,3 @@
-use borrow.Author.Rules.{rules}
 use Rattle.matching.proofs.taking.atom_takes.Goals as goal
 
 pub returns-in-Variable : goal.returns-in-Variable

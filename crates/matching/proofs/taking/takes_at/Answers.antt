@@ -1,4 +1,3 @@
-use borrow.Author.Rules.{rules}
 use mathlib.Core.Path.{ap₂, ◌∙◌}
 use Rattle.matching.specs.Taking.{takes, takes_of}
 use Rattle.matching.proofs.taking.takes_at.Goals as goal

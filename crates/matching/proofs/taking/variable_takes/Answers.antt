@@ -1,4 +1,3 @@
-use borrow.Author.Rules.{rules}
 use Rattle.matching.proofs.taking.variable_takes.Goals as goal
 
 pub returns-in-Value : goal.returns-in-Value

@@ -1,4 +1,3 @@
-use borrow.Author.Rules.{rules}
 use Rattle.plans.proofs.cutting.left.Goals as goal
 
 pub returns : goal.returns

@@ -1,4 +1,3 @@
-use borrow.Author.Rules.{rules}
 use mathlib.Core.Bool.{true, false}
 use Rattle.player.proofs.Writing.{zeros_put, last_put}
 use Rattle.player.proofs.buffers.put_last.Goals as goal

@@ -1,4 +1,3 @@
-use borrow.Author.Rules.{rules}
 use Rattle.player.proofs.Writing.{reply_put}
 use Rattle.player.proofs.buffers.put_reply.Goals as goal
 

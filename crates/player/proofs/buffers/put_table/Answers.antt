@@ -1,4 +1,3 @@
-use borrow.Author.Rules.{rules}
 use native.Mathlib.Omega.{arith}
 use Rattle.player.proofs.Writing.{table_put}
 use Rattle.player.proofs.buffers.put_table.Goals as goal

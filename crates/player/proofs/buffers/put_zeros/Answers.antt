@@ -1,7 +1,7 @@
-use mathlib.Core.Path.{◌≡◌, refl, ap, ◌∙◌}
-use Prim.Native.Nat.{ℕ, ◌≤◌, ◌-◌}
+use mathlib.Core.Path.{refl, ap, ◌∙◌}
+use Prim.Native.Nat.{ℕ}
 use native.Mathlib.Omega.{arith}
-use lib.ListN.{length, take, replicate, length-replicate, length-set}
+use lib.ListN.{replicate, length-replicate, length-set}
 use lib.Seq.{take_all}
 use Rattle.records.specs.Rewrites.{put}
 use Rattle.player.proofs.Writing.{zeros_more}

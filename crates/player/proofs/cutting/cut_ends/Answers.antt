@@ -1,4 +1,3 @@
-use borrow.Author.Rules.{rules}
 use native.Mathlib.Omega.{arith}
 use Rattle.player.proofs.Lowering.{cut_around, cut_fits, cut-within, cut-behind, cut_done}
 use Rattle.player.proofs.cutting.cut_ends.Goals as goal

@@ -1,9 +1,6 @@
 use borrow.Author.Rules.{rules}
-use mathlib.Core.Path.{◌≡◌, refl}
-use Prim.Native.Nat.{◌-◌, ◌≤◌}
+use mathlib.Core.Path.{refl}
 use native.Mathlib.Omega.{arith}
-use lib.ListN.{length}
-use Rattle.player.specs.Cutting.{LoweredAround}
 use Rattle.player.proofs.Lowering.{around_start, around_step, around_end}
 use Rattle.player.proofs.cutting.lower_around.Goals as goal
 

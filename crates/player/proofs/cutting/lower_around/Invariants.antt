@@ -1,10 +1,7 @@
-use borrow.Author.Rules.{rules}
-use mathlib.Core.Path.{◌≡◌, refl}
+use mathlib.Core.Path.{◌≡◌}
 use Prim.Native.Nat.{◌-◌, ◌≤◌}
-use native.Mathlib.Omega.{arith}
 use lib.ListN.{length}
 use Rattle.player.specs.Cutting.{LoweredAround}
-use Rattle.player.proofs.Lowering.{around_start, around_step, around_end}
 use Rattle.player.proofs.cutting.lower_around.Given as goal
 
 abbrev pub invariant-loop-i : goal.invariant-loop-i

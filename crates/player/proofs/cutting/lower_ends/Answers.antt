@@ -1,9 +1,7 @@
 use borrow.Author.Rules.{rules}
-use mathlib.Core.Path.{◌≡◌, refl}
-use Prim.Native.Nat.{◌+◌, ◌-◌, ◌≤◌}
+use mathlib.Core.Path.{refl}
+use Prim.Native.Nat.{◌+◌}
 use native.Mathlib.Omega.{arith}
-use lib.ListN.{length}
-use Rattle.player.specs.Cutting.{Lowered}
 use Rattle.player.proofs.Lowering.{lowered_start, lowered_step, lowered_end}
 use Rattle.player.proofs.cutting.lower_ends.Goals as goal
 

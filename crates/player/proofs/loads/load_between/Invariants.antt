@@ -1,9 +1,6 @@
-use borrow.Author.Rules.{rules}
 use mathlib.Core.Path.{◌≡◌}
 use Prim.Native.Nat.{◌+◌, ◌-◌, ◌≤◌}
-use native.Mathlib.Omega.{arith}
 use Rattle.player.specs.Loads.{load_between}
-use Rattle.player.proofs.Loading.{load_few, load-next, load-none}
 use Rattle.player.proofs.loads.load_between.Given as goal
 
 abbrev pub invariant-loop-p : goal.invariant-loop-p

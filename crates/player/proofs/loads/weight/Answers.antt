@@ -1,4 +1,3 @@
-use borrow.Author.Rules.{rules}
 use native.Mathlib.Omega.{arith}
 use Rattle.player.proofs.Loading.{weight_counted}
 use Rattle.player.proofs.loads.weight.Goals as goal

@@ -1,4 +1,3 @@
-use borrow.Author.Rules.{rules}
 use Rattle.player.proofs.Successors.{list_room, listed_before}
 use Rattle.player.proofs.making.count_waits.Goals as goal
 

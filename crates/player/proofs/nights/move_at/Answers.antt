@@ -1,4 +1,3 @@
-use borrow.Author.Rules.{rules}
 use native.Mathlib.Omega.{arith}
 use Rattle.player.proofs.Playing.{part_move, moved, reply_fits, made}
 use Rattle.player.proofs.nights.move_at.Goals as goal

@@ -1,4 +1,3 @@
-use borrow.Author.Rules.{rules}
 use Rattle.player.proofs.Turning.{plan_replies, plan_asks, plan_accepts, judged_refused, judged_accepted}
 use Rattle.player.proofs.turns.judged.Goals as goal
 

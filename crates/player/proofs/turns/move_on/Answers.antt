@@ -1,4 +1,3 @@
-use borrow.Author.Rules.{rules}
 use mathlib.Core.Bool.{true, false}
 use Rattle.player.proofs.Turning.{going_in, goes_on_in}
 use Rattle.player.proofs.turns.move_on.Goals as goal

@@ -1,12 +1,9 @@
 -- The readers call each other with fewer records left; each branch is a law of proofs/Reading. The service reader's loop keeps what it has passed, the guard reader's
 -- what the guard that it stands at says of the first.
-use mathlib.Core.Path.{◌≡◌, refl, sym, ◌∙◌}
-use Prim.Native.Nat.{ℕ, ◌+◌, ◌*◌, ◌-◌, ◌/◌, ◌≤◌, ◌<◌}
+use mathlib.Core.Path.{refl, sym, ◌∙◌}
 use native.Mathlib.Omega.{arith}
-use lib.ListN.{length, get_or}
-use Rattle.readers.specs.Reads.{Readable, ReadGuard}
 use Rattle.readers.proofs.Reading.{choice_in, reads_left, reads_right, reads_below, guard-first, guard_second, guard-nil, guard-prefix, guard_fault}
-use Rattle.readers.proofs.Reading.{Going, going_first, going_all, inside_in, reads_choice, going_next, going_found, going_over}
+use Rattle.readers.proofs.Reading.{going_first, going_all, inside_in, reads_choice, going_next, going_found, going_over}
 use Rattle.readers.proofs.services.+guard_read_guard_service.Goals as goal
 
 pub guard-overflow_mul-k : goal.guard-overflow_mul-k

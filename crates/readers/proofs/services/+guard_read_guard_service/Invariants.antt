@@ -1,10 +1,8 @@
-use mathlib.Core.Path.{◌≡◌, refl, sym, ◌∙◌}
-use Prim.Native.Nat.{ℕ, ◌+◌, ◌*◌, ◌-◌, ◌/◌, ◌≤◌, ◌<◌}
-use native.Mathlib.Omega.{arith}
+use mathlib.Core.Path.{◌≡◌}
+use Prim.Native.Nat.{ℕ, ◌+◌, ◌*◌, ◌-◌, ◌/◌, ◌≤◌}
 use lib.ListN.{length, get_or}
 use Rattle.readers.specs.Reads.{Readable, ReadGuard}
-use Rattle.readers.proofs.Reading.{choice_in, reads_left, reads_right, reads_below, guard-first, guard_second, guard-nil, guard-prefix, guard_fault}
-use Rattle.readers.proofs.Reading.{Going, going_first, going_all, inside_in, reads_choice, going_next, going_found, going_over}
+use Rattle.readers.proofs.Reading.{Going}
 use Rattle.readers.proofs.services.+guard_read_guard_service.Given as goal
 
 -- three times the records left, and one or two more where a reader hands on from the same place

@@ -1,7 +1,6 @@
 use mathlib.Core.Path.{◌≡◌, refl, ◌∙◌}
-use Prim.Native.Nat.{◌≤◌, ◌-◌}
 use native.Mathlib.Omega.{arith}
-use lib.ListN.{length, take, drop, length-drop, length-set}
+use lib.ListN.{drop, length-drop, length-set}
 use lib.Seq.{get_or-drop}
 use Rattle.records.specs.Rewrites.{put}
 use Rattle.records.proofs.Put.{put_more}

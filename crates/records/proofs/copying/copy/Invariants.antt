@@ -1,10 +1,7 @@
-use mathlib.Core.Path.{◌≡◌, refl, ◌∙◌}
+use mathlib.Core.Path.{◌≡◌}
 use Prim.Native.Nat.{◌≤◌, ◌-◌}
-use native.Mathlib.Omega.{arith}
-use lib.ListN.{length, take, drop, length-drop, length-set}
-use lib.Seq.{get_or-drop}
+use lib.ListN.{length, take, drop}
 use Rattle.records.specs.Rewrites.{put}
-use Rattle.records.proofs.Put.{put_more}
 use Rattle.records.proofs.copying.copy.Given as goal
 
 -- the first i bytes are written

@@ -1,5 +1,4 @@
 -- The two bytes, one after the other.
-use borrow.Author.Rules.{rules}
 use native.Mathlib.Numerals.{add-one}
 use Rattle.cows.specs.Format.{bytes2}
 use Rattle.records.specs.Rewrites.{put}

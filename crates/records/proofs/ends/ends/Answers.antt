@@ -1,9 +1,8 @@
 use mathlib.Core.Path.{◌≡◌, refl, sym, ap, ◌∙◌}
-use Prim.Native.Nat.{◌≤◌, ◌/◌, ◌+◌}
+use Prim.Native.Nat.{◌/◌, ◌+◌}
 use native.Mathlib.Omega.{arith}
 use lib.ListN.{length, get_or, set, length-set}
 use lib.Seq.{get_or-set_same}
-use Rattle.records.specs.Ends.{EndsFrom}
 use Rattle.records.proofs.Shapes.{ends_start, ends_more, end-bound}
 use Rattle.records.proofs.ends.ends.Goals as goal
 

@@ -1,10 +1,7 @@
-use mathlib.Core.Path.{◌≡◌, refl, sym, ap, ◌∙◌}
-use Prim.Native.Nat.{◌≤◌, ◌/◌, ◌+◌}
-use native.Mathlib.Omega.{arith}
-use lib.ListN.{length, get_or, set, length-set}
-use lib.Seq.{get_or-set_same}
+use mathlib.Core.Path.{◌≡◌}
+use Prim.Native.Nat.{◌≤◌, ◌/◌}
+use lib.ListN.{length, get_or}
 use Rattle.records.specs.Ends.{EndsFrom}
-use Rattle.records.proofs.Shapes.{ends_start, ends_more, end-bound}
 use Rattle.records.proofs.ends.ends.Given as goal
 
 abbrev pub invariant-loop-i : goal.invariant-loop-i

@@ -1,7 +1,4 @@
-use mathlib.Core.Path.{◌≡◌}
-use Prim.Native.Nat.{◌+◌, ◌*◌, ◌≤◌}
 use native.Mathlib.Omega.{arith}
-use Rattle.records.specs.Ends.{pick_end}
 use Rattle.records.proofs.Picking.{end_picked}
 use Rattle.records.proofs.ends.pick_end.Goals as goal
 

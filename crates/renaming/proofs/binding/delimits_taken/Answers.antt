@@ -1,4 +1,3 @@
-use borrow.Author.Rules.{rules}
 use Rattle.renaming.proofs.Bound.{goes_read}
 use Rattle.renaming.proofs.binding.delimits_taken.Goals as goal
 

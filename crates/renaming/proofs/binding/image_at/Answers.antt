@@ -1,4 +1,3 @@
-use borrow.Author.Rules.{rules}
 use Rattle.renaming.proofs.binding.image_at.Goals as goal
 
 pub returns : goal.returns

@@ -1,4 +1,3 @@
-use borrow.Author.Rules.{rules}
 use Rattle.renaming.proofs.binding.image_by.Goals as goal
 
 pub returns-in-Value : goal.returns-in-Value

@@ -1,4 +1,3 @@
-use borrow.Author.Rules.{rules}
 use mathlib.Core.Path.{ap}
 use Rattle.records.specs.Atoms.{number_of}
 use Rattle.renaming.proofs.Mapped.{record_read}

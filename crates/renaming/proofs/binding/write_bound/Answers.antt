@@ -1,9 +1,6 @@
-use borrow.Author.Rules.{rules}
 use mathlib.Core.Path.{refl}
-use Prim.Native.Nat.{◌-◌}
 use native.Mathlib.Omega.{arith}
-use Rattle.renaming.specs.Bound.{record_bound}
-use Rattle.renaming.proofs.Across.{Writing, writing_start, writing_room, writing_turn, writing_end}
+use Rattle.renaming.proofs.Across.{writing_start, writing_room, writing_turn, writing_end}
 use Rattle.renaming.proofs.binding.write_bound.Goals as goal
 
 pub loop-i-init : goal.loop-i-init

@@ -1,4 +1,3 @@
-use borrow.Author.Rules.{rules}
 use native.Mathlib.Omega.{arith}
 use Rattle.records.proofs.Put.{and_then}
 use Rattle.renaming.proofs.Bound.{bound-between, bound_lengths}

@@ -1,8 +1,7 @@
-use borrow.Author.Rules.{rules}
-use Prim.Native.Nat.{◌+◌, ◌-◌, ◌*◌, ◌≤◌}
+use Prim.Native.Nat.{◌*◌}
 use native.Mathlib.Omega.{arith}
-use Rattle.renaming.specs.Mapped.{map_record, named}
-use Rattle.renaming.proofs.Across.{Writing, writing_start, writing_turn, writing_end}
+use Rattle.renaming.specs.Mapped.{named}
+use Rattle.renaming.proofs.Across.{writing_start, writing_turn, writing_end}
 use Rattle.renaming.proofs.Mapped.{length-map_record}
 use Rattle.renaming.proofs.fields.copy_named.Goals as goal
 

@@ -1,9 +1,6 @@
-use borrow.Author.Rules.{rules}
 use Prim.Native.Nat.{◌+◌, ◌-◌, ◌*◌, ◌≤◌}
-use native.Mathlib.Omega.{arith}
 use Rattle.renaming.specs.Mapped.{map_record, named}
-use Rattle.renaming.proofs.Across.{Writing, writing_start, writing_turn, writing_end}
-use Rattle.renaming.proofs.Mapped.{length-map_record}
+use Rattle.renaming.proofs.Across.{Writing}
 use Rattle.renaming.proofs.fields.copy_named.Given as goal
 
 abbrev pub invariant-loop-i : goal.invariant-loop-i

@@ -1,4 +1,3 @@
-use borrow.Author.Rules.{rules}
 use Rattle.renaming.proofs.fields.put_atom.Goals as goal
 
 pub returns : goal.returns

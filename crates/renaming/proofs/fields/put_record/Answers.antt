@@ -1,4 +1,3 @@
-use borrow.Author.Rules.{rules}
 use Rattle.renaming.proofs.Mapped.{record_written}
 use Rattle.renaming.proofs.fields.put_record.Goals as goal
 

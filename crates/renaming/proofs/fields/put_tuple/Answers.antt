@@ -1,4 +1,3 @@
-use borrow.Author.Rules.{rules}
 use Rattle.renaming.proofs.Mapped.{tuple-written}
 use Rattle.renaming.proofs.fields.put_tuple.Goals as goal
 

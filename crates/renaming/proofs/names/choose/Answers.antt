@@ -1,9 +1,6 @@
-use borrow.Author.Rules.{rules}
-use mathlib.Core.Path.{◌≡◌, refl, ◌∙◌}
-use Prim.Native.Nat.{◌-◌, ◌≤◌}
+use mathlib.Core.Path.{refl, ◌∙◌}
 use native.Mathlib.Omega.{arith}
-use lib.ListN.{length}
-use Rattle.renaming.proofs.Choosing.{Going, going_start, going_other, going_wants, going_fits, going_turn, going_end}
+use Rattle.renaming.proofs.Choosing.{going_start, going_other, going_wants, going_fits, going_turn, going_end}
 use Rattle.renaming.proofs.names.choose.Goals as goal
 
 pub loop-i-init : goal.loop-i-init

@@ -1,9 +1,7 @@
-use borrow.Author.Rules.{rules}
-use mathlib.Core.Path.{◌≡◌, refl, ◌∙◌}
+use mathlib.Core.Path.{◌≡◌}
 use Prim.Native.Nat.{◌-◌, ◌≤◌}
-use native.Mathlib.Omega.{arith}
 use lib.ListN.{length}
-use Rattle.renaming.proofs.Choosing.{Going, going_start, going_other, going_wants, going_fits, going_turn, going_end}
+use Rattle.renaming.proofs.Choosing.{Going}
 use Rattle.renaming.proofs.names.choose.Given as goal
 
 -- the names so far, and the renaming of those that are left

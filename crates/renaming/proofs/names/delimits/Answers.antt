@@ -1,9 +1,5 @@
-use mathlib.Core.Path.{◌≡◌, refl, sym, ◌∙◌}
-use mathlib.Core.List.{[]}
-use Prim.Native.Nat.{◌-◌}
-use native.Mathlib.Omega.{arith}
+use mathlib.Core.Path.{sym, ◌∙◌}
 use Rattle.cows.proofs.Basics.{never}
-use Rattle.renaming.specs.Mapped.{across}
 use Rattle.renaming.specs.Names.{delimited}
 use Rattle.renaming.proofs.Across.{across-end}
 use Rattle.renaming.proofs.Choosing.{next_other}

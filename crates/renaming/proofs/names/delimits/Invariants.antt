@@ -1,12 +1,7 @@
-use mathlib.Core.Path.{◌≡◌, refl, sym, ◌∙◌}
-use mathlib.Core.List.{[]}
+use mathlib.Core.Path.{◌≡◌}
 use Prim.Native.Nat.{◌-◌}
-use native.Mathlib.Omega.{arith}
-use Rattle.cows.proofs.Basics.{never}
 use Rattle.renaming.specs.Mapped.{across}
 use Rattle.renaming.specs.Names.{delimited}
-use Rattle.renaming.proofs.Across.{across-end}
-use Rattle.renaming.proofs.Choosing.{next_other}
 use Rattle.renaming.proofs.names.delimits.Given as goal
 
 -- what is delimited from place i on is all

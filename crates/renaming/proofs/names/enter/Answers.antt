@@ -1,5 +1,4 @@
 use native.Mathlib.Omega.{arith}
-use lib.ListN.{length-set}
 use Rattle.renaming.proofs.names.enter.Goals as goal
 
 pub offset_bounds-names-slot : goal.offset_bounds-names-slot

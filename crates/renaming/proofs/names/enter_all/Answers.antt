@@ -1,4 +1,3 @@
-use borrow.Author.Rules.{rules}
 use native.Mathlib.Omega.{arith}
 use Rattle.renaming.proofs.Occurring.{five_fit, five_entered}
 use Rattle.renaming.proofs.names.enter_all.Goals as goal

@@ -1,10 +1,8 @@
-use mathlib.Core.Path.{◌≡◌, refl, sym, ◌∙◌}
-use Prim.Native.Nat.{◌-◌, ◌/◌, ◌≤◌}
+use mathlib.Core.Path.{refl, sym}
 use native.Mathlib.Omega.{arith}
-use lib.ListN.{length}
 use borrow.Author.Tests.{not-true, not-false}
 use Rattle.cows.proofs.Basics.{never}
-use Rattle.renaming.proofs.Occurring.{Marking-on, marking_start, marking_turn, marking_stop, marking_end, marked_term}
+use Rattle.renaming.proofs.Occurring.{marking_start, marking_turn, marking_stop, marking_end, marked_term}
 use Rattle.renaming.proofs.names.mark.Goals as goal
 
 pub loop-i-init : goal.loop-i-init

@@ -1,10 +1,7 @@
-use mathlib.Core.Path.{◌≡◌, refl, sym, ◌∙◌}
+use mathlib.Core.Path.{◌≡◌}
 use Prim.Native.Nat.{◌-◌, ◌/◌, ◌≤◌}
-use native.Mathlib.Omega.{arith}
 use lib.ListN.{length}
-use borrow.Author.Tests.{not-true, not-false}
-use Rattle.cows.proofs.Basics.{never}
-use Rattle.renaming.proofs.Occurring.{Marking-on, marking_start, marking_turn, marking_stop, marking_end, marked_term}
+use Rattle.renaming.proofs.Occurring.{Marking-on}
 use Rattle.renaming.proofs.names.mark.Given as goal
 
 -- what is entered from place i on is all that is left to enter

@@ -1,4 +1,3 @@
-use borrow.Author.Rules.{rules}
 use mathlib.Core.Path.{sym, ◌∙◌}
 use borrow.Author.Tests.{not-true, not-false, ltb-true}
 use Rattle.renaming.proofs.Occurring.{entering_none, entering_stop, entering_one, entering_all}

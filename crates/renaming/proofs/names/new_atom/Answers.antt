@@ -1,6 +1,4 @@
-use borrow.Author.Rules.{rules}
 use native.Mathlib.Omega.{arith}
-use lib.ListN.{length-set}
 use Rattle.renaming.proofs.Fresh.{found_small, found-taken}
 use Rattle.renaming.proofs.names.new_atom.Goals as goal
 

@@ -1,7 +1,5 @@
 -- Each call has fewer bytes left; what becomes of the two children is in proofs/Asides.
-use Prim.Native.Nat.{ℕ, ◌<◌, ◌-◌}
 use borrow.Author.Rules.{rules}
-use lib.ListN.{length}
 use Rattle.records.specs.Rewrites.{gone}
 use Rattle.records.proofs.Rewrites.{as_asks, as_gives}
 use Rattle.rewriting.proofs.Aligned.{passes_placed}

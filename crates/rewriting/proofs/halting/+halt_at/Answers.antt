@@ -1,7 +1,5 @@
 -- Each call has fewer bytes left; what halting does at each kind is in proofs/HaltSteps.
-use Prim.Native.Nat.{ℕ, ◌<◌, ◌-◌}
 use borrow.Author.Rules.{rules}
-use lib.ListN.{length}
 use Rattle.cows.proofs.Rows.{children-some}
 use Rattle.cows.specs.Moves.{halt}
 use Rattle.records.specs.Rewrites.{unchanged, gone}

@@ -1,4 +1,3 @@
-use borrow.Author.Rules.{rules}
 use Rattle.stepper.proofs.answering.answer.Goals as goal
 
 pub returns-in-Allowed : goal.returns-in-Allowed

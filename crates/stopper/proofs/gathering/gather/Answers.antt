@@ -1,12 +1,8 @@
 use borrow.Author.Rules.{rules}
-use mathlib.Core.Path.{◌≡◌, refl}
-use Prim.Native.Nat.{◌*◌, ◌-◌, ◌≤◌}
+use mathlib.Core.Path.{refl}
 use native.Mathlib.Omega.{arith}
-use lib.ListN.{length}
-use Rattle.cows.specs.Terms.{Term}
-use Rattle.ways.specs.Known.{Table}
 use Rattle.ways.proofs.KnownTables.{table_size}
-use Rattle.stopper.proofs.Gathers.{Gathering, gathering_start, from_fits, left_fits, gathering_turn, gathers_absent, gathers_gone}
+use Rattle.stopper.proofs.Gathers.{gathering_start, from_fits, left_fits, gathering_turn, gathers_absent, gathers_gone}
 use Rattle.stopper.proofs.gathering.gather.Goals as goal
 
 pub loop-i-init : goal.loop-i-init

@@ -1,12 +1,9 @@
-use borrow.Author.Rules.{rules}
-use mathlib.Core.Path.{◌≡◌, refl}
+use mathlib.Core.Path.{◌≡◌}
 use Prim.Native.Nat.{◌*◌, ◌-◌, ◌≤◌}
-use native.Mathlib.Omega.{arith}
 use lib.ListN.{length}
 use Rattle.cows.specs.Terms.{Term}
 use Rattle.ways.specs.Known.{Table}
-use Rattle.ways.proofs.KnownTables.{table_size}
-use Rattle.stopper.proofs.Gathers.{Gathering, gathering_start, from_fits, left_fits, gathering_turn, gathers_absent, gathers_gone}
+use Rattle.stopper.proofs.Gathers.{Gathering}
 use Rattle.stopper.proofs.gathering.gather.Given as goal
 
 abbrev pub invariant-loop-i : goal.invariant-loop-i

@@ -1,4 +1,3 @@
-use borrow.Author.Rules.{rules}
 use native.Mathlib.Omega.{arith}
 use Rattle.cows.proofs.Basics.{never}
 use Rattle.index.proofs.Entries.{cleared}

@@ -1,6 +1,4 @@
-use borrow.Author.Rules.{rules}
 use native.Mathlib.Omega.{arith}
-use mathlib.Core.Path.{sym, ◌∙◌}
 use borrow.Author.Tests.{eqb-true, not-false}
 use Rattle.cows.proofs.Basics.{never}
 use Rattle.tables.proofs.Judging.{slice_bytes}

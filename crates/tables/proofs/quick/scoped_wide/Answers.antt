@@ -1,4 +1,3 @@
-use borrow.Author.Rules.{rules}
 use native.Mathlib.Omega.{arith}
 use Rattle.index.proofs.Entries.{cleared}
 use Rattle.tables.proofs.quick.scoped_wide.Goals as goal

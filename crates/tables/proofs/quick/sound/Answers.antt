@@ -1,7 +1,5 @@
-use borrow.Author.Rules.{rules}
 use native.Mathlib.Omega.{arith}
 use Prim.Native.Nat.{◌*◌}
-use borrow.Author.Tests.{not-false}
 use Rattle.ranges.proofs.FieldRanges.{ranged-kind}
 use Rattle.tables.proofs.quick.sound.Goals as goal
 

@@ -1,0 +1,6 @@
+-- A digit is put behind no more than 100,000.
+use Rattle.std.proofs.Common.{◌≤◌}
+use Rattle.conformance.proofs.number.Given as goal
+
+abbrev pub invariant-loop-i : goal.invariant-loop-i
+invariant-loop-i l = l.n ≤ 1000015
