@@ -5,10 +5,10 @@
 use std::io;
 
 fn main(rt: HostRuntime) -> io::Result<()> {
-    printing::play_files(&rt, "refused.bin", "moves.bin")?;
-    printing::play_files(&rt, "long.bin", "moves.bin")?;
-    printing::play_files(&rt, "absent.bin", "moves.bin")?;
-    printing::play_files(&rt, "table.bin", "long.bin")?;
-    printing::play_files(&rt, "table.bin", "absent.bin")?;
-    printing::play_files(&rt, "table.bin", "tail.bin")
+    printing::play_files(&rt, b"refused.bin", b"moves.bin")?;
+    printing::play_files(&rt, b"long.bin", b"moves.bin")?;
+    printing::play_files(&rt, b"absent.bin", b"moves.bin")?;
+    printing::play_files(&rt, b"table.bin", b"long.bin")?;
+    printing::play_files(&rt, b"table.bin", b"absent.bin")?;
+    printing::play_files(&rt, b"table.bin", b"tail.bin")
 }

@@ -4,5 +4,5 @@
 use std::io;
 
 fn main(rt: HostRuntime) -> io::Result<()> {
-    printing::play_files(&rt, "table.bin", "moves.bin")
+    printing::play_files(&rt, b"table.bin", b"moves.bin")
 }

@@ -1,5 +1,5 @@
 // A night: every move of a list, one after the other, the reply to each, and the tally of all. The loop owns the tally and lends it to each move,
-// which lends it on to be counted in. Functions that hold or lend a tally are proved by hand, so these do nothing else: all other work is in `move_at`.
+// which lends it on to be counted in. These do nothing else: all other work is in `move_at`.
 ghost use Rattle.cows.specs.Terms.{Term};
 ghost use Rattle.cows.specs.Run.{start};
 ghost use Rattle.tally.specs.Counted.{Small};

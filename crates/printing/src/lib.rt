@@ -1,16 +1,16 @@
 // Printing: the night of two files, a line for each move and the total at the end. The programs only name the files.
 #![tactic(auto)]
 
-ghost use Rattle.std.specs.Prelude.{◌≡◌, ◌+◌, ◌*◌, ◌/◌, ◌<◌, ◌≤◌, length, take, Ok, IfSome, IfOk, OnErr};
-ghost use Rattle.std.specs.Io.{ReadsAtMost};
+ghost use Rattle.std.specs.Prelude.{◌≡◌, ◌+◌, ◌*◌, ◌/◌, ◌<◌, ◌≤◌, length, take, IfSome, IfOk, OnErr};
+ghost use Rattle.std.specs.Counts.{IsPrefixLen};
 ghost use Rattle.cows.specs.Tables.{judge};
 ghost use Rattle.player.specs.Loads.{load_reply};
 
 use records::{limits, wide16, word_at};
 use std::fs::File;
-use std::io;
 use std::io::{BufWriter, Read, Write};
 use std::rt::Files;
+use std::{io, str};
 use tables::Reply;
 use tally::Tally;
 
@@ -107,47 +107,52 @@ fn play(lines: &mut impl Write, table: &[u8], moves: &[u8]) -> io::Result<()>
     print_total(lines, played.tally, load_left(&out, reply.records))
 }
 
-// Reads until the buffer is full or the input ends; how many bytes there are. They are the first bytes of the input, as many as there is room for.
-fn read_full<R: Read>(input: &mut R, buffer: &mut [u8]) -> io::Result<usize>
-    ensures bound { ReadsAtMost result buffer.new }
-    ensures bytes { IfOk result (λ n. IfSome (R.remaining input.old) (λ all. take n buffer.new ≡ take (length buffer.new) all)) }
+// Reads until the buffer is full, the input ends or a read fails; how many bytes there are. They are the first bytes of the input.
+fn read_full<R: Read>(input: &mut R, buffer: &mut [u8]) -> usize
+    ensures bound { IsPrefixLen result buffer.new }
+    ensures bytes { IfSome (R.remaining input.old) (λ all. take result buffer.new ≡ take result all) }
 {
     let mut done = 0;
     while done < buffer.len() {
-        let n = input.read(&mut buffer[done..])?;
+        let Ok(n) = input.read(&mut buffer[done..]) else {
+            return done;
+        };
         if n == 0 {
-            return Ok(done);
+            return done;
         }
         done += n;
     }
-    Ok(done)
+    done
 }
 
 // The bytes of a file that was opened, none if it could not be; how many there are.
-fn read_opened<F: Read + Drop>(opened: io::Result<F>, buffer: &mut [u8]) -> io::Result<usize>
-    ensures missing { OnErr opened (result ≡ Ok 0) }
-    ensures bound { ReadsAtMost result buffer.new }
-    ensures bytes { IfOk opened (λ file. IfOk result (λ n. IfSome (F.remaining file) (λ all. take n buffer.new ≡ take (length buffer.new) all))) }
+fn read_opened<F: Read + Drop>(opened: io::Result<F>, buffer: &mut [u8]) -> usize
+    ensures missing { OnErr opened (result ≡ 0) }
+    ensures bound { IsPrefixLen result buffer.new }
+    ensures bytes { IfOk opened (λ file. IfSome (F.remaining file) (λ all. take result buffer.new ≡ take result all)) }
 {
     let Ok(mut file) = opened else {
-        return Ok(0);
+        return 0;
     };
     read_full(&mut file, buffer)
 }
 
-// The bytes of a file, none if it cannot be opened; how many there are.
-fn read(rt: &impl Files, name: &str, buffer: &mut [u8]) -> io::Result<usize>
-    ensures { ReadsAtMost result buffer.new }
+// The bytes of a file, none if it cannot be opened; how many there are. A name that is no text is the name of no file that std opens.
+fn read(rt: &impl Files, name: &[u8], buffer: &mut [u8]) -> usize
+    ensures { IsPrefixLen result buffer.new }
 {
-    read_opened(File::open(rt, name), buffer)
+    match str::from_utf8(name) {
+        Ok(name) => read_opened(File::open(rt, name), buffer),
+        Err(_) => 0,
+    }
 }
 
 // Plays the night of a table's file and a list's file. Each buffer has room for one byte more than the limit, so that what is too long is refused and not cut.
-pub fn play_files(rt: &(impl Files + Print + Alloc), table: &str, moves: &str) -> io::Result<()> {
+pub fn play_files(rt: &(impl Files + Print + Alloc), table: &[u8], moves: &[u8]) -> io::Result<()> {
     let mut records = [0u8; 32769];
     let mut list = [0u8; 60001];
-    let n = read(rt, table, &mut records)?;
-    let m = read(rt, moves, &mut list)?;
+    let n = read(rt, table, &mut records);
+    let m = read(rt, moves, &mut list);
     let mut lines = BufWriter::new(rt.alloc(), io::writer(rt))?;
     play(&mut lines, &records[..n], &list[..m])?;
     lines.flush()

@@ -55,7 +55,7 @@ pub fn place<'a>(r: Reader<'a>) -> usize
     r.at
 }
 
-// From a slice and a place to a reader and back: where it stands behind the term there. Whoever calls it needs no walk.
+// From a slice and a place to a reader and back: where it stands behind the term there.
 pub fn read_on(table: &[u8], ends: &[u16], at: usize) -> usize
     requires { Readable table.now ends.now at }
     ensures { ReadTo table.now ends.now at result }
