@@ -1,6 +1,6 @@
 -- The marks of the variables while a script is read, and what reading an expression with them says.
 use Rattle.std.specs.Prelude.{◌≡◌, Bool, true, false, not, ◌&&◌, List, ◌++◌, ℕ, ◌+◌, ◌*◌, ◌-◌, ◌<◌, ◌≤◌, eqb, length, get_or}
-use Rattle.std.proofs.Math.Option.{none, some}
+use mathlib.Core.Option.{none, some}
 use Rattle.cows.specs.Limits.{first_variable}
 use Rattle.cows.specs.Basics.{member}
 use Rattle.cows.specs.Terms.{variable}

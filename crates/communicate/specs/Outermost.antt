@@ -1,6 +1,6 @@
 -- Where what a communication changes begins: at the outermost delimitation that goes, or at the invoke if none does.
 use Rattle.std.specs.Prelude.{◌≡◌, true, ℕ, ◌≤◌}
-use Rattle.std.proofs.Math.Option.{some}
+use mathlib.Core.Option.{some}
 use Rattle.cows.specs.Terms.{Term}
 use Rattle.cows.specs.Places.{way_to}
 use Rattle.records.specs.declared.Variable.{Variable}

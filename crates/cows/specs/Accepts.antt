@@ -1,6 +1,6 @@
 -- Demand 2, its right side: when a move on a table is to be accepted, and with which successor. No word of what a program does.
 use Rattle.std.specs.Prelude.{◌≡◌, List, ℕ, ◌*◌, ◌≤◌}
-use Rattle.std.proofs.Math.Option.{some}
+use mathlib.Core.Option.{some}
 use Rattle.cows.specs.Limits.{max_records, max_depth}
 use Rattle.cows.specs.Terms.{Term, size, depth}
 use Rattle.cows.specs.Format.{encode}

@@ -1,6 +1,6 @@
 -- Live and ready records: the active contexts of COWS (01, Live and ready). Only live records move; ready ones count when a move is held back.
 use Rattle.std.specs.Prelude.{Bool, ◌&&◌, ℕ, ltb}
-use Rattle.std.proofs.Math.Option.{Option}
+use mathlib.Core.Option.{Option}
 use Rattle.cows.specs.Basics.{every, only, Result, need}
 use Rattle.cows.specs.Terms.{Term, size}
 use Rattle.cows.specs.Kinds.{kind, live_kind, ready_kind}

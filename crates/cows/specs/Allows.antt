@@ -1,8 +1,7 @@
 -- The rules of the six moves as a relation (01, Moves): Allows t m s says that the rules allow the move m on the term t, and that s is the successor.
 -- One constructor for each move, with the paper's conditions as premises. What a move leaves is said by contexts (a way, filled) or record by record, and not by
 -- the functions of specs/Moves that compute it. Nothing is searched for and nothing refused.
-use Rattle.std.specs.Prelude.{◌≡◌, ◌≢◌, true, List, [], ◌∷◌, ◌++◌, ℕ, zero, suc, ◌+◌, ◌≤◌, ◌<◌, length}
-use Rattle.std.proofs.Math.Bool.{false}
+use Rattle.std.specs.Prelude.{false, ◌≡◌, ◌≢◌, true, List, [], ◌∷◌, ◌++◌, ℕ, zero, suc, ◌+◌, ◌≤◌, ◌<◌, length}
 use Rattle.cows.specs.Basics.{any, member, All}
 use Rattle.cows.specs.Terms.{nil, kill, invoke, Prefix, receive, wait, protection, delimitation, replication, Join, choice, parallel, Term, leaf, under, both, value, variable, label, size, atoms, binders}
 use Rattle.cows.specs.Places.{Frame, inside, left_of, right_of, passed, plug, Way, fill, way_to, sub, enclosed}

@@ -1,6 +1,6 @@
 -- Small tools of the other files: tests on lists, a place that may be missing, and the result of a judgement.
 use Rattle.std.specs.Prelude.{Bool, true, false, ◌&&◌, ◌||◌, List, [], ◌∷◌, ℕ, zero, suc, eqb}
-use Rattle.std.proofs.Math.Option.{Option, none, some}
+use mathlib.Core.Option.{Option, none, some}
 
 infixl 20 ◌>>=◌
 infixl 20 ◌>>◌

@@ -2,7 +2,7 @@
 -- (Written one behind the other, they are `flat_map write`.)
 use Rattle.std.specs.Prelude.{Bool, not, ℕ, zero, suc, ◌/◌, length, take, drop}
 use mathlib.Core.List.{List, [], ◌∷◌, flat_map}
-use Rattle.std.proofs.Math.Option.{Option, none}
+use mathlib.Core.Option.{Option, none}
 use Rattle.cows.specs.Basics.{place_if, or_else}
 
 -- n pieces of w bytes; as many as there are whole ones

@@ -1,6 +1,6 @@
 -- Load (demand 3): the kills, invokes, receives and waits written anywhere in a table or body; and what each move takes out of it.
 use Rattle.std.specs.Prelude.{cond, [], ◌∷◌, ℕ, ◌+◌, ◌-◌}
-use Rattle.std.proofs.Math.Option.{Option, none, some}
+use mathlib.Core.Option.{Option, none, some}
 use Rattle.cows.specs.Terms.{Prefix, receive, wait, protection, delimitation, replication, Join, choice, parallel, Term, leaf, under, both, kills, below}
 use Rattle.cows.specs.Kinds.{basic, prefix, join, kind, weight_of}
 use Rattle.cows.specs.Places.{Frame, inside, left_of, right_of, Way, way_to, sub, frame_delimits, frame_chooses}

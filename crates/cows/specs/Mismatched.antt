@@ -1,7 +1,7 @@
 -- 12 as relations (2026-02): each number for itself, and when a step tells which. Nothing is searched for, and the function that finds the number is not mentioned.
 use Rattle.std.specs.Prelude.{◌≡◌, ◌≢◌, true, false, List, ◌∷◌, ℕ, ◌+◌, ◌≤◌, length}
-use Rattle.std.proofs.Math.Option.{some}
-use Rattle.std.proofs.Math.ListN.{get_elem?}
+use mathlib.Core.Option.{some}
+use lib.ListN.{get_elem?}
 use Rattle.cows.specs.Basics.{any}
 use Rattle.cows.specs.Terms.{Term, leaf, under, Action, variable, receive_of, invoke_of}
 use Rattle.cows.specs.Format.{encode}

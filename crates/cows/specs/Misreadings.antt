@@ -6,7 +6,7 @@ use Rattle.std.specs.Prelude.{ℕ, T}
 use Rattle.cows.specs.Basics.{every}
 use Rattle.cows.specs.Terms.{kill, invoke, receive, Term, leaf, under, size}
 use Rattle.cows.specs.Step.{Reply}
-use Rattle.cows.specs.Papers.{n, v, x, k, ◌∣◌, ◌⊕◌, 𝟘, po!, qo!, po?then, po?, stop, wait_for, new, ⟦◌⟧, rep, killing, meeting, expiry, time, unfold_at_lem, float, says, Night, right_night, open_all}
+use Rattle.cows.specs.Papers.{n, v, x, k, ◌∣◌, ◌⊕◌, 𝟘, po!, qo!, po?then, po?, stop, wait_for, new, ⟦◌⟧, rep, killing, meeting, expiry, time, unfolding_at, float, says, Night, right_night, open_all}
 
 -- further variables and a second label
 abbrev y : ℕ
@@ -97,13 +97,13 @@ misreadings =
     -- M11: 7 finds a use that stands before the delimitation
     ∷ record { begins = invoke! n 2 [] ∣ new n 𝟘; own = says 7 1 0; moves = []; replies = []; ends = invoke! n 2 [] ∣ new n 𝟘; total = [] }
     -- M12: atoms are renamed in record order
-    ∷ accepted (rep (pair 3 n)) (unfold_at_lem 0) (pair v 6 ∣ rep (pair 3 n)) (0 ∷ 0 ∷ 0 ∷ 2 ∷ [])
+    ∷ accepted (rep (pair 3 n)) (unfolding_at 0) (pair v 6 ∣ rep (pair 3 n)) (0 ∷ 0 ∷ 0 ∷ 2 ∷ [])
     -- M13: the whole choice goes, not the inner one
     ∷ accepted (po? v ⊕ wait_for 0 (po! v) ⊕ wait_for 7 𝟘) (expiry 4) (po! v) (0 ∷ 0 ∷ 1 ∷ 1 ∷ [])
     -- Live records (11).
     -- M14: nothing is live under a replication, behind a receive or behind a wait, and no record stands behind the last
     ∷ refused (new k (rep (stop ∣ rep (new n (po! n)) ∣ new 3 𝟘) ∣ po?then v stop ∣ wait_for 1 (stop ∣ wait_for 0 𝟘) ∣ stop))
-    (killing 4 ∷ killing 13 ∷ killing 17 ∷ killing 21 ∷ expiry 18 ∷ unfold_at_lem 6 ∷ float 9 ∷ [])
+    (killing 4 ∷ killing 13 ∷ killing 17 ∷ killing 21 ∷ expiry 18 ∷ unfolding_at 6 ∷ float 9 ∷ [])
     (says 11 4 21 ∷ says 11 13 21 ∷ says 11 17 21 ∷ says 11 21 21 ∷ says 11 18 21 ∷ says 11 6 21 ∷ says 11 9 21 ∷ []) 8
     -- M15: of a meeting a is looked at before b; a receive is live in a protection, a delimitation and a choice
     ∷ night (rep (po? v ∣ po! v) ∣ ⟦ new n (po? v ⊕ wait_for 1 𝟘) ⟧ ∣ po! v) (meeting 3 5 ∷ meeting 10 5 ∷ meeting 14 10 ∷ meeting 10 14 ∷ [])
@@ -117,7 +117,7 @@ misreadings =
     -- M19: a timeout asks for a wait
     ∷ none_there expiry (3 ∷ 9 ∷ 13 ∷ 10 ∷ 15 ∷ 0 ∷ [])
     -- M20: an unfolding asks for a replication
-    ∷ none_there unfold_at_lem (3 ∷ 6 ∷ 9 ∷ 13 ∷ 15 ∷ 0 ∷ [])
+    ∷ none_there unfolding_at (3 ∷ 6 ∷ 9 ∷ 13 ∷ 15 ∷ 0 ∷ [])
     -- M21: a floating asks for a delimitation
     ∷ none_there float (3 ∷ 6 ∷ 9 ∷ 10 ∷ 15 ∷ 0 ∷ [])
     -- Kill.
@@ -177,13 +177,13 @@ misreadings =
     (⟦ 𝟘 ⟧ ∣ (po?then v (wait_for 1 𝟘) ⊕ wait_for 0 𝟘)) (0 ∷ 0 ∷ 0 ∷ 3 ∷ [])
     -- Unfold.
     -- M38: a new value is sought from 1, a new variable from 32768, a new label from 49152
-    ∷ accepted (rep (three 3 y j)) (unfold_at_lem 0) (three 1 x k ∣ rep (three 3 y j)) (0 ∷ 0 ∷ 0 ∷ 4 ∷ [])
+    ∷ accepted (rep (three 3 y j)) (unfolding_at 0) (three 1 x k ∣ rep (three 3 y j)) (0 ∷ 0 ∷ 0 ∷ 4 ∷ [])
     -- M39: atoms of the whole table are taken, used or delimited, dormant ones too; an interval is no atom; the left side chooses first
-    ∷ accepted (rep (new 6 (invoke! 6 6 []) ∣ new 7 (invoke! 7 7 [])) ∣ wait_for 4 (invoke! 1 2 []) ∣ new 3 𝟘) (unfold_at_lem 1)
+    ∷ accepted (rep (new 6 (invoke! 6 6 []) ∣ new 7 (invoke! 7 7 [])) ∣ wait_for 4 (invoke! 1 2 []) ∣ new 3 𝟘) (unfolding_at 1)
     (((new n (invoke! n n []) ∣ new v (invoke! v v [])) ∣ rep (new 6 (invoke! 6 6 []) ∣ new 7 (invoke! 7 7 []))) ∣ wait_for 4 (invoke! 1 2 []) ∣ new 3 𝟘)
     (0 ∷ 0 ∷ 0 ∷ 6 ∷ [])
     -- M40: the copy is renamed in every field and every part; an atom that is delimited outside the body stays
-    ∷ accepted (⟦ new n (po? n ∣ rep (body 6 x)) ⟧) (unfold_at_lem 5) (⟦ new n (po? n ∣ body 3 y ∣ rep (body 6 x)) ⟧) (0 ∷ 0 ∷ 0 ∷ 9 ∷ [])
+    ∷ accepted (⟦ new n (po? n ∣ rep (body 6 x)) ⟧) (unfolding_at 5) (⟦ new n (po? n ∣ body 3 y ∣ rep (body 6 x)) ⟧) (0 ∷ 0 ∷ 0 ∷ 9 ∷ [])
     -- Extrude.
     -- M41: a delimitation floats over a delimitation, out of a left and a right side, and over a protection; at the root it stays
     ∷ night (⟦ qo! v ∣ new k (new n (po! n)) ∣ 𝟘 ⟧) (float 5 ∷ float 4 ∷ float 3 ∷ float 1 ∷ float 0 ∷ [])

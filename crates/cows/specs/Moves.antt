@@ -269,6 +269,6 @@ successor t (Unfold a) = unfold_at t a
 successor t (Extrude a) = extrude_at t a
 
 -- (for computed checks) to unfold this is to unfold every definition of this file
-unfoldable pub open_moves_lem : Unit {0}
+unfoldable pub open_six_moves : Unit {0}
 unfolding halt_under halt_both halt halt_beside halt_inside after_kill kill_at provided besides match closed_action fit mismatch_number matched outside in_scope ready_kill held_back fewer tighter silence around_choice continue map_basic map_prefix map_node map_atoms image instantiate bind communicate_at timeout_at lower elapse elapse_by first_free least fresh renaming fresh_copy after_unfold unfold_at fitting exchange after_extrude extrude_at successor
-open_moves_lem = tt
+open_six_moves = tt

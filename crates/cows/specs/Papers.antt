@@ -10,7 +10,7 @@ use Rattle.cows.specs.Cut.{open_cut}
 use Rattle.cows.specs.Format.{bytes2, encode, open_format}
 use Rattle.cows.specs.Tables.{open_tables}
 use Rattle.cows.specs.Active.{open_active}
-use Rattle.cows.specs.Moves.{open_moves_lem}
+use Rattle.cows.specs.Moves.{open_six_moves}
 use Rattle.cows.specs.Step.{Reply, open_step}
 use Rattle.cows.specs.Load.{load, open_load}
 use Rattle.cows.specs.Run.{RunState, PlayEnd, judge_play, played_reply, reply_bytes, open_run}
@@ -85,8 +85,8 @@ expiry a = move_bytes 2 a 0
 abbrev pub time : ℕ → List ℕ
 time d = move_bytes 3 d 0
 
-abbrev pub unfold_at_lem : ℕ → List ℕ
-unfold_at_lem a = move_bytes 4 a 0
+abbrev pub unfolding_at : ℕ → List ℕ
+unfolding_at a = move_bytes 4 a 0
 
 abbrev pub float : ℕ → List ℕ
 float a = move_bytes 5 a 0
@@ -129,7 +129,7 @@ right_night c = agrees c (judge_play (encode c.begins) (joined c.moves) 32768 60
 
 -- (for computed checks) to unfold this is to unfold every definition that a night is played by
 unfoldable pub open_all : Unit {0}
-unfolding open_basics open_terms open_kinds open_places open_cut open_format open_tables open_active open_moves_lem open_step open_load open_run
+unfolding open_basics open_terms open_kinds open_places open_cut open_format open_tables open_active open_six_moves open_step open_load open_run
 open_all = tt
 
 abbrev N8 : Term
@@ -161,7 +161,7 @@ papers =
     -- N10
     ∷ record { begins = N10; own = says 0 0 11; moves = meeting 4 2 ∷ meeting 9 2 ∷ []; replies = says 15 9 11 ∷ says 14 6 11 ∷ []; ends = N10; total = 0 ∷ 0 ∷ 0 ∷ 4 ∷ [] }
     -- N11
-    ∷ record { begins = rep (new 3 (po! 3)); own = says 0 0 6; moves = unfold_at_lem 0 ∷ []; replies = says 0 0 6 ∷ []; ends = new 4 (po! 4) ∣ rep (new 3 (po! 3)); total = 0 ∷ 0 ∷ 0 ∷ 2 ∷ [] }
+    ∷ record { begins = rep (new 3 (po! 3)); own = says 0 0 6; moves = unfolding_at 0 ∷ []; replies = says 0 0 6 ∷ []; ends = new 4 (po! 4) ∣ rep (new 3 (po! 3)); total = 0 ∷ 0 ∷ 0 ∷ 2 ∷ [] }
     -- N12
     ∷ record { begins = new x (new n (po? x ∣ po! n)); own = says 0 0 4; moves = meeting 3 5 ∷ float 1 ∷ meeting 3 5 ∷ []; replies = says 13 3 6 ∷ says 0 0 6 ∷ says 0 0 4 ∷ []; ends = new n (𝟘 ∣ 𝟘); total = 1 ∷ 0 ∷ 0 ∷ 0 ∷ [] }
     ∷ []

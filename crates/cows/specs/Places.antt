@@ -1,6 +1,6 @@
 -- Places: a table's records counted from 0 in prefix order, the way from the root to each, and the search for the first of them.
 use Rattle.std.specs.Prelude.{Bool, true, false, cond, ◌&&◌, List, [], ◌∷◌, ℕ, zero, suc, ◌+◌, ◌-◌, ltb}
-use Rattle.std.proofs.Math.Option.{Option}
+use mathlib.Core.Option.{Option}
 use Rattle.cows.specs.Basics.{any, first_from}
 use Rattle.cows.specs.Terms.{Prefix, Join, choice, parallel, Term, leaf, under, both, size, delimits_atom}
 use Rattle.cows.specs.Kinds.{Node, prefix, join}

@@ -1,7 +1,7 @@
 -- A list of moves (01, A night played): the run, which is the paper's night book, and play's replies, outputs and tally.
 use Rattle.std.specs.Prelude.{◌||◌, ℕ, ◌+◌, ◌-◌, ◌*◌, ◌/◌, ltb, length, drop, replicate}
 use mathlib.Core.List.{List, [], ◌∷◌, ◌++◌, flat_map}
-use Rattle.std.proofs.Math.Option.{Option, none, some}
+use mathlib.Core.Option.{Option, none, some}
 use Rattle.cows.specs.Limits.{max_bytes, max_list_bytes}
 use Rattle.cows.specs.Basics.{place_if, Result, refuse, accept, ◌>>=◌, ◌>>◌, forbid}
 use Rattle.cows.specs.Terms.{Term, size}

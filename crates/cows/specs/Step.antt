@@ -1,7 +1,7 @@
 -- One move on any bytes: refusals 10, 20 and 21, the reply and every output byte (01, Moves and Who can cause which refusal).
 use Rattle.std.specs.Prelude.{Bool, ◌&&◌, ◌||◌, List, [], ◌∷◌, ◌++◌, ℕ, ◌*◌, ltb, eqb, length, drop}
-use Rattle.std.proofs.Math.Option.{Option}
-use Rattle.std.proofs.Math.ListN.{get_elem?}
+use mathlib.Core.Option.{Option}
+use lib.ListN.{get_elem?}
 use Rattle.cows.specs.Limits.{max_records, max_depth}
 use Rattle.cows.specs.Basics.{place_if, only, Result, refuse, accept, ◌>>=◌, ◌>>◌, forbid, need}
 use Rattle.cows.specs.Terms.{Term, size, depth}

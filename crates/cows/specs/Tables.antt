@@ -1,6 +1,6 @@
 -- Which bytes are a well-formed table: refusals 1 to 7 in their order, each at its first place (01, Who can cause which refusal).
 use Rattle.std.specs.Prelude.{Bool, false, not, ◌&&◌, ◌||◌, List, [], ◌∷◌, map, ℕ, zero, suc, ◌+◌, ◌%◌, ltb, eqb, length}
-use Rattle.std.proofs.Math.Option.{Option, none, some}
+use mathlib.Core.Option.{Option, none, some}
 use Rattle.cows.specs.Limits.{max_bytes, max_depth}
 use Rattle.cows.specs.Basics.{any, member, found_with, found, place_if, first_from, Result, accept, ◌>>◌, forbid}
 use Rattle.cows.specs.Terms.{Term, value, bindable, uses, binders, delimits, delimits_at, prefixed}

@@ -1,6 +1,6 @@
 -- Terms: the services of COWS with waits (source documents 000 and 001), their atoms, and what is read off them.
 use Rattle.std.specs.Prelude.{Bool, ◌&&◌, ◌||◌, List, [], ◌∷◌, ◌++◌, ℕ, suc, ◌+◌, max, leb, ltb, eqb}
-use Rattle.std.proofs.Math.Option.{Option, none, some}
+use mathlib.Core.Option.{Option, none, some}
 use Rattle.cows.specs.Limits.{first_variable, first_label, no_atom}
 use Rattle.cows.specs.Basics.{found_with}
 

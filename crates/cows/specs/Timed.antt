@@ -1,6 +1,6 @@
 -- A time move on a table (2026-04): what the theorems on it ask of the bytes.
 use Rattle.std.specs.Prelude.{◌≡◌, List, ℕ}
-use Rattle.std.proofs.Math.Option.{some}
+use mathlib.Core.Option.{some}
 use Rattle.cows.specs.Terms.{Term}
 use Rattle.cows.specs.Format.{encode}
 use Rattle.cows.specs.Within.{Within}

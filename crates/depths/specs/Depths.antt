@@ -1,6 +1,6 @@
 -- The depth of the term at a place, and the first record in it that is too deep.
 use Rattle.std.specs.Prelude.{List, ℕ, ◌+◌, ◌*◌, ◌/◌, ◌<◌, ltb, length}
-use Rattle.std.proofs.Math.Option.{Option}
+use mathlib.Core.Option.{Option}
 use Rattle.cows.specs.Limits.{max_depth}
 use Rattle.cows.specs.Basics.{place_if, or_else}
 use Rattle.cows.specs.Terms.{Term, leaf, under, both, size}

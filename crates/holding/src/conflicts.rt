@@ -1,6 +1,6 @@
 // Conflicts: the first ready receive that fits an invoke and binds fewer variables.
 ghost use Rattle.std.specs.Prelude.{◌≡◌, true, false, ℕ, ◌+◌, ◌*◌, ◌/◌, ◌≤◌, ◌<◌, length};
-ghost use Rattle.std.proofs.Math.Option.{some};
+ghost use mathlib.Core.Option.{some};
 ghost use Rattle.cows.specs.Basics.{found_with};
 ghost use Rattle.cows.specs.Terms.{Term, Action, size, prefixed, receives};
 ghost use Rattle.cows.specs.Places.{sub, first};

@@ -1,6 +1,6 @@
 -- The index of delimitations that the quick test of scopes makes: the slot of an atom, the entry of a delimitation, and what makes a use right by it.
 use Rattle.std.specs.Prelude.{◌≡◌, Bool, true, cond, List, ℕ, ◌+◌, ◌*◌, ◌-◌, ◌/◌, ◌%◌, ◌^◌, ◌<◌, ◌≤◌, eqb, length, get_or}
-use Rattle.std.proofs.Math.Option.{none}
+use mathlib.Core.Option.{none}
 use Rattle.std.specs.Int.Bits.{bit_and, bit_xor}
 use Rattle.cows.specs.Terms.{Term}
 use Rattle.cows.specs.Places.{first}

@@ -1,7 +1,7 @@
 -- One dome-close for several blocks (request 2026-06): the kills at the places of a list, fired as one step on any table. A kill is the request's stop, and its scope
 -- is the delimitation of its label around it.
 use Rattle.std.specs.Prelude.{Bool, cond, ◌||◌, List, [], ◌∷◌, ◌++◌, map, ℕ, ◌*◌, ltb, eqb, length}
-use Rattle.std.proofs.Math.Option.{Option, none}
+use mathlib.Core.Option.{Option, none}
 use Rattle.cows.specs.Basics.{any, place_if, or_else, Result, refuse, accept, ◌>>=◌, ◌>>◌, forbid}
 use Rattle.cows.specs.Terms.{nil, kill, invoke, Prefix, Term, leaf, under, both, size, kills, delimits_atom}
 use Rattle.cows.specs.Places.{Way, fill, way_to, sub, frame_delimits, enclosed}

@@ -1,6 +1,6 @@
 -- The kills of a list fired singly, one after the other, each place carried along by its record (2026-06); lists in another order; and what kills halt.
 use Rattle.std.specs.Prelude.{cond, List, [], ◌∷◌, ℕ, zero, suc, ◌+◌, ◌-◌, ltb}
-use Rattle.std.proofs.Math.Option.{some}
+use mathlib.Core.Option.{some}
 use Rattle.cows.specs.Basics.{Result, accept, ◌>>=◌}
 use Rattle.cows.specs.Terms.{Term, leaf, under, both, size}
 use Rattle.cows.specs.Moves.{Kill, after_kill}

@@ -1,5 +1,5 @@
 -- The scope of a kill: where the delimitation of its label stands.
-use Rattle.std.proofs.Math.Option.{Option, none, some}
+use mathlib.Core.Option.{Option, none, some}
 use Rattle.std.specs.Prelude.{ℕ}
 use Rattle.cows.specs.Terms.{Term, kills}
 use Rattle.cows.specs.Places.{way_to, sub}

@@ -1,6 +1,6 @@
 -- What reading a script by recursion says, a record and then its parts: 31 as one scan.
 use Rattle.std.specs.Prelude.{◌≡◌, cond, List, [], ◌∷◌, ◌++◌, ℕ, suc, ◌/◌, ◌≤◌, ◌<◌, ltb, length, drop, replicate}
-use Rattle.std.proofs.Math.Option.{Option, none, some}
+use mathlib.Core.Option.{Option, none, some}
 use Rattle.orc.specs.Expressions.{max_nesting}
 use Rattle.orc.specs.Scripts.{OrcNode, parts, nodes_of}
 use Rattle.scripts.specs.declared.Reading.{Reading}

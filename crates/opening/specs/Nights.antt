@@ -1,7 +1,6 @@
 -- Lists of open moves (request 2026-01) that are computed: those of the nights on paper, N1 to N12 (01, Nights on paper), and a case for each rule of the
 -- request that they do not pin.
-use Rattle.std.specs.Prelude.{Bool, ◌&&◌, ℕ, zero, suc, ◌+◌, ◌*◌, T, length, replicate}
-use Rattle.std.proofs.Math.Bool.{not}
+use Rattle.std.specs.Prelude.{not, Bool, ◌&&◌, ℕ, zero, suc, ◌+◌, ◌*◌, T, length, replicate}
 use mathlib.Core.List.{List, [], ◌∷◌, ◌++◌}
 use Rattle.cows.specs.Basics.{any, every, same_list, Result}
 use Rattle.cows.specs.Terms.{receive, Term, under}
@@ -9,7 +8,7 @@ use Rattle.cows.specs.Format.{encode}
 use Rattle.cows.specs.Moves.{Move, Unfold, Extrude}
 use Rattle.cows.specs.Step.{Reply}
 use Rattle.cows.specs.Run.{reply_bytes}
-use Rattle.cows.specs.Papers.{n, v, x, k, ◌∣◌, ◌⊕◌, 𝟘, po!, qo!, po?, stop, wait_for, new, ⟦◌⟧, rep, killing, meeting, expiry, unfold_at_lem, float, says, open_all}
+use Rattle.cows.specs.Papers.{n, v, x, k, ◌∣◌, ◌⊕◌, 𝟘, po!, qo!, po?, stop, wait_for, new, ⟦◌⟧, rep, killing, meeting, expiry, unfolding_at, float, says, open_all}
 use Rattle.opening.specs.Opening.{each, is_open, judge_open, open_reply, open_buffer, open_opening}
 
 -- A table and a lent buffer; the reply, and the buffer as it then is.
@@ -55,7 +54,7 @@ cases =
     -- N1 to N12
     listed 1 (new x (po! v ∣ po? x)) (meeting 3 2 ∷ [])
     ∷ listed 1 (new x (po! v ∣ po? x ∣ po? v)) (meeting 6 2 ∷ [])
-    ∷ listed 1 (new x (po! v ∣ po? x ∣ rep (po? v))) (unfold_at_lem 6 ∷ [])
+    ∷ listed 1 (new x (po! v ∣ po? x ∣ rep (po? v))) (unfolding_at 6 ∷ [])
     ∷ listed 1 (new k (stop ∣ ⟦ po! v ⟧ ∣ qo! v)) (killing 2 ∷ [])
     ∷ listed 1 (new k ⟦ stop ∣ po! v ⟧) (killing 3 ∷ [])
     ∷ listed 1 (new k (stop ∣ po? v) ∣ po! v) (killing 3 ∷ [])
@@ -63,10 +62,10 @@ cases =
     ∷ listed 1 (new x (po? x) ∣ po! v) (float 1 ∷ [])
     ∷ listed 1 (wait_for 4 𝟘) []
     ∷ listed 1 (new x (po! v ∣ po? x ∣ new k (stop ∣ po? v))) (killing 8 ∷ [])
-    ∷ listed 1 (rep (new 3 (po! 3))) (unfold_at_lem 0 ∷ [])
+    ∷ listed 1 (rep (new 3 (po! 3))) (unfolding_at 0 ∷ [])
     ∷ listed 1 (new x (new n (po? x ∣ po! n))) (float 1 ∷ [])
     -- the order: by kind, wherever they stand; meetings by a, then by b
-    ∷ listed 1 all_kinds (killing 20 ∷ meeting 12 18 ∷ meeting 15 10 ∷ expiry 7 ∷ unfold_at_lem 4 ∷ float 1 ∷ [])
+    ∷ listed 1 all_kinds (killing 20 ∷ meeting 12 18 ∷ meeting 15 10 ∷ expiry 7 ∷ unfolding_at 4 ∷ float 1 ∷ [])
     ∷ listed 1 (po? v ∣ po! v ∣ po? v ∣ po! v) (meeting 1 4 ∷ meeting 1 8 ∷ meeting 6 4 ∷ meeting 6 8 ∷ [])
     -- each arm of a choice counts, a wait of more than 0 does not
     ∷ listed 1 ((po? v ⊕ wait_for 0 𝟘 ⊕ wait_for 1 𝟘) ∣ po! v) (meeting 2 9 ∷ expiry 5 ∷ [])
@@ -110,13 +109,13 @@ at_limits =
     ∷ record { table = rep (tree 9); move = Unfold 0 }
     ∷ []
 
-pub over_limits_lem : List Proposal
-over_limits_lem =
+pub past_limits : List Proposal
+past_limits =
     record { table = deep 254; move = Unfold 254 }
     ∷ record { table = new n 𝟘 ∣ deep 253; move = Extrude 1 }
     ∷ record { table = rep ⟦ tree 9 ⟧; move = Unfold 0 }
     ∷ []
 
-pub limits_right : T (every may_open at_limits && not (any may_open over_limits_lem))
-unfolding at_limits over_limits_lem open_all open_opening
+pub limits_right : T (every may_open at_limits && not (any may_open past_limits))
+unfolding at_limits past_limits open_all open_opening
 limits_right = tt

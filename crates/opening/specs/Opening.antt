@@ -7,7 +7,7 @@ use Rattle.cows.specs.Format.{byte, word}
 use Rattle.cows.specs.Tables.{judge}
 use Rattle.cows.specs.Moves.{Move, Kill, Communicate, Timeout, Elapse, Unfold, Extrude, successor}
 use Rattle.cows.specs.Step.{over_limits, Reply}
-use Rattle.cows.specs.Papers.{killing, meeting, expiry, time, unfold_at_lem, float}
+use Rattle.cows.specs.Papers.{killing, meeting, expiry, time, unfolding_at, float}
 
 -- List tools. The k numbers from n on; the elements that pass a test, in their order; the lists that f gives, one behind the other.
 unfoldable pub up_from : ℕ → ℕ → List ℕ
@@ -47,7 +47,7 @@ six_byte_form (Kill a) = killing a
 six_byte_form (Communicate a b) = meeting a b
 six_byte_form (Timeout a) = expiry a
 six_byte_form (Elapse d) = time d
-six_byte_form (Unfold a) = unfold_at_lem a
+six_byte_form (Unfold a) = unfolding_at a
 six_byte_form (Extrude a) = float a
 
 unfoldable pub open_list : Term → List (List ℕ)

@@ -1,6 +1,6 @@
 -- Orc expressions without expression calls (source document 002; request 2026-03), and what is read off them. A variable or a value is an atom of cows.
 use Rattle.std.specs.Prelude.{◌≡◌, Bool, true, ◌||◌, List, [], ◌∷◌, ◌++◌, ℕ, suc, ◌+◌, ◌≤◌, max, eqb}
-use Rattle.std.proofs.Math.Option.{Option, none, some}
+use mathlib.Core.Option.{Option, none, some}
 use Rattle.cows.specs.Basics.{found_with, one_if}
 use Rattle.cows.specs.Terms.{value, variable, datum, bindable, optional}
 use Rattle.cows.specs.Within.{Bound, nowhere}

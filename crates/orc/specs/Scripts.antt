@@ -1,7 +1,7 @@
 -- The script of an expression, 8 bytes a record, little-endian, in prefix order, and refusals 30 to 32 in their order, each at its first place (2026-03).
 use Rattle.std.specs.Prelude.{Bool, not, ◌&&◌, ◌||◌, ℕ, suc, ◌+◌, ◌*◌, ◌%◌, ltb, eqb, length, get_or, replicate}
 use mathlib.Core.List.{List, [], ◌∷◌, ◌++◌, map, flat_map}
-use Rattle.std.proofs.Math.Option.{Option, none}
+use mathlib.Core.Option.{Option, none}
 use Rattle.cows.specs.Basics.{any, member, found_with, place_if, or_else, Result, accept, ◌>>◌, forbid}
 use Rattle.cows.specs.Terms.{value, variable, datum, bindable, optional}
 use Rattle.cows.specs.Kinds.{unused}

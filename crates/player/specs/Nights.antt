@@ -1,6 +1,6 @@
 -- A list of moves on a table (document 01, A night played): what play replies and leaves in its two buffers.
 use Rattle.std.specs.Prelude.{◌≡◌, List, ◌++◌, ℕ, ◌*◌, ◌/◌, ◌≤◌, ◌<◌, length, take, drop}
-use Rattle.std.proofs.Math.Option.{Option}
+use mathlib.Core.Option.{Option}
 use Rattle.cows.specs.Limits.{max_bytes, max_list_bytes}
 use Rattle.cows.specs.Basics.{Result, accept}
 use Rattle.cows.specs.Terms.{Term}

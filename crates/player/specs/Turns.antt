@@ -1,6 +1,6 @@
 -- One move of a list: what is asked and given by its judgement, and by keeping the successor in one of two buffers.
 use Rattle.std.specs.Prelude.{◌≡◌, Bool, true, cond, List, ℕ, ◌*◌, ◌≤◌, ◌<◌, length, take}
-use Rattle.std.proofs.Math.Option.{Option, some}
+use mathlib.Core.Option.{Option, some}
 use Rattle.cows.specs.Limits.{max_bytes, max_records}
 use Rattle.cows.specs.Basics.{accept}
 use Rattle.cows.specs.Terms.{Term, size}

@@ -1,5 +1,5 @@
 -- A move as the code has read it: document 01's move, or none.
-use Rattle.std.proofs.Math.Option.{Option, none, some}
+use mathlib.Core.Option.{Option, none, some}
 use Rattle.cows.specs.Moves as moves
 use Rattle.proposals.specs.declared.Move.{Move}
 use Rattle.proposals.specs.declared.Move.TheVariants.{Kill, Communicate, Timeout, Elapse, Unfold, Extrude, None}

@@ -1,6 +1,6 @@
 -- What the service reader and the guard reader answer: refusal 5, the first child of a choice that is no guard, among the places of a table that holds a term.
 use Rattle.std.specs.Prelude.{◌≡◌, false, not, List, ℕ, ◌-◌, ◌/◌, ◌<◌, length}
-use Rattle.std.proofs.Math.Option.{Option}
+use mathlib.Core.Option.{Option}
 use Rattle.cows.specs.Basics.{first_from}
 use Rattle.cows.specs.Terms.{Term}
 use Rattle.cows.specs.Kinds.{guard}

@@ -1,6 +1,6 @@
 -- What a reader that stands at a place finds of the term there.
 use Rattle.std.specs.Prelude.{◌≡◌, false, List, ℕ, ◌+◌, ◌/◌, length, get_or}
-use Rattle.std.proofs.Math.Option.{Option, none, some}
+use mathlib.Core.Option.{Option, none, some}
 use Rattle.cows.specs.Terms.{Term}
 use Rattle.cows.specs.Places.{way_to}
 use Rattle.cows.specs.Tables.{in_choice}

@@ -1,7 +1,7 @@
 -- Rewriting: what code says that reads the term at a byte of one table and writes what f makes of it at a byte of another.
 -- Places are bytes here; f : Term → Term is what the code does.
 use Rattle.std.specs.Prelude.{◌≡◌, List, ◌++◌, ℕ, ◌+◌, ◌≤◌, length, drop}
-use Rattle.std.proofs.lemmas.List.Edits.{sets}
+use lib.Seq.{sets}
 use Rattle.cows.specs.Terms.{nil, Term, leaf}
 use Rattle.cows.specs.Format.{encode}
 

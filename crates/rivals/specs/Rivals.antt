@@ -1,6 +1,6 @@
 -- One ready receive against all invokes that may be a party (15).
 use Rattle.std.specs.Prelude.{◌≡◌, ◌≢◌, true, List, ℕ, ◌/◌, ◌≤◌, ◌<◌, min, length, get_or}
-use Rattle.std.proofs.Math.Option.{some}
+use mathlib.Core.Option.{some}
 use Rattle.cows.specs.Terms.{Term, Action, size, invokes}
 use Rattle.cows.specs.Places.{spot_at, sub}
 use Rattle.roles.specs.Roles.{unfit, ready_bound, sending}

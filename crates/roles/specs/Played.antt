@@ -1,6 +1,6 @@
 -- What the list of meetings knows of a table beside its ends: the roles of its records, and the fewest variables that a ready receive binds (15).
 use Rattle.std.specs.Prelude.{◌≡◌, true, List, ℕ, ◌/◌, ◌≤◌, ◌<◌, length, get_or}
-use Rattle.std.proofs.Math.Option.{some}
+use mathlib.Core.Option.{some}
 use Rattle.cows.specs.Terms.{Term, Action, size, invokes}
 use Rattle.cows.specs.Places.{sub}
 use Rattle.ways.specs.Known.{Table, Known}

@@ -1,7 +1,6 @@
 -- Roles: what a record says by itself of the moves that are open (request 2026-01), as one number for each place.
-use Rattle.std.specs.Prelude.{◌≡◌, Bool, false, cond, ◌&&◌, ◌||◌, List, [], ◌∷◌, ℕ, zero, suc, ◌+◌, ◌-◌, ◌<◌, min, max, leb, ltb, eqb, length, get_or}
-use Rattle.std.proofs.Math.Bool.{not}
-use Rattle.std.proofs.Math.Option.{Option, none, some}
+use Rattle.std.specs.Prelude.{not, ◌≡◌, Bool, false, cond, ◌&&◌, ◌||◌, List, [], ◌∷◌, ℕ, zero, suc, ◌+◌, ◌-◌, ◌<◌, min, max, leb, ltb, eqb, length, get_or}
+use mathlib.Core.Option.{Option, none, some}
 use Rattle.cows.specs.Limits.{max_records, max_depth, max_slots}
 use Rattle.cows.specs.Basics.{every, found_with, found, only, first_from}
 use Rattle.cows.specs.Terms.{nil, kill, invoke, receive, wait, protection, delimitation, replication, Term, Action, size, depth, kills, invokes, prefixed, receives, waits, delimits, replicates, delimits_at, label}

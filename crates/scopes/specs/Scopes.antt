@@ -1,6 +1,6 @@
 -- The pass over the scopes: what it answers, the directory of the atoms that a table delimits, and how bad a use is.
 use Rattle.std.specs.Prelude.{◌≡◌, Bool, true, cond, not, ◌&&◌, List, [], ◌∷◌, ℕ, suc, ◌+◌, ◌*◌, ◌/◌, ◌%◌, ◌<◌, ◌≤◌, ltb, leb, eqb, length, get_or}
-use Rattle.std.proofs.Math.Option.{Option, none, some}
+use mathlib.Core.Option.{Option, none, some}
 use Rattle.cows.specs.Limits.{first_variable, max_records}
 use Rattle.cows.specs.Basics.{member, one_if}
 use Rattle.cows.specs.Terms.{Term, size, value, atom, bindable, binders}

@@ -1,6 +1,6 @@
 -- What the quick test of tables is lent, what its parts find, and what it shows.
 use Rattle.std.specs.Prelude.{◌≡◌, true, List, ℕ, ◌+◌, ◌*◌, ◌/◌, ◌<◌, ◌≤◌, min, length}
-use Rattle.std.proofs.Math.Option.{none}
+use mathlib.Core.Option.{none}
 use Rattle.cows.specs.Limits.{max_depth}
 use Rattle.cows.specs.Terms.{Term, depth}
 use Rattle.cows.specs.Format.{records}

@@ -1,6 +1,6 @@
 -- The verdict on a table, and document 01's number and place for each of its cases.
 use Rattle.std.specs.Prelude.{◌≡◌, List, map, ℕ, ◌%◌, ◌≤◌, ◌<◌, length}
-use Rattle.std.proofs.Math.Option.{none}
+use mathlib.Core.Option.{none}
 use Rattle.cows.specs.Limits.{max_bytes}
 use Rattle.cows.specs.Basics.{Result, refuse, accept, ◌>>◌, forbid}
 use Rattle.cows.specs.Terms.{Term, size}

@@ -2,7 +2,7 @@
 #![tactic(auto)]
 
 ghost use Rattle.std.specs.Prelude.{◌≡◌};
-ghost use Rattle.std.proofs.Math.Option.{some};
+ghost use mathlib.Core.Option.{some};
 ghost use Rattle.cows.specs.Moves as meaning;
 ghost use Rattle.cows.specs.Run.{counted, no_tally, adds};
 ghost use Rattle.proposals.specs.Proposals.{move_of};

@@ -105,7 +105,7 @@ module _ (table : List ℕ) (earlier later : ℕ) (out after : List ℕ) (r : Re
     unfolding judge_ticks
     claims h = record {
       table_first = λ n p e. refused_of n p (table_elapsed table _ (length out) n p e) h;
-      gone_back_lem = λ d x g l. refused_of 23 0 (by_clock d g ∙ back_elapsed table d (length out) x.term (formed_judge x) l) h;
+      went_back = λ d x g l. refused_of 23 0 (by_clock d g ∙ back_elapsed table d (length out) x.term (formed_judge x) l) h;
       too_long = λ d x g l k. refused_of 24 0 (by_clock d g ∙ long_elapsed table d (length out) x.term (formed_judge x) l k) h;
       no_room = λ x g l. refused_of 21 0 (none_short x g l) h;
       handed_on = λ x g l. handed_of x (none_room x g l) h;
@@ -138,7 +138,7 @@ module _ (table : List ℕ) (earlier later : ℕ) (out after : List ℕ) (r : Re
           (λ s. of_refused 21 0 (none_short x f s) (c.no_room x f s))
           (λ s. of_handed x (none_room x f s) (c.handed_on x f s)))
           (λ z. step_ticked (let y : 1 ≤ d = omega (arith, z) in y) l (c.timed d g (omega (arith, z)) l))))
-          (λ k. of_refused 23 0 (by_clock d g ∙ back_elapsed table d (length out) t e k) (c.gone_back_lem d x g k))
+          (λ k. of_refused 23 0 (by_clock d g ∙ back_elapsed table d (length out) t e k) (c.went_back d x g k))
 
 pub claims_ticked : (table : List ℕ) (earlier later : ℕ) (out after : List ℕ) (r : Reply) → AreBytes table → earlier < rollover → later < rollover
     → TicksClaims table earlier later out after r → Ticked table earlier later out after r

@@ -36,7 +36,7 @@ pub record RefusedWith (n p : ℕ) (out after : List ℕ) (r : Reply) : Type 0 w
 -- the step whose move is that time, on any bytes.
 pub record TicksClaims (table : List ℕ) (earlier later : ℕ) (out after : List ℕ) (r : Reply) : Type 0 where
   pub table_first : (n p : ℕ) → judge table ≡ refuse n p → RefusedWith n p out after r
-  pub gone_back_lem : (d : ℕ) → WellFormed table → ClockGoes earlier d later → gone_back ≤ d → RefusedWith 23 0 out after r
+  pub went_back : (d : ℕ) → WellFormed table → ClockGoes earlier d later → gone_back ≤ d → RefusedWith 23 0 out after r
   pub too_long : (d : ℕ) → WellFormed table → ClockGoes earlier d later → longest_time < d → d < gone_back → RefusedWith 24 0 out after r
   pub no_room : WellFormed table → ClockGoes earlier 0 later → length out < length table → RefusedWith 21 0 out after r
   pub handed_on : (x : WellFormed table) → ClockGoes earlier 0 later → length table ≤ length out

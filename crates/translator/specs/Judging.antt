@@ -1,6 +1,6 @@
 -- What the translation of any bytes gives, and what is judged at each of its steps.
 use Rattle.std.specs.Prelude.{◌≡◌, ◌≢◌, true, List, [], ◌++◌, ℕ, ◌*◌, ◌%◌, ◌≤◌, length, drop}
-use Rattle.std.proofs.Math.Option.{none}
+use mathlib.Core.Option.{none}
 use Rattle.cows.specs.Basics.{Result, ◌>>◌, forbid}
 use Rattle.cows.specs.Terms.{Term, value, size}
 use Rattle.cows.specs.Cut.{cut, first_failing}

@@ -1,6 +1,6 @@
 -- The way from the root down to a place, a record at a time, and what it says of the place.
 use Rattle.std.specs.Prelude.{◌≡◌, Bool, true, cond, ◌&&◌, List, [], ◌∷◌, ℕ, ◌+◌, ◌≤◌, ◌<◌, ltb, eqb, length}
-use Rattle.std.proofs.Math.Option.{Option, none, some}
+use mathlib.Core.Option.{Option, none, some}
 use Rattle.cows.specs.Terms.{Term, size}
 use Rattle.cows.specs.Kinds.{kind_of}
 use Rattle.cows.specs.Places.{Frame, plug, Way, way_to, sub, frame_delimits, frame_chooses}
