@@ -16,7 +16,8 @@ use Rattle.cows.specs.Moves.{ready_kill, held_back}
 use Rattle.cows.proofs.Basics.{clash, and_true, true_and, or_left, or_case, same_test, lt_case, found_none, none_found, holds_some}
 use Rattle.cows.proofs.Stands.{first_fails, fails_first}
 use Rattle.cows.proofs.Places.{size_pos, spot_fits}
-use Rattle.holding.proofs.HeldBack.{part_sub, held-delimitation, held_none}
+use Rattle.ways.proofs.Parts.{part_ends}
+use Rattle.holding.proofs.HeldBack.{held-delimitation, held_none}
 use Rattle.roles.specs.Roles.{unheld, holding, furthest, held_until}
 
 -- the furthest end is at least each that counts, and is one of them
@@ -99,13 +100,6 @@ module _ (f : ℕ → Bool) (end : ℕ → ℕ) where
       (λ x. absurd (omega (arith, furthest-some f end k n x e)))
       (λ x. absurd (omega (arith, h n x m))))
       (λ l. l)
-
--- what stands below a place ends with it
-part_ends : (t : Term) (i n : ℕ) → i < size t → i ≤ n → n < i + size (sub t i) → n + size (sub t n) ≤ i + size (sub t i)
-part_ends t i n l h m =
-    let z : i + (n - i) ≡ n = omega arith in
-    let e : sub t n ≡ sub (sub t i) (n - i) = ap (sub t) (sym z) ∙ part_sub t i l (n - i) (omega arith) in
-    omega (arith, ap size e, spot_fits (sub t i) (n - i) (omega arith))
 
 -- A walk has come to place i and knows `held`: it is as good as the furthest end of what holds back, since what was left out ends before i.
 pub record Held (t : Term) (i held : ℕ) : Type 0 where

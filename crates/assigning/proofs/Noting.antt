@@ -4,33 +4,34 @@ use mathlib.Core.Logic.{◌≢◌}
 use mathlib.Core.Bool.{Bool, true, false, cond, ◌&&◌, ◌||◌}
 use mathlib.Core.List.{List}
 use mathlib.Core.Option.{Option, none, some}
-use Prim.Native.Nat.{ℕ, zero, suc, ◌+◌, ◌*◌, ◌-◌, ◌/◌, ◌≤◌, ◌<◌}
+use Prim.Native.Nat.{ℕ, zero, suc, ◌+◌, ◌-◌, ◌/◌, ◌≤◌, ◌<◌}
 use native.Mathlib.Omega.{arith}
 use native.Mathlib.Nat.{zero-add}
 use lib.Dec.{ltb, eqb}
-use lib.ListN.{length, get_or, set}
+use lib.ListN.{length, set}
 use lib.Seq.{get_or-set_same, get_or-set_other}
 use borrow.Author.Tests.{lt-ltb, le-ltb, eqb-true, eq-eqb}
 use Rattle.cows.specs.Basics.{found_with, found, first_from, place_if, or_else}
 use Rattle.cows.specs.Terms.{nil, kill, invoke, receive, wait, protection, delimitation, replication, Term, leaf, under, both, size, kills, prefixed, receives, delimits, delimits_at}
-use Rattle.cows.specs.Kinds.{ready_kind, root, kind_of, open_kinds}
+use Rattle.cows.specs.Kinds.{ready_kind, root, kind_of}
 use Rattle.cows.specs.Places.{spot_at, way_to, sub, first}
 use Rattle.cows.specs.Within.{Within}
 use Rattle.cows.specs.Active.{ready}
 use Rattle.cows.specs.Moves.{ready_kill}
 use Rattle.cows.proofs.Basics.{clash, eq_case, lt_case, or_right, or_none, and_none, not_so, holds_some, first_from_append, from_next, none-first_from}
 use Rattle.cows.proofs.Reach.{enclosed_reaches}
-use Rattle.records.proofs.StandsIn.{holds_kind}
 use Rattle.ways.specs.Known.{Table}
 use Rattle.ways.proofs.KnownTables.{table_size, table_inside}
 use Rattle.ways.proofs.Once.{one_delimitation}
 use Rattle.ways.proofs.Seeking.{seeking_start}
+use Rattle.holding.proofs.Passing.{past_of}
 use Rattle.holding.proofs.HeldBack.{kill-enclosed}
-use Rattle.roles.specs.Roles.{holding, rivalling, behind_of, ready_role, holder_role, role_if, rival_role}
-use Rattle.chains.specs.Chains.{Blank}
+use Rattle.roles.specs.declared.Role.{Role}
+use Rattle.roles.specs.declared.Role.TheVariants.{Idle, Rival, Holder}
+use Rattle.roles.specs.Roles.{holding, rivalling, behind_of, ready_role, role_if, role_at, Unassigned}
 use Rattle.chains.proofs.Chaining.{some_of, none_of}
 use Rattle.assigning.specs.Assigning.{noted}
-use Rattle.assigning.proofs.Turns.{Strides, Turn, turn_through, turn_over}
+use Rattle.assigning.proofs.Turns.{Strides, Turn, turn_past}
 
 -- the delimitation of the label of a kill: there is one, and behind_of finds it
 module _ (t : Term) (w : Within t) (i k : ℕ) (l : i < size t) (e : sub t i ≡ leaf (kill k)) where
@@ -49,8 +50,8 @@ killed t i k = found (first_from (λ m. ready_kill k m (spot_at t m)) 0 i)
 holding_by : Term → ℕ → ℕ → Bool
 holding_by t i n = found_with (killed t i) (prefixed delimits (sub t n))
 
-pub ready_by : Term → ℕ → ℕ → ℕ
-ready_by t i n = cond (holding_by t i n) holder_role (role_if (ltb n i && rivalling t n) rival_role)
+pub ready_by : Term → ℕ → ℕ → Role
+ready_by t i n = cond (holding_by t i n) Holder (role_if (ltb n i && rivalling t n) Rival)
 
 found_first : (p : Option ℕ) (b : Bool) (i : ℕ) → found (or_else p (or_else (place_if b i) none)) ≡ (found p || b)
 unfolding found or_else place_if
@@ -98,58 +99,58 @@ module _ (t : Term) (i j : ℕ) (h : Turn ready_kind t i j) where
     same_role = rw (holding_same, rival_same)
 
 -- The walk is at place i.
-pub record Noting (t : Term) (i : ℕ) (cast : List ℕ) : Type 0 where
+pub record Noting (t : Term) (i : ℕ) (cast : List Role) : Type 0 where
   pub walk : Strides ready_kind t i
-  pub roles : (n : ℕ) → n < size t → get_or cast n 0 ≡ ready_by t i n
+  pub roles : (n : ℕ) → n < size t → role_at cast n ≡ ready_by t i n
 
-pub noting_start : (t : Term) (cast : List ℕ) → Blank cast → Noting t 0 cast
+pub noting_start : (t : Term) (cast : List Role) → Unassigned cast → Noting t 0 cast
 unfolding ready_by holding_by killed first_from found found_with
 noting_start t cast b = record { walk = seeking_start _ _ t; roles = λ n l. b n ∙ go n (prefixed delimits (sub t n)) }
   where
-    go : (n : ℕ) (o : Option ℕ) → 0 ≡ cond (found_with (killed t 0) o) holder_role (role_if (ltb n 0 && rivalling t n) rival_role)
+    go : (n : ℕ) (o : Option ℕ) → Idle ≡ cond (found_with (killed t 0) o) Holder (role_if (ltb n 0 && rivalling t n) Rival)
     go n none = rw (le-ltb n 0 (omega arith))
     go n (some k) = rw (le-ltb n 0 (omega arith))
 
-pub noting_end : (t : Term) (i : ℕ) (cast : List ℕ) → Noting t i cast → size t ≤ i → (n : ℕ) → n < size t → get_or cast n 0 ≡ ready_role t n
+pub noting_end : (t : Term) (i : ℕ) (cast : List Role) → Noting t i cast → size t ≤ i → (n : ℕ) → n < size t → role_at cast n ≡ ready_role t n
 unfolding ready_by holding_by killed ready_role holding first
 noting_end t i cast h l n m = let z : i ≡ size t = omega (arith, h.walk.few) in h.roles n m ∙ rw (z, lt-ltb n (size t) m)
 
-module _ (t : Term) (w : Within t) (i j : ℕ) (l : i < size t) (h : Turn ready_kind t i j) (cast : List ℕ) (room : size t ≤ length cast) (g : Noting t i cast) where
+module _ (t : Term) (w : Within t) (i j : ℕ) (l : i < size t) (h : Turn ready_kind t i j) (cast : List Role) (room : size t ≤ length cast) (g : Noting t i cast) where
   kill_here : (k : ℕ) (s : Term) → sub t i ≡ s → ready_kill k i (spot_at t i) ≡ found_with (eqb k) (kills s)
   unfolding ready_kill ready sub way_to
   kill_here k s e = rw (g.walk.active l, e)
 
   -- a record that says nothing
-  silent : (s : Term) → sub t i ≡ s → kills s ≡ none → prefixed receives s ≡ none → (n : ℕ) → n < size t → get_or cast n 0 ≡ ready_by t j n
+  silent : (s : Term) → sub t i ≡ s → kills s ≡ none → prefixed receives s ≡ none → (n : ℕ) → n < size t → role_at cast n ≡ ready_by t j n
   unfolding found_with found
   silent s e x y n m = g.roles n m ∙ same_role t i j h n (λ k d. kill_here k s e ∙ rw x) (λ z. rw (e, y))
 
-  kill-noted : (k : ℕ) → sub t i ≡ leaf (kill k) → (n : ℕ) → n < size t → get_or (set cast (behind_of t k - 1) 8) n 0 ≡ ready_by t j n
+  kill-noted : (k : ℕ) → sub t i ≡ leaf (kill k) → (n : ℕ) → n < size t → role_at (set cast (behind_of t k - 1) Holder) n ≡ ready_by t j n
   unfolding found_with found kills prefixed ready_by holding_by
   kill-noted k e n m =
       let (q, b, in_table, d) = kill_scope_lem t w i k l e in
       let p : behind_of t k - 1 ≡ q = omega arith in
-      rw p (eq_case (get_or (set cast q 8) n 0 ≡ ready_by t j n) n q
+      rw p (eq_case (role_at (set cast q Holder) n ≡ ready_by t j n) n q
       (λ z.
       let (x, y, c) = holds_some (eqb k) (prefixed delimits (sub t q)) d in
       let so : killed t j x ≡ true = kill-next t i j h x ∙ or_right (killed t i x) _ (kill_here x _ e ∙ eq-eqb x k (sym (eqb-true k x c))) in
-      rw (z, y, so) (get_or-set_same cast q 8 0 (omega arith)))
-      (λ z. get_or-set_other cast q n 8 0 z ∙ (g.roles n m ∙ same_role t i j h n
+      rw (z, y, so) (get_or-set_same cast q Holder Idle (omega arith)))
+      (λ z. get_or-set_other cast q n Holder Idle z ∙ (g.roles n m ∙ same_role t i j h n
       (λ x y. kill_here x _ e ∙ not_so (λ c. z (one_delimitation t w.formed k n q m in_table (ap (found_with (eqb k)) y ∙ eq-eqb k x (sym (eqb-true x k c))) d)))
       (λ y. rw e))))
 
-  receive-noted : (p o : ℕ) (ws : List ℕ) (c : Term) → sub t i ≡ under (receive p o ws) c → (n : ℕ) → n < size t → get_or (set cast i 7) n 0 ≡ ready_by t j n
+  receive-noted : (p o : ℕ) (ws : List ℕ) (c : Term) → sub t i ≡ under (receive p o ws) c → (n : ℕ) → n < size t → role_at (set cast i Rival) n ≡ ready_by t j n
   unfolding found_with found kills prefixed receives delimits ready_by holding_by rivalling ready
   receive-noted p o ws c e n m =
-      eq_case (get_or (set cast i 7) n 0 ≡ ready_by t j n) n i
-      (λ z. rw (z, e, lt-ltb i j h.on, g.walk.active l) (get_or-set_same cast i 7 0 (omega arith)))
-      (λ z. get_or-set_other cast i n 7 0 z ∙ (g.roles n m ∙ same_role t i j h n (λ x y. kill_here x _ e) (λ y. absurd (z y))))
+      eq_case (role_at (set cast i Rival) n ≡ ready_by t j n) n i
+      (λ z. rw (z, e, lt-ltb i j h.on, g.walk.active l) (get_or-set_same cast i Rival Idle (omega arith)))
+      (λ z. get_or-set_other cast i n Rival Idle z ∙ (g.roles n m ∙ same_role t i j h n (λ x y. kill_here x _ e) (λ y. absurd (z y))))
 
   pub noting_turn : Noting t j (noted t i (root (sub t i)) cast)
   unfolding noted root kills prefixed receives
   noting_turn = record { walk = h.walk; roles = go (sub t i) refl }
     where
-      go : (s : Term) → sub t i ≡ s → (n : ℕ) → n < size t → get_or (noted t i (root s) cast) n 0 ≡ ready_by t j n
+      go : (s : Term) → sub t i ≡ s → (n : ℕ) → n < size t → role_at (noted t i (root s) cast) n ≡ ready_by t j n
       go (leaf nil) e = silent _ e refl refl
       go (leaf (kill k)) e = kill-noted k e
       go (leaf (invoke p o ws)) e = silent _ e refl refl
@@ -161,7 +162,7 @@ module _ (t : Term) (w : Within t) (i j : ℕ) (l : i < size t) (h : Turn ready_
       go (both k a b) e = silent _ e refl refl
 
 -- a record that is neither a kill nor a receive says nothing
-pub noted_other : (t : Term) (i : ℕ) (cast : List ℕ) (c : Term) → kind_of c ≢ 1 → kind_of c ≢ 3 → cast ≡ noted t i (root c) cast
+pub noted_other : (t : Term) (i : ℕ) (cast : List Role) (c : Term) → kind_of c ≢ 1 → kind_of c ≢ 3 → cast ≡ noted t i (root c) cast
 unfolding noted kind_of root
 noted_other t i cast (leaf nil) a b = refl
 noted_other t i cast (leaf (kill k)) a b = absurd (a refl)
@@ -173,19 +174,9 @@ noted_other t i cast (under (delimitation d) c) a b = refl
 noted_other t i cast (under replication c) a b = refl
 noted_other t i cast (both j c d) a b = refl
 
--- A turn on a table, by the kind that the code has tested.
-module _ (s ends : List ℕ) (t : Term) (h : Table s ends t) (i : ℕ) (l : i < length s / 16) (cast : List ℕ) (room : length s / 16 ≤ length cast) (g : Noting t i cast) {b : Bool} (kind : b ≡ ready_kind (get_or s (16 * i) 0)) where
-  inside : i < size t
-  inside = table_inside s ends t h i l
-
-  turned : (j : ℕ) → Turn ready_kind t i j → Noting t j (noted t i (root (sub t i)) cast)
-  turned j u = noting_turn t h.within i j inside u cast (omega (arith, table_size s ends t h)) g
-
-  pub noting_through : b ≡ true → Noting t (i + 1) cast
-  unfolding open_kinds
-  noting_through e =
-      let no : (k : ℕ) → ready_kind k ≡ false → kind_of (sub t i) ≢ k = λ k f q. clash (sym kind ∙ e) (ap ready_kind (holds_kind s t i h.holds inside ∙ q) ∙ f) in
-      subst (Noting t (i + 1)) (sym (noted_other t i cast (sub t i) (no 1 refl) (no 3 refl))) (turned (i + 1) (turn_through s ends t h i l ready_kind g.walk kind e))
-
-  pub noting_over : b ≡ false → (next : ℕ) → next ≡ get_or ends i 0 → (then : List ℕ) → then ≡ noted t i (root (sub t i)) cast → Noting t next then
-  noting_over e next at then is = subst (Noting t next) (sym is) (turned next (turn_over s ends t h i l ready_kind g.walk kind e next at))
+-- A turn on a table, where the code has noted the record and has the next place.
+pub noting_past : (s ends : List ℕ) (t : Term) → Table s ends t → (i : ℕ) → i < length s / 16 → (cast : List Role) → length s / 16 ≤ length cast → Noting t i cast
+    → (j : ℕ) → j ≡ past_of s ends i → (then : List Role) → then ≡ noted t i (root (sub t i)) cast → Noting t j then
+noting_past s ends t h i l cast room g j at then is =
+    subst (Noting t j) (sym is)
+    (noting_turn t h.within i j (table_inside s ends t h i l) (turn_past s ends t h i l g.walk j at) cast (omega (arith, table_size s ends t h)) g)

@@ -1,17 +1,19 @@
 -- A turn of a walk over the active records of a table (ways, proofs/Seeking): the next place, and that no place between is active.
-use mathlib.Core.Path.{◌≡◌, refl, sym, ap, ◌∙◌}
+use mathlib.Core.Path.{◌≡◌, refl, sym, ap, subst, ◌∙◌}
 use mathlib.Core.Bool.{Bool, true, false}
 use mathlib.Core.List.{List}
 use Prim.Native.Nat.{ℕ, ◌+◌, ◌*◌, ◌/◌, ◌<◌}
 use native.Mathlib.Omega.{arith}
 use lib.ListN.{length, get_or}
 use Rattle.cows.specs.Terms.{Term}
+use Rattle.cows.specs.Kinds.{ready_kind}
 use Rattle.cows.specs.Places.{way_to}
 use Rattle.cows.proofs.Scans.{active, shut_below}
 use Rattle.records.proofs.StandsIn.{holds_kind}
 use Rattle.ways.specs.Known.{Table}
 use Rattle.ways.proofs.KnownTables.{table_ended, table_inside}
 use Rattle.ways.proofs.Seeking.{Seeking, table_next, table_through, table_over}
+use Rattle.holding.proofs.Passing.{past_of, past_case}
 
 -- the walk stands at an active place, or at the end
 abbrev pub Strides : (ℕ → Bool) → Term → ℕ → Type 0
@@ -35,3 +37,10 @@ module _ (s ends : List ℕ) (t : Term) (h : Table s ends t) (i : ℕ) (l : i < 
         walk = table_over s ends t h i l P _ w (λ i. refl) refl kind e next at;
         shut = λ m a b. shut_below P t i p (ap P (sym (holds_kind s t i h.holds p)) ∙ (sym kind ∙ e)) m a (omega (arith, table_ended s ends t h i p));
       }
+
+-- a step of the walk over the ready records (holding, next_ready)
+pub turn_past : (s ends : List ℕ) (t : Term) (h : Table s ends t) (i : ℕ) (l : i < length s / 16) → Strides ready_kind t i → (j : ℕ) → j ≡ past_of s ends i → Turn ready_kind t i j
+turn_past s ends t h i l w j at =
+    past_case s ends t h i l j at (Turn ready_kind t i j)
+    (λ e z. subst (Turn ready_kind t i) (sym z) (turn_through s ends t h i l ready_kind w refl e))
+    (λ e z. turn_over s ends t h i l ready_kind w refl e j z)

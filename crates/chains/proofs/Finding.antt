@@ -19,17 +19,17 @@ use Rattle.records.specs.Holds.{Holds}
 use Rattle.records.proofs.StandsIn.{holds_size, holds_kind, holds_word}
 use Rattle.ways.proofs.Frames.{delimits-bytes}
 use Rattle.roles.specs.Roles.{first_of, behind_of}
-use Rattle.chains.specs.Chains.{class_of_pair, class_at, carries, in_class, ByAtom}
+use Rattle.chains.specs.Chains.{class_of_pair, class_at, scope_here, in_class, ByAtom}
 use Rattle.chains.proofs.Chaining.{hit, miss, ended, skip_to, FirstAt, first_most, Walking, walking_start, walking_at, walking_on, walking_less, walking_end, steps_left}
 
 -- the records of the class of atom a
 abbrev pub mates : List ℕ → ℕ → ℕ → Bool
-mates s a = in_class (carries s 16 8) (class_at s) (class_of_pair a 0)
+mates s a = in_class (scope_here s) (class_at s) (class_of_pair a 0)
 
 -- The walk for atom a stands at e: what is to be found is what is found from the place on.
 pub record Finding (s : List ℕ) (a e : ℕ) : Type 0 where
   pub place : ℕ
-  pub walk : Walking (carries s 16 8) (class_at s) (length s / 16) (class_of_pair a 0) place e
+  pub walk : Walking (scope_here s) (class_at s) (length s / 16) (class_of_pair a 0) place e
   pub answer : (t : Term) → Holds s t → behind_of t a ≡ first_of (λ n. delimits_at a (sub t n)) (length s / 16) place
 
 pub walk_most : (s : List ℕ) (a e : ℕ) → Finding s a e → e ≤ length s / 16
@@ -48,7 +48,7 @@ module _ (s : List ℕ) (a : ℕ) where
         holds_word s t j 4 h placed (omega arith) ∙ (ap (λ r. word (record16 (root r)) 4) q ∙ layout_second 8 d 0 0 [])
 
     in_mates : delimits_at a (sub t j) ≡ true → mates s a j ≡ true
-    unfolding in_class carries class_at
+    unfolding in_class scope_here class_at
     in_mates e =
         let (p, q) = and_true (eqb (get_or s (16 * j) 0) 8) _ (delimits-bytes s t j a h placed ∙ e) in
         let x : word s (16 * j + 2) ≡ a = eqb-true _ _ q in
@@ -61,7 +61,7 @@ module _ (s : List ℕ) (a : ℕ) where
 
     -- by the bytes of a record of the class
     mate_is : mates s a j ≡ true → delimits_at a (sub t j) ≡ eqb (word s (16 * j + 2)) a
-    unfolding in_class carries
+    unfolding in_class scope_here
     mate_is e = let p = (and_true (eqb (get_or s (16 * j) 0) 8) _ e).0 in sym (delimits-bytes s t j a h placed) ∙ rw p
 
   module _ (heads next : List ℕ) (k : ByAtom s heads next) where

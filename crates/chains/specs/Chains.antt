@@ -2,7 +2,9 @@
 use Rattle.std.specs.Prelude.{◌≡◌, Bool, true, ◌&&◌, List, ℕ, ◌+◌, ◌*◌, ◌/◌, ◌%◌, ◌≤◌, ◌<◌, eqb, length, get_or}
 use Rattle.cows.specs.Limits.{max_records}
 use Rattle.cows.specs.Format.{word}
-use Rattle.roles.specs.Roles.{first_of, sender_role}
+use Rattle.roles.specs.declared.Role.{Role}
+use Rattle.roles.specs.declared.Role.TheVariants.{Sender}
+use Rattle.roles.specs.Roles.{is_role, role_at, first_of}
 
 -- how many classes there are
 abbrev pub classes : ℕ
@@ -18,9 +20,12 @@ class_of_pair p o = (31 * p + o) % classes
 unfoldable pub class_at : List ℕ → ℕ → ℕ
 class_at s i = class_of_pair (word s (16 * i + 2)) (word s (16 * i + 4))
 
--- place i carries the mark, in marks of so many bytes a place
-unfoldable pub carries : (marks : List ℕ) (width mark : ℕ) → ℕ → Bool
-carries marks width mark i = eqb (get_or marks (width * i) 0) mark
+-- The record at place i is a delimitation, by its kind; it is an invoke that may be a party, by its role.
+unfoldable pub scope_here : List ℕ → ℕ → Bool
+scope_here s i = eqb (get_or s (16 * i) 0) 8
+
+unfoldable pub sender_here : List Role → ℕ → Bool
+sender_here cast i = is_role (role_at cast i) Sender
 
 -- of those that pass, the ones of class c
 unfoldable pub in_class : (ℕ → Bool) → (ℕ → ℕ) → ℕ → ℕ → Bool
@@ -41,14 +46,14 @@ pub record Chainable (s heads next : List ℕ) : Type 0 where
 
 -- The delimitations of a table are chained. The other fields are here for `omega`.
 pub record ByAtom (s heads next : List ℕ) : Type 0 where
-  pub chained : Chained (carries s 16 8) (class_at s) (length s / 16) heads next 0
+  pub chained : Chained (scope_here s) (class_at s) (length s / 16) heads next 0
   pub wide : length heads ≡ classes
   pub room : length s / 16 ≤ length next
   pub whole : length s ≡ 16 * (length s / 16)
 
 -- The invokes that may be a party, by their roles in `cast`, are chained. The other fields are here for `omega`.
-pub record BySender (s cast heads next : List ℕ) : Type 0 where
-  pub chained : Chained (carries cast 1 sender_role) (class_at s) (length s / 16) heads next 0
+pub record BySender (s : List ℕ) (cast : List Role) (heads next : List ℕ) : Type 0 where
+  pub chained : Chained (sender_here cast) (class_at s) (length s / 16) heads next 0
   pub wide : length heads ≡ classes
   pub room : length s / 16 ≤ length next
   pub whole : length s ≡ 16 * (length s / 16)

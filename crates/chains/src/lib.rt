@@ -1,21 +1,21 @@
-// Chains: the records of a table that carry a mark, in classes by their first two atoms, each chain from the first place to the last. `heads` has for a class
+// Chains: the records of a table that pass a test, in classes by their first two atoms, each chain from the first place to the last. `heads` has for a class
 // the place behind its first record, and `next` for a record the place behind the next one of its class, or 0.
 #![tactic(auto)]
 
-ghost use Rattle.std.specs.Prelude.{◌≡◌, ℕ, ◌+◌, ◌*◌, ◌/◌, ◌<◌, ◌≤◌, length};
-ghost use Rattle.cows.specs.Limits.{max_records, max_bytes};
+ghost use Rattle.std.specs.Prelude.{◌≡◌, Bool, ℕ, ◌+◌, ◌*◌, ◌/◌, ◌<◌, ◌≤◌, length, get_or};
 ghost use Rattle.cows.specs.Terms.{Term};
 ghost use Rattle.records.specs.Holds.{Holds};
 ghost use Rattle.roles.specs.Roles.{behind_of};
-ghost use Rattle.chains.specs.Chains.{classes, Blank, class_of_pair, class_at, carries, Chained, Chainable, ByAtom, BySender};
+ghost use Rattle.chains.specs.Chains.{classes, class_of_pair, class_at, Chained, Chainable, ByAtom, BySender};
 
-use records::{kinds, wide16, word_at};
+use records::{kinds, word_at};
+use roles::Role;
 
 // The class of two numbers.
 fn class_of(first: u16, second: u16) -> usize
     ensures { (result ≡ class_of_pair first second) × (result < classes) }
 {
-    (31 * wide16(first) + wide16(second)) % 256
+    (31 * usize::from(first) + usize::from(second)) % 256
 }
 
 // The class of the record at place i.
@@ -26,20 +26,18 @@ pub fn class_at(s: &[u8], i: usize) -> usize
     class_of(word_at(s, 16 * i + 2), word_at(s, 16 * i + 4))
 }
 
-// Chains the records at whose places `marks`, of so many bytes for each, has the mark; from the last to the first.
-fn chain(s: &[u8], marks: &[u8], width: usize, mark: u8, heads: &mut [u16], next: &mut [u16])
-    requires { (length s.now / 16 ≤ max_records) × (length heads.old ≡ classes) × Blank heads.old × (length s.now / 16 ≤ length next.old) × ((i : ℕ) → i < length s.now / 16 → (width * i < max_bytes) × (width * i < length marks.now)) }
-    ensures { Chained (carries marks.now width mark) (class_at s.now) (length s.now / 16) heads.new next.new 0 }
+// Chains the records that pass, from the last to the first.
+fn chain<F: Fn(usize) -> bool>(s: &[u8], passes: F, heads: &mut [u16], next: &mut [u16])
+    requires room { Chainable s.now heads.old next.old }
+    requires test { (i : ℕ) → i < length s.now / 16 → F.pre passes i }
+    ensures { (f : ℕ → Bool) → ((i : ℕ) → i < length s.now / 16 → (b : Bool) → F.post passes i b → b ≡ f i) → Chained f (class_at s.now) (length s.now / 16) heads.new next.new 0 }
 {
-    let mut i = s.len() / 16;
-    while 0 < i {
-        i -= 1;
-        if marks[width * i] != mark {
-            continue;
+    for i in (0..s.len() / 16).rev() {
+        if passes(i) {
+            let c = class_at(s, i);
+            next[i] = heads[c];
+            heads[c] = (i + 1) as u16;
         }
-        let c = class_at(s, i);
-        next[i] = heads[c];
-        heads[c] = (i + 1) as u16;
     }
 }
 
@@ -48,28 +46,54 @@ pub fn chain_scopes(s: &[u8], heads: &mut [u16], next: &mut [u16])
     requires { Chainable s.now heads.old next.old }
     ensures { ByAtom s.now heads.new next.new }
 {
-    chain(s, s, 16, kinds::DELIMITATION, heads, next);
+    chain(s, |i| s[16 * i] == kinds::DELIMITATION, heads, next);
 }
 
 // Chains the invokes that may be a party, by their roles.
-pub fn chain_senders(s: &[u8], cast: &[u8], heads: &mut [u16], next: &mut [u16])
+pub fn chain_senders(s: &[u8], cast: &[Role], heads: &mut [u16], next: &mut [u16])
     requires { Chainable s.now heads.old next.old × (length s.now / 16 ≤ length cast.now) }
     ensures { BySender s.now cast.now heads.new next.new }
 {
-    chain(s, cast, 1, roles::SENDER, heads, next);
+    chain(s, |i| cast[i] == Role::Sender, heads, next);
 }
 
-// The place behind the delimitation of the atom, or 0.
-pub fn behind(s: &[u8], heads: &[u16], next: &[u16], atom: u16) -> usize
-    requires { ByAtom s.now heads.now next.now }
-    ensures { (t : Term) → Holds s.now t → result ≡ behind_of t atom }
-{
-    let mut e = wide16(heads[class_of(atom, 0)]);
-    while 0 < e {
-        if word_at(s, 16 * (e - 1) + 2) == atom {
-            return e;
-        }
-        e = wide16(next[e - 1]);
+// The chains of a table, to be walked. 0 stands for no place, since the arrays hold places that the next one is behind.
+#[derive(Clone, Copy)]
+pub struct Chains<'a> {
+    pub heads: &'a [u16],
+    pub next: &'a [u16],
+}
+
+impl<'a> Chains<'a> {
+    // The place behind the first record of the class, or 0.
+    pub fn first(&self, class: usize) -> usize
+        requires { class < length self.now.heads.now }
+        ensures { result ≡ get_or self.now.heads.now class 0 }
+    {
+        usize::from(self.heads[class])
     }
-    0
+
+    // The place behind the next record of its class, or 0.
+    pub fn after(&self, i: usize) -> usize
+        requires { i < length self.now.next.now }
+        ensures { result ≡ get_or self.now.next.now i 0 }
+    {
+        usize::from(self.next[i])
+    }
+
+    // The place behind the delimitation of the atom, or 0.
+    pub fn behind(&self, s: &[u8], atom: u16) -> usize
+        requires { ByAtom s.now self.now.heads.now self.now.next.now }
+        ensures { (t : Term) → Holds s.now t → result ≡ behind_of t atom }
+    {
+        let mut e = self.first(class_of(atom, 0));
+        // A walk along a chain: the next place is read off it.
+        while 0 < e {
+            if word_at(s, 16 * (e - 1) + 2) == atom {
+                return e;
+            }
+            e = self.after(e - 1);
+        }
+        0
+    }
 }

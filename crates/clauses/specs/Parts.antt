@@ -1,8 +1,14 @@
 -- How the term of a clause is written: the records before, between and behind those of its parts.
 use Rattle.std.specs.Prelude.{List, [], ◌∷◌, ℕ}
+use mathlib.Core.List.{flat_map}
 use Rattle.cows.specs.Terms.{Basic, nil, kill, invoke, receive, delimitation, replication, parallel}
 use Rattle.cows.specs.Kinds.{Node, basic, prefix, join}
+use Rattle.cows.specs.Format.{bytes2}
 use Rattle.orc.specs.Expressions.{Act, nothing, call}
+
+-- the bytes of 16-bit numbers, one behind the other
+abbrev pub words : List ℕ → List ℕ
+words ns = flat_map bytes2 ns
 
 -- 0, and the message S!⟨w, p·o⟩
 unfoldable pub sends : (p o : ℕ) → Act → Basic

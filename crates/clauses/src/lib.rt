@@ -1,67 +1,74 @@
 // Clauses: the records that the clauses of a translation write before, between and behind those of their parts (orc, specs/Translation). Places are bytes of the output.
 #![tactic(auto)]
 
-ghost use Rattle.std.specs.Prelude.{◌≡◌, [], ◌∷◌, ◌++◌, ◌+◌, ◌*◌, ◌≤◌, length};
-ghost use Rattle.cows.specs.Terms.{receive, delimitation, parallel};
+ghost use Rattle.std.specs.Prelude.{◌≡◌, [], ◌∷◌, ◌+◌, ◌*◌, ◌≤◌, length};
+ghost use Rattle.cows.specs.Terms.{kill, receive, delimitation, replication, parallel};
 ghost use Rattle.cows.specs.Kinds.{basic, prefix, join};
-ghost use Rattle.cows.specs.Format.{bytes2, record16, bytes};
+ghost use Rattle.cows.specs.Format.{record16, bytes};
 ghost use Rattle.records.specs.Rewrites.{put};
 ghost use Rattle.orc.specs.Expressions.{Act, act};
 ghost use Rattle.scripts.specs.Standing.{ScriptAt};
-ghost use Rattle.clauses.specs.Parts.{sends, sequence_head, sequence_middle, where_head, where_middle, where_tail};
+ghost use Rattle.clauses.specs.Parts.{words, sends, sequence_head, sequence_middle, where_head, where_middle, where_tail};
 
 use records::copying::put_word;
 use records::word_at;
-use scripts::kinds;
+use scripts::{Endpoint, kinds};
 
-// A record without an interval: kind and count in one number, two atoms, and three slots of the tuple.
-fn put_fields(head: u16, first: u16, second: u16, w: u16, x: u16, y: u16, out: &mut [u8], at: usize)
+// A record by its eight numbers: kind and count in one, two atoms, the four slots of the tuple, and the interval.
+fn put_fields(fields: [u16; 8], out: &mut [u8], at: usize)
     requires { at + 16 ≤ length out.old }
-    ensures { out.new ≡ put out.old at (bytes2 head ++ bytes2 first ++ bytes2 second ++ bytes2 w ++ bytes2 x ++ bytes2 y ++ bytes2 0 ++ bytes2 0) }
+    ensures { out.new ≡ put out.old at (words fields) }
 {
-    put_word(head, out, at);
-    put_word(first, out, at + 2);
-    put_word(second, out, at + 4);
-    put_word(w, out, at + 6);
-    put_word(x, out, at + 8);
-    put_word(y, out, at + 10);
-    put_word(0, out, at + 12);
-    put_word(0, out, at + 14);
+    for i in 0..8 {
+        put_word(fields[i], out, at + 2 * i);
+    }
 }
 
 fn put_delimitation(d: u16, out: &mut [u8], at: usize)
     requires { at + 16 ≤ length out.old }
     ensures { out.new ≡ put out.old at (record16 (prefix (delimitation d))) }
 {
-    put_fields(8, d, 0, 0, 0, 0, out, at);
+    put_fields([8, d, 0, 0, 0, 0, 0, 0], out, at);
+}
+
+fn put_replication(out: &mut [u8], at: usize)
+    requires { at + 16 ≤ length out.old }
+    ensures { out.new ≡ put out.old at (record16 (prefix replication)) }
+{
+    put_fields([9, 0, 0, 0, 0, 0, 0, 0], out, at);
+}
+
+fn put_kill(k: u16, out: &mut [u8], at: usize)
+    requires { at + 16 ≤ length out.old }
+    ensures { out.new ≡ put out.old at (record16 (basic (kill k))) }
+{
+    put_fields([1, k, 0, 0, 0, 0, 0, 0], out, at);
 }
 
 // The receive p·o?⟨x⟩.
-fn put_receive(p: u16, o: u16, x: u16, out: &mut [u8], at: usize)
+fn put_receive(from: Endpoint, x: u16, out: &mut [u8], at: usize)
     requires { at + 16 ≤ length out.old }
-    ensures { out.new ≡ put out.old at (record16 (prefix (receive p o (x ∷ [])))) }
+    ensures { out.new ≡ put out.old at (record16 (prefix (receive from.partner from.operation (x ∷ [])))) }
 {
-    put_fields(259, p, o, x, 0, 0, out, at);
+    put_fields([259, from.partner, from.operation, x, 0, 0, 0, 0], out, at);
 }
 
 // Nothing, or the call of a site: the message of its parameter and the result endpoint.
-pub fn put_act(s: &[u8], i: usize, partner: u16, operation: u16, out: &mut [u8], at: usize)
+pub fn put_act(s: &[u8], i: usize, to: Endpoint, out: &mut [u8], at: usize)
     requires { (8 * i + 8 ≤ length s.now) × (at + 16 ≤ length out.old) }
-    ensures { (x : Act) → ScriptAt s.now i (act x) → out.new ≡ put out.old at (record16 (basic (sends partner operation x))) }
+    ensures { (x : Act) → ScriptAt s.now i (act x) → out.new ≡ put out.old at (record16 (basic (sends to.partner to.operation x))) }
 {
     if s[8 * i] == kinds::CALL {
+        let site = word_at(s, 8 * i + 4);
+        let service = word_at(s, 8 * i + 6);
+        let w = word_at(s, 8 * i + 2);
         put_fields(
-            770,
-            word_at(s, 8 * i + 4),
-            word_at(s, 8 * i + 6),
-            word_at(s, 8 * i + 2),
-            partner,
-            operation,
+            [770, site, service, w, to.partner, to.operation, 0, 0],
             out,
             at,
         );
     } else {
-        put_fields(0, 0, 0, 0, 0, 0, out, at);
+        put_fields([0; 8], out, at);
     }
 }
 
@@ -69,36 +76,36 @@ pub fn put_parallel(out: &mut [u8], at: usize)
     requires { at + 16 ≤ length out.old }
     ensures { out.new ≡ put out.old at (record16 (join parallel)) }
 {
-    put_fields(6, 0, 0, 0, 0, 0, out, at);
+    put_fields([6, 0, 0, 0, 0, 0, 0, 0], out, at);
 }
 
 // What a sequence writes before its left part: [p, o](
-pub fn put_sequence_head(p: u16, o: u16, out: &mut [u8], at: usize)
+pub fn put_sequence_head(e: Endpoint, out: &mut [u8], at: usize)
     requires { at + 48 ≤ length out.old }
-    ensures { out.new ≡ put out.old at (bytes (sequence_head p o)) }
+    ensures { out.new ≡ put out.old at (bytes (sequence_head e.partner e.operation)) }
 {
-    put_delimitation(p, out, at);
-    put_delimitation(o, out, at + 16);
+    put_delimitation(e.partner, out, at);
+    put_delimitation(e.operation, out, at + 16);
     put_parallel(out, at + 32);
 }
 
 // And between its parts: *[x] p·o?⟨x⟩.
-pub fn put_sequence_middle(p: u16, o: u16, x: u16, out: &mut [u8], at: usize)
+pub fn put_sequence_middle(e: Endpoint, x: u16, out: &mut [u8], at: usize)
     requires { at + 48 ≤ length out.old }
-    ensures { out.new ≡ put out.old at (bytes (sequence_middle p o x)) }
+    ensures { out.new ≡ put out.old at (bytes (sequence_middle e.partner e.operation x)) }
 {
-    put_fields(9, 0, 0, 0, 0, 0, out, at);
+    put_replication(out, at);
     put_delimitation(x, out, at + 16);
-    put_receive(p, o, x, out, at + 32);
+    put_receive(e, x, out, at + 32);
 }
 
 // What a where writes before its left part: [p, o, x](
-pub fn put_where_head(p: u16, o: u16, x: u16, out: &mut [u8], at: usize)
+pub fn put_where_head(e: Endpoint, x: u16, out: &mut [u8], at: usize)
     requires { at + 64 ≤ length out.old }
-    ensures { out.new ≡ put out.old at (bytes (where_head p o x)) }
+    ensures { out.new ≡ put out.old at (bytes (where_head e.partner e.operation x)) }
 {
-    put_delimitation(p, out, at);
-    put_delimitation(o, out, at + 16);
+    put_delimitation(e.partner, out, at);
+    put_delimitation(e.operation, out, at + 16);
     put_delimitation(x, out, at + 32);
     put_parallel(out, at + 48);
 }
@@ -113,10 +120,10 @@ pub fn put_where_middle(k: u16, out: &mut [u8], at: usize)
 }
 
 // And behind its right part: p·o?⟨x⟩.kill(k)
-pub fn put_where_tail(p: u16, o: u16, x: u16, k: u16, out: &mut [u8], at: usize)
+pub fn put_where_tail(e: Endpoint, x: u16, k: u16, out: &mut [u8], at: usize)
     requires { at + 32 ≤ length out.old }
-    ensures { out.new ≡ put out.old at (bytes (where_tail p o x k)) }
+    ensures { out.new ≡ put out.old at (bytes (where_tail e.partner e.operation x k)) }
 {
-    put_receive(p, o, x, out, at);
-    put_fields(1, k, 0, 0, 0, 0, out, at + 16);
+    put_receive(e, x, out, at);
+    put_kill(k, out, at + 16);
 }

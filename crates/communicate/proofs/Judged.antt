@@ -19,14 +19,15 @@ use Rattle.ways.specs.Known.{Table}
 use Rattle.ways.specs.Ways.{start_of, live_there, LiveAt}
 use Rattle.ways.proofs.KnownTables.{table_size, table_ended}
 use Rattle.matching.specs.declared.Difference.{Difference}
-use Rattle.matching.specs.declared.Fit.{Fit}
-use Rattle.matching.specs.declared.Fit.TheVariants.{Binds, Differs}
+use Rattle.std.specs.Prelude as rust
+use Rattle.std.specs.Prelude.{Ok, Err}
 use Rattle.matching.specs.Matching.{difference_of, mismatch_of, fit_of, ActionAt}
 use Rattle.matching.proofs.Matches.{mismatch_same}
 use Rattle.matching.proofs.Parties.{receive_here, invoke_here}
-use Rattle.plans.specs.declared.Judgement.TheVariants.{Allowed}
-use Rattle.plans.specs.declared.Plan.{Plan}
-use Rattle.plans.specs.Plans.{Planned}
+use Rattle.plans.proofs.Mapped.{MappedErr, mapped_err}
+use Rattle.plans.specs.declared.Refusal.{Refusal}
+use Rattle.plans.specs.declared.Refusal.TheVariants.{Differs}
+use Rattle.plans.specs.Plans.{refusal_of, Allowed}
 use Rattle.plans.specs.Cutting.{Span}
 use Rattle.plans.proofs.Planning.{within_limits, planned_allowed, absent}
 use Rattle.plans.proofs.Continuing.{span}
@@ -84,23 +85,30 @@ module _ {s ends : List ℕ} {t : Term} {a b : ℕ} (z : Table s ends t) (h : Bo
   pub ends_b : ActionAt s b m
   ends_b = invoke.2
 
-  pub parties_fit : {r : Fit} → ((q m : Action) → ActionAt s a q → ActionAt s b m → r ≡ fit_of (fit q m)) → r ≡ fit_of (fit q m)
+  pub parties_fit : {r : rust.Result ℕ Difference} → ((q m : Action) → ActionAt s a q → ActionAt s b m → r ≡ fit_of (fit q m)) → r ≡ fit_of (fit q m)
   parties_fit f = f q m receive.2 ends_b
 
-  pub differ : (d : Difference) → Differs d ≡ fit_of (fit q m) → communicate_at t a b ≡ refuse 12 (mismatch_number (mismatch_of d))
+  pub differ : (d : Difference) → Err d ≡ fit_of (fit q m) → communicate_at t a b ≡ refuse 12 (mismatch_number (mismatch_of d))
   unfolding communicate_at ◌>>=◌ matched
   differ d e = rw (receive-wanted h.receive, invoke-wanted, go (fit q m) e)
     where
-      go : (x : Matching) → Differs d ≡ fit_of x → matched x ≡ refuse 12 (mismatch_number (mismatch_of d))
+      go : (x : Matching) → Err d ≡ fit_of x → matched x ≡ refuse 12 (mismatch_number (mismatch_of d))
       go (binds σ) y = absurd (let c : ◌≡◌ {A = ℕ} 0 1 = cc in omega arith)
       go (differs x) y = let c : difference_of x ≡ d = cc in ap (λ i. refuse 12 (mismatch_number i)) (sym (mismatch_same x) ∙ ap mismatch_of c)
 
+  -- a difference is told as the refusal 12
+  pub told_apart : {f : rust.Result ℕ Difference} {r : rust.Result ℕ Refusal} {v : Refusal} → ((q m : Action) → ActionAt s a q → ActionAt s b m → f ≡ fit_of (fit q m))
+      → MappedErr (λ d w. w ≡ Differs (mismatch_number (mismatch_of d))) r f → r ≡ Err v → communicate_at t a b ≡ refusal_of v
+  told_apart {f} {r} e k y =
+      let (d, x, w) = mapped_err _ r f k y in
+      differ d (sym x ∙ parties_fit e) ∙ ap refusal_of (sym w)
+
   -- They fit, and bind l variables.
-  module _ {l : ℕ} (e : Binds l ≡ fit_of (fit q m)) where
+  module _ {l : ℕ} (e : Ok l ≡ fit_of (fit q m)) where
     pub pairs : (σ : Substitution) × (fit q m ≡ binds σ) × (l ≡ length σ)
     pairs = go (fit q m) refl e
       where
-        go : (x : Matching) → fit q m ≡ x → Binds l ≡ fit_of x → (σ : Substitution) × (fit q m ≡ binds σ) × (l ≡ length σ)
+        go : (x : Matching) → fit q m ≡ x → Ok l ≡ fit_of x → (σ : Substitution) × (fit q m ≡ binds σ) × (l ≡ length σ)
         go (binds σ) y c = (σ, y, let d : l ≡ length σ = cc in d)
         go (differs x) y c = absurd (let d : ◌≡◌ {A = ℕ} 0 1 = cc in omega arith)
 
@@ -157,8 +165,8 @@ module _ {s ends : List ℕ} {t : Term} {a from : ℕ} (z : Table s ends t) (h :
         let i : from < size t = omega (arith, receive_span) in
         omega (arith, m.count, ap (λ c. size (sub t c)) f, table_ended s ends t z a h.inside, table_ended s ends t z from i, receive_span)
 
-    pub meeting_planned : (r : Plan) (i j : ℕ) → r.judgement ≡ Allowed i → i ≡ j - l → j ≡ length s / 16 - (get_or ends from 0 - from) + (get_or ends a 0 - a - 1) → r.from ≡ from
-        → Planned (communicate_at t a b) (start_of a (way_to t a)) r
-    meeting_planned r i j g c d o =
+    pub meeting_planned : (j : ℕ) → j ≡ length s / 16 - (get_or ends from 0 - from) + (get_or ends a 0 - a - 1)
+        → Allowed (communicate_at t a b) (start_of a (way_to t a)) (record { records = j - l; from = from })
+    meeting_planned j d =
         let w = (accepted_met t m.after a b z.within m.accepted).leaves in
-        planned_allowed r m.after i g m.accepted (within_limits m.after w.small w.shallow) (omega (arith, records_left)) (o ∙ f)
+        planned_allowed m.after m.accepted _ (within_limits m.after w.small w.shallow) (omega (arith, records_left)) f

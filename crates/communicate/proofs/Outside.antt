@@ -1,29 +1,31 @@
 -- Outside the outermost delimitation that goes (specs/Outermost) a communication leaves every record as it is: there no record holds a variable that takes a value.
 use mathlib.Core.Path.{◌≡◌, refl, sym, ap, subst, ◌∙◌}
-use mathlib.Core.Bool.{true, false, ◌||◌}
+use mathlib.Core.Bool.{true, false}
 use mathlib.Core.Option.{none, some}
 use mathlib.Core.List.{List, [], ◌∷◌}
-use Prim.Native.Nat.{ℕ, ◌+◌, ◌*◌, ◌-◌, ◌≤◌, ◌<◌}
+use Prim.Native.Nat.{ℕ, suc, min, ◌+◌, ◌-◌, ◌≤◌, ◌<◌}
 use native.Mathlib.Omega.{arith}
 use lib.Dec.{eqb}
-use lib.ListN.{get_or}
+use lib.ListN.{length, get_or, take}
+use lib.Seq.{get_or-take, length-take-le, take_all}
 use borrow.Author.Tests.{eqb-true}
 use Rattle.cows.specs.Basics.{any, member}
 use Rattle.cows.specs.Terms.{Term, Action, size, variable, label, bindable, delimits_at, uses}
 use Rattle.cows.specs.Kinds.{root}
 use Rattle.cows.specs.Places.{way_to, sub, enclosed}
-use Rattle.cows.specs.Format.{word, record16}
+use Rattle.cows.specs.Format.{record16}
 use Rattle.cows.specs.Allows.{AllReach}
 use Rattle.cows.specs.Moves.{Substitution}
-use Rattle.cows.proofs.Basics.{never, clash, bool_case, not_so, or_case, or_left, found_some}
+use Rattle.cows.proofs.Basics.{never, clash, bool_case, not_so, or_case, lt_case, or_left, found_some}
 use Rattle.cows.proofs.Places.{size_pos, spot_fits}
 use Rattle.cows.proofs.Reach.{is_delimits_at, enclosed_reaches}
 use Rattle.cows.proofs.Meeting.{in_scope_reaches}
 use Rattle.cows.proofs.Stands.{scoped_at}
 use Rattle.records.specs.declared.Variable.{Variable}
-use Rattle.records.specs.declared.Value.{Value}
-use Rattle.records.specs.declared.Takes.{Takes}
-use Rattle.records.specs.declared.Takes.TheVariants.{Pair, Nothing}
+use Rattle.records.specs.declared.Binding.{Binding}
+use Rattle.std.specs.Prelude as rust
+use Rattle.std.specs.Prelude.{Some, None}
+use Rattle.std.specs.List.{list_any}
 use Rattle.records.specs.Atoms.{takes_variable}
 use Rattle.records.proofs.Atoms.{class_variable}
 use Rattle.records.proofs.StandsIn.{stands_record, holds_stands}
@@ -32,57 +34,58 @@ use Rattle.ways.specs.Ways.{Over, scope_of}
 use Rattle.ways.proofs.KnownTables.{table_size, table_ended}
 use Rattle.ways.proofs.Starts.{Scope, scope_at, scope_found}
 use Rattle.ways.proofs.Once.{one_delimitation}
-use Rattle.matching.specs.Taking.{takes_of}
 use Rattle.renaming.specs.Bound.{takes_one, record_bound, Unchanged}
 use Rattle.renaming.proofs.Bound.{not_taken, untaken_stays}
 use Rattle.scoping.proofs.InScope.{bound_used}
-use Rattle.holding.proofs.HeldBack.{part_sub}
-use Rattle.communicate.specs.Outermost.{NoneAhead, Outer, Outermost}
+use Rattle.ways.proofs.Parts.{part_ends}
+use Rattle.communicate.specs.Outermost.{slots_taken, NoneAhead, Outer, Outermost}
 use Rattle.communicate.proofs.Left.{Matched}
 use Rattle.communicate.proofs.Replacing.{taken-bound}
 
 -- The outer one of place p and the delimitation around place b of a variable that takes a value.
 module _ {t : Term} {b p : ℕ} (o : Over t p b) where
-  pub outer_none : Outer t b p Nothing p
+  pub outer_none : Outer t b p None p
   outer_none = record { over = o; low = omega arith; none_ahead = λ x e. never e }
 
-  module _ (x : Variable) (v : Value) where
-    pub outer_unscoped : scope_of x.0 (way_to t b) ≡ none → Outer t b p (Pair x v) p
-    outer_unscoped e = record { over = o; low = omega arith; none_ahead = λ y f q h. absurd (let z = eqb-true y.0 x.0 f in let w : ◌≡◌ {A = ℕ} 0 1 = cc in omega arith) }
+  module _ (x : Binding) where
+    pub outer_unscoped : scope_of x.variable.0 (way_to t b) ≡ none → Outer t b p (Some x) p
+    outer_unscoped e = record { over = o; low = omega arith; none_ahead = λ y f q h. absurd (let z = eqb-true y.0 x.variable.0 f in let w : ◌≡◌ {A = ℕ} 0 1 = cc in omega arith) }
 
-    module _ (q : ℕ) (e : scope_of x.0 (way_to t b) ≡ some q) where
-      ahead_of : (r : ℕ) → r ≤ q → NoneAhead t b (Pair x v) r
-      ahead_of r l y f k h = let z = eqb-true y.0 x.0 f in let w : k ≡ q = cc in omega arith
+    module _ (q : ℕ) (e : scope_of x.variable.0 (way_to t b) ≡ some q) where
+      ahead_of : (r : ℕ) → r ≤ q → NoneAhead t b (Some x) r
+      ahead_of r l y f k h = let z = eqb-true y.0 x.variable.0 f in let w : k ≡ q = cc in omega arith
 
-      pub outer_inside : p ≤ q → Outer t b p (Pair x v) p
+      outer_inside : p ≤ q → Outer t b p (Some x) p
       outer_inside l = record { over = o; low = omega arith; none_ahead = ahead_of p l }
 
-      pub outer_scope : b < size t → q < p → Outer t b p (Pair x v) q
+      outer_scope : b < size t → q < p → Outer t b p (Some x) q
       outer_scope i l =
-          let c = scope_at t b (way_to t b) (sub t b) x.0 q (i, refl, refl) e in
+          let c = scope_at t b (way_to t b) (sub t b) x.variable.0 q (i, refl, refl) e in
           record { over = record { inside = c.inside; low = omega (arith, c.before); over = omega (arith, c.ends, size_pos (sub t b)) }; low = omega arith; none_ahead = ahead_of q (omega arith) }
+
+      pub outer_min : b < size t → Outer t b p (Some x) (min p q)
+      outer_min i =
+          lt_case (Outer t b p (Some x) (min p q)) q p (λ h. let z : min p q ≡ q = omega arith in rw z (outer_scope i h)) (λ h. let z : min p q ≡ p = omega arith in rw z (outer_inside h))
 
 -- The innermost is the invoke itself.
 pub over_itself : (t : Term) (b : ℕ) → b < size t → Over t b b
 over_itself t b l = record { inside = l; low = omega arith; over = omega (arith, size_pos (sub t b)) }
 
--- One behind the other.
-pub outers : {t : Term} {b p₀ p₁ p₂ p₃ r : ℕ} {t₀ t₁ t₂ t₃ : Takes} → Outer t b p₀ t₀ p₁ → Outer t b p₁ t₁ p₂ → Outer t b p₂ t₂ p₃ → Outer t b p₃ t₃ r → Outermost t b t₀ t₁ t₂ t₃ r
-outers c d e f = record {
-  over = f.over;
-  none_ahead₀ = λ x k q h. omega (arith, c.none_ahead x k q h, d.low, e.low, f.low);
-  none_ahead₁ = λ x k q h. omega (arith, d.none_ahead x k q h, e.low, f.low);
-  none_ahead₂ = λ x k q h. omega (arith, e.none_ahead x k q h, f.low);
-  none_ahead₃ = f.none_ahead;
-}
+-- Slot by slot: outside the first of them, and with the next.
+pub outers_start : {t : Term} {b : ℕ} (ts : List (rust.Option Binding)) → Over t b b → Outermost t b (take 0 ts) b
+outers_start ts o = record { over = o; none_ahead = λ i l. absurd (omega arith) }
 
--- a term that begins inside another ends there
-nested : (t : Term) (p q : ℕ) → Over t p q → q + size (sub t q) ≤ p + size (sub t p)
-nested t p q o =
-    let i : q - p < size (sub t p) = omega (arith, o.low, o.over) in
-    let z : p + (q - p) ≡ q = omega (arith, o.low) in
-    let y : sub t q ≡ sub (sub t p) (q - p) = ap (sub t) (sym z) ∙ part_sub t p o.inside (q - p) i in
-    omega (arith, ap size y, spot_fits (sub t p) (q - p) i, o.low)
+pub outers_turn : {t : Term} {b p r : ℕ} (ts : List (rust.Option Binding)) (i : ℕ) → i < length ts → Outermost t b (take i ts) p → Outer t b p (get_or ts i None) r → Outermost t b (take (i + 1) ts) r
+outers_turn {t} {b} {p} {r} ts i l o f = record { over = f.over; none_ahead = λ j m. turn j (omega (arith, length-take-le (i + 1) ts (omega arith))) }
+  where
+    turn : (j : ℕ) → j < i + 1 → NoneAhead t b (get_or (take (i + 1) ts) j None) r
+    turn j m = rw (get_or-take (i + 1) ts j None m)
+        (lt_case (NoneAhead t b (get_or ts j None) r) j i
+        (λ h x k q e. let z = rw (get_or-take i ts j None h) at (o.none_ahead j (omega (arith, length-take-le i ts (omega arith)))) in omega (arith, z x k q e, f.low))
+        (λ h. let z : j ≡ i = omega arith in rw z f.none_ahead))
+
+pub outers_end : {t : Term} {b r : ℕ} (ts : List (rust.Option Binding)) (i : ℕ) → length ts ≤ i → Outermost t b (take i ts) r → Outermost t b ts r
+outers_end ts i l o = rw (take_all i ts l) at o
 
 -- a variable that is bound is delimited around the invoke
 bound-enclosed : (t : Term) (a b x : ℕ) (σ : Substitution) → AllReach t a b σ → any (λ (p : ℕ × ℕ). eqb p.0 x) σ ≡ true → enclosed x (way_to t b) ≡ true
@@ -93,14 +96,14 @@ bound-enclosed t a b x (p ∷ σ) h e =
 
 -- The receive q at place a and the invoke m at place b match.
 module _ {s ends : List ℕ} {t : Term} (k : Table s ends t) (a b : ℕ) (q m : Action) (σ : Substitution) (h : Matched t a b q m σ) where
-  abbrev slot : ℕ → Takes
-  slot i = takes_of (word s (16 * a + i)) (word s (16 * b + i))
+  abbrev four : List (rust.Option Binding)
+  four = slots_taken s a b
 
   abbrev taken : ℕ → Type 0
-  taken x = takes_one (slot 6) (slot 8) (slot 10) (slot 12) x ≡ true
+  taken x = takes_one four x ≡ true
 
   taken-variable : (x : ℕ) → taken x → variable x ≡ true
-  taken-variable x e = bool_case _ (variable x) (λ v. v) (λ v. clash e (not_taken (slot 6) (slot 8) (slot 10) (slot 12) x v))
+  taken-variable x e = bool_case _ (variable x) (λ v. v) (λ v. clash e (not_taken four x v))
 
   taken_scope : (x : ℕ) → taken x → (p : ℕ) × (scope_of x (way_to t b) ≡ some p) × Scope t b (sub t b) x p
   taken_scope x e =
@@ -108,14 +111,16 @@ module _ {s ends : List ℕ} {t : Term} (k : Table s ends t) (a b : ℕ) (q m : 
       let (p, f) = found_some (scope_of x (way_to t b)) (sym (scope_found x (way_to t b)) ∙ r) in
       (p, f, scope_at t b (way_to t b) (sub t b) x p (h.sender, refl, refl) f)
 
-  module _ (low : ℕ) (o : Outermost t b (slot 6) (slot 8) (slot 10) (slot 12) low) where
+  module _ (low : ℕ) (o : Outermost t b four low) where
+    first-behind : (v : Variable) (p : ℕ) → scope_of v.0 (way_to t b) ≡ some p → (ts : List (rust.Option Binding)) → ((i : ℕ) → i < length ts → NoneAhead t b (get_or ts i None) low) → list_any (λ x. takes_variable x v) ts ≡ true → low ≤ p
+    first-behind v p f [] h e = never e
+    first-behind v p f (x ∷ ts) h e =
+        or_case (low ≤ p) (takes_variable x v) _ e (λ w. h 0 (omega arith) v w p f) (first-behind v p f ts (λ i l. h (suc i) (omega arith)))
+
     taken-behind : (x : ℕ) → taken x → (p : ℕ) → scope_of x (way_to t b) ≡ some p → low ≤ p
     taken-behind x e p f =
-        let v : Variable = record { 0 = x } in
         let w = rw (class_variable x (taken-variable x e)) at e in
-        or_case (low ≤ p) (takes_variable (slot 6) v || takes_variable (slot 8) v || takes_variable (slot 10) v) (takes_variable (slot 12) v) w
-        (λ w. or_case (low ≤ p) (takes_variable (slot 6) v || takes_variable (slot 8) v) (takes_variable (slot 10) v) w
-        (λ w. or_case (low ≤ p) (takes_variable (slot 6) v) (takes_variable (slot 8) v) w (λ w. o.none_ahead₀ v w p f) (λ w. o.none_ahead₁ v w p f)) (λ w. o.none_ahead₂ v w p f)) (λ w. o.none_ahead₃ v w p f)
+        first-behind (record { 0 = x }) p f four o.none_ahead w
 
     -- its delimitation lies inside the term at place low
     taken-inside : (x j : ℕ) → taken x → j < size t → delimits_at x (sub t j) ≡ true → (low ≤ j) × (j + size (sub t j) ≤ low + size (sub t low))
@@ -124,24 +129,24 @@ module _ {s ends : List ℕ} {t : Term} (k : Table s ends t) (a b : ℕ) (q m : 
         let z = one_delimitation t k.within.formed x j p l c.inside d (is_delimits_at x (sub t p) _ c.stands) in
         let i = taken-behind x e p f in
         let u : Over t low j = record { inside = o.over.inside; low = omega arith; over = omega (arith, o.over.over, c.before) } in
-        (omega arith, nested t low j u)
+        (omega arith, part_ends t low j u.inside u.low u.over)
 
     -- and so does each record that holds it
     module _ (j : ℕ) (l : j < size t) (out : (low ≤ j → j < low + size (sub t low) → ⊥)) where
-      not_used : (x : ℕ) → member x (uses (sub t j)) ≡ true → takes_one (slot 6) (slot 8) (slot 10) (slot 12) x ≡ false
+      not_used : (x : ℕ) → member x (uses (sub t j)) ≡ true → takes_one four x ≡ false
       not_used x u = not_so (λ e.
           let r = bound_used bindable _ (uses (sub t j)) x (scoped_at bindable t j k.within.formed.closed) u (or_left (variable x) (label x) (taken-variable x e)) in
           let (i, n, d, v) = enclosed_reaches t x j l r in
           let y = taken-inside x i e (omega arith) d in
           out (omega arith) (omega arith))
 
-      not-delimited : (x : ℕ) → delimits_at x (sub t j) ≡ true → takes_one (slot 6) (slot 8) (slot 10) (slot 12) x ≡ false
+      not-delimited : (x : ℕ) → delimits_at x (sub t j) ≡ true → takes_one four x ≡ false
       not-delimited x d = not_so (λ e. let y = taken-inside x j e l d in out y.0 (omega (arith, y.1, size_pos (sub t j))))
 
-      stays : record_bound (slot 6) (slot 8) (slot 10) (slot 12) b j (record16 (root (sub t j))) ≡ record16 (root (sub t j))
-      stays = untaken_stays (slot 6) (slot 8) (slot 10) (slot 12) (sub t j) not_used not-delimited b j (λ e. out (omega (arith, o.over.low)) (omega (arith, o.over.over)))
+      stays : record_bound four b j (record16 (root (sub t j))) ≡ record16 (root (sub t j))
+      stays = untaken_stays four (sub t j) not_used not-delimited b j (λ e. out (omega (arith, o.over.low)) (omega (arith, o.over.over)))
 
-    pub outside-unchanged : {high : ℕ} → high ≡ get_or ends low 0 → Unchanged (slot 6) (slot 8) (slot 10) (slot 12) b s low high
+    pub outside-unchanged : {high : ℕ} → high ≡ get_or ends low 0 → Unchanged four b s low high
     outside-unchanged {high} e =
         let n = table_size s ends t k in
         let f = table_ended s ends t k low o.over.inside in

@@ -28,7 +28,8 @@ use Rattle.cows.proofs.BoundNodes.{image_other}
 use Rattle.cows.proofs.Meeting.{fit_fits}
 use Rattle.cows.proofs.Stands.{right_at}
 use Rattle.cows.proofs.Cut.{all_take}
-use Rattle.records.specs.declared.Takes.{Takes}
+use Rattle.records.specs.declared.Binding.{Binding}
+use Rattle.std.specs.Prelude as rust
 use Rattle.records.specs.Holds.{Holds}
 use Rattle.records.specs.Rewrites.{Has}
 use Rattle.records.proofs.Put.{has_left, has_right, has_take}
@@ -40,6 +41,7 @@ use Rattle.renaming.proofs.Mapped.{record_mapped}
 use Rattle.renaming.proofs.Bound.{goes-delimitation}
 use Rattle.renaming.proofs.Occurring.{not-zero}
 use Rattle.matching.specs.Taking.{takes_of}
+use Rattle.communicate.specs.Outermost.{slots_taken}
 use Rattle.communicate.proofs.Left.{Matched}
 use Rattle.communicate.proofs.Taking.{images_match, takers_match}
 
@@ -82,8 +84,8 @@ unfolding flat_map
 cond-bytes true n = refl
 cond-bytes false n = sym (append-nil (record16 n))
 
-module _ (t₀ t₁ t₂ t₃ : Takes) (σ : Substitution) (same : (a : ℕ) → image_of_all t₀ t₁ t₂ t₃ a ≡ image σ a) (keys : (a : ℕ) → a ≢ 0 → takes_one t₀ t₁ t₂ t₃ a ≡ any (λ (p : ℕ × ℕ). eqb p.0 a) σ) (zero_same : image σ 0 ≡ 0) where
-  goes_node : (n : Node) → RightNode n → goes t₀ t₁ t₂ t₃ (record16 n) ≡ any (λ (p : ℕ × ℕ). node_delimits p.0 n) σ
+module _ (ts : List (rust.Option Binding)) (σ : Substitution) (same : (a : ℕ) → image_of_all ts a ≡ image σ a) (keys : (a : ℕ) → a ≢ 0 → takes_one ts a ≡ any (λ (p : ℕ × ℕ). eqb p.0 a) σ) (zero_same : image σ 0 ≡ 0) where
+  goes_node : (n : Node) → RightNode n → goes ts (record16 n) ≡ any (λ (p : ℕ × ℕ). node_delimits p.0 n) σ
   unfolding goes record16 layout byte node_delimits delimits_atom delimits found_with
   goes_node (basic nil) r = sym (any_none σ)
   goes_node (basic (kill k)) r = sym (any_none σ)
@@ -91,12 +93,12 @@ module _ (t₀ t₁ t₂ t₃ : Takes) (σ : Substitution) (same : (a : ℕ) →
   goes_node (prefix (receive p o ws)) r = sym (any_none σ)
   goes_node (prefix (wait n)) r = sym (any_none σ)
   goes_node (prefix protection) r = sym (any_none σ)
-  goes_node (prefix (delimitation d)) r = goes-delimitation t₀ t₁ t₂ t₃ d ∙ keys d (not-zero d r)
+  goes_node (prefix (delimitation d)) r = goes-delimitation ts d ∙ keys d (not-zero d r)
   goes_node (prefix replication) r = sym (any_none σ)
   goes_node (join choice) r = sym (any_none σ)
   goes_node (join parallel) r = sym (any_none σ)
 
-  record_same : (b : List ℕ) → map_record (image_of_all t₀ t₁ t₂ t₃) b ≡ map_record (image σ) b
+  record_same : (b : List ℕ) → map_record (image_of_all ts) b ≡ map_record (image σ) b
   unfolding map_record
   record_same b = rw (same (word b 2), same (word b 4), same (word b 6), same (word b 8), same (word b 10), same (word b 12))
 
@@ -104,19 +106,19 @@ module _ (t₀ t₁ t₂ t₃ : Takes) (σ : Substitution) (same : (a : ℕ) →
   unfolding bind_node node_delimits map_node map_basic flat_map
   nil-bound = rw (any_none σ) (sym (append-nil (record16 (basic nil))))
 
-  kept-bound : (n : Node) → RightNode n → cond (goes t₀ t₁ t₂ t₃ (record16 n)) [] (map_record (image_of_all t₀ t₁ t₂ t₃) (record16 n)) ≡ bytes (bind_node σ n)
+  kept-bound : (n : Node) → RightNode n → cond (goes ts (record16 n)) [] (map_record (image_of_all ts) (record16 n)) ≡ bytes (bind_node σ n)
   unfolding bind_node
   kept-bound n r = rw (goes_node n r, record_same (record16 n), ← record_mapped (image σ) zero_same n) (cond-bytes (any (λ (p : ℕ × ℕ). node_delimits p.0 n) σ) (map_node (image σ) n))
 
-  node_bound : (b i : ℕ) (n : Node) → RightNode n → record_bound t₀ t₁ t₂ t₃ b i (record16 n) ≡ bytes (bind_node σ (cond (eqb i b) (basic nil) n))
+  node_bound : (b i : ℕ) (n : Node) → RightNode n → record_bound ts b i (record16 n) ≡ bytes (bind_node σ (cond (eqb i b) (basic nil) n))
   unfolding record_bound
   node_bound b i n r = go (eqb i b)
     where
-      go : (x : Bool) → cond x (record16 (basic nil)) (cond (goes t₀ t₁ t₂ t₃ (record16 n)) [] (map_record (image_of_all t₀ t₁ t₂ t₃) (record16 n))) ≡ bytes (bind_node σ (cond x (basic nil) n))
+      go : (x : Bool) → cond x (record16 (basic nil)) (cond (goes ts (record16 n)) [] (map_record (image_of_all ts) (record16 n))) ≡ bytes (bind_node σ (cond x (basic nil) n))
       go true = nil-bound
       go false = kept-bound n r
 
-  records_bound : (b : ℕ) (s : List ℕ) (i : ℕ) (ns : List Node) → RightNodes ns → Has s (16 * i) (bytes ns) → bound_records t₀ t₁ t₂ t₃ b s i (length ns) ≡ bytes (bound_nodes σ (silenced b i ns))
+  records_bound : (b : ℕ) (s : List ℕ) (i : ℕ) (ns : List Node) → RightNodes ns → Has s (16 * i) (bytes ns) → bound_records ts b s i (length ns) ≡ bytes (bound_nodes σ (silenced b i ns))
   unfolding along flat_map silenced
   records_bound b s i [] r k = refl
   records_bound b s i (n ∷ ns) r k =
@@ -128,9 +130,7 @@ module _ (t₀ t₁ t₂ t₃ : Takes) (σ : Substitution) (same : (a : ℕ) →
 
 -- The n records of s from place i on, as they are written: the invoke at place b is silenced, and what the receive at place a takes from it is bound.
 abbrev pub met_records : (s : List ℕ) (a b i n : ℕ) → List ℕ
-met_records s a b i n =
-    bound_records (takes_of (word s (16 * a + 6)) (word s (16 * b + 6))) (takes_of (word s (16 * a + 8)) (word s (16 * b + 8))) (takes_of (word s (16 * a + 10)) (word s (16 * b + 10)))
-    (takes_of (word s (16 * a + 12)) (word s (16 * b + 12))) b s i n
+met_records s a b i n = bound_records (slots_taken s a b) b s i n
 
 -- The receive q at place a and the invoke m at place b match.
 module _ (s : List ℕ) (t : Term) (a b : ℕ) (q m : Action) (σ : Substitution) (w : Within t) (h : Matched t a b q m σ) (k : Holds s t) where
@@ -149,12 +149,11 @@ module _ (s : List ℕ) (t : Term) (a b : ℕ) (q m : Action) (σ : Substitution
       all-in-scope t a b w.formed σ (values_fit q m σ r.2.1 h.fits) h.scopes
 
   -- what the slots of the pattern take from the tuple's
-  abbrev slot : ℕ → Takes
+  abbrev slot : ℕ → rust.Option Binding
   slot i = takes_of (get_or q.tuple i 0) (get_or m.tuple i 0)
 
   -- what they take is bound
-  pub taken-bound : (x : ℕ) → takes_one (takes_of (word s (16 * a + 6)) (word s (16 * b + 6))) (takes_of (word s (16 * a + 8)) (word s (16 * b + 8))) (takes_of (word s (16 * a + 10)) (word s (16 * b + 10)))
-      (takes_of (word s (16 * a + 12)) (word s (16 * b + 12))) x ≡ true → any (λ (p : ℕ × ℕ). eqb p.0 x) σ ≡ true
+  pub taken-bound : (x : ℕ) → takes_one (slots_taken s a b) x ≡ true → any (λ (p : ℕ × ℕ). eqb p.0 x) σ ≡ true
   taken-bound x e =
       sym (takers_match t matches all_bind receiver.few x)
       ∙ (rw (receiver.slot0, receiver.slot1, receiver.slot2, receiver.slot3, sender.slot0, sender.slot1, sender.slot2, sender.slot3) at e)
@@ -184,5 +183,5 @@ module _ (s : List ℕ) (t : Term) (a b : ℕ) (q m : Action) (σ : Substitution
         let r : RightNodes part = (all_take RightNode n (drop i (nodes t)) (all_take RightNode i (nodes t) (right_nodes t k.right)).1).0 in
         let l = receiver.few in
         rw (part_silenced, receiver.slot0, receiver.slot1, receiver.slot2, receiver.slot3, sender.slot0, sender.slot1, sender.slot2, sender.slot3)
-        (subst (λ x. bound_records (slot 0) (slot 1) (slot 2) (slot 3) b s i x ≡ bytes (bound_nodes σ (silenced b i part))) z
-        (records_bound (slot 0) (slot 1) (slot 2) (slot 3) σ (images_match t matches all_bind l) (λ x e. takers_match t matches all_bind l x) (image_other t σ all_bind 0 refl) b s i part r part_has))
+        (subst (λ x. bound_records (slot 0 ∷ slot 1 ∷ slot 2 ∷ slot 3 ∷ []) b s i x ≡ bytes (bound_nodes σ (silenced b i part))) z
+        (records_bound (slot 0 ∷ slot 1 ∷ slot 2 ∷ slot 3 ∷ []) σ (images_match t matches all_bind l) (λ x e. takers_match t matches all_bind l x) (image_other t σ all_bind 0 refl) b s i part r part_has))

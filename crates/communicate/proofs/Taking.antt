@@ -1,6 +1,6 @@
 -- What the slots of a receive take (matching, specs/Taking) is the substitution of its matching: what stands for an atom, and which atoms are replaced.
 use mathlib.Core.Path.{◌≡◌, refl, sym, ap, ◌∙◌}
-use mathlib.Core.Bool.{Bool, false, ◌||◌, or_assoc}
+use mathlib.Core.Bool.{Bool, false, ◌||◌}
 use mathlib.Core.List.{List, [], ◌∷◌}
 use Prim.Native.Nat.{ℕ, zero, suc, ◌≤◌}
 use native.Mathlib.Omega.{arith}
@@ -11,12 +11,13 @@ use Rattle.cows.specs.Basics.{any}
 use Rattle.cows.specs.Terms.{Term, variable}
 use Rattle.cows.specs.Allows.{Matches, empty, takes, equals}
 use Rattle.cows.specs.Moves.{Substitution, image}
-use Rattle.cows.proofs.Basics.{bool_case, cond_case₂, clash, not_so, or_none}
+use Rattle.cows.proofs.Basics.{bool_case, cond_case₂, clash, not_so}
 use Rattle.cows.proofs.CommunicateKeeps.{AllBind}
 use Rattle.records.specs.declared.Variable as variables
 use Rattle.records.specs.declared.Atom.{Atom}
 use Rattle.records.specs.declared.Atom.TheVariants.{Variable}
-use Rattle.records.specs.declared.Takes.{Takes}
+use Rattle.records.specs.declared.Binding.{Binding}
+use Rattle.std.specs.Prelude as rust
 use Rattle.records.specs.Atoms.{number_of, takes_variable, image_of}
 use Rattle.records.proofs.Atoms.{class_variable}
 use Rattle.ways.proofs.Frames.{eqb_flip}
@@ -26,17 +27,14 @@ use Rattle.matching.specs.Taking.{takes_of}
 use Rattle.matching.proofs.Slots.{takes_so, takes_none}
 use Rattle.cows.proofs.BoundNodes.{image_other}
 
--- What stands for an atom when n slots take their values, and whether one of them takes it, or y.
+-- What stands for an atom when n slots take their values, and whether one of them takes it.
 images : ℕ → (ℕ → ℕ) → (ℕ → ℕ) → variables.Variable → Atom
 images zero w v x = Variable x
 images (suc n) w v x = image_of (takes_of (w 0) (v 0)) x (images n (λ i. w (suc i)) (λ i. v (suc i)) x)
 
-takers : ℕ → (ℕ → ℕ) → (ℕ → ℕ) → variables.Variable → Bool → Bool
-takers zero w v x y = y
-takers (suc n) w v x y = takers n (λ i. w (suc i)) (λ i. v (suc i)) x (y || takes_variable (takes_of (w 0) (v 0)) x)
-
-none-takes : (w v : ℕ) → variable w ≡ false → (x : variables.Variable) (y : Bool) → (y || takes_variable (takes_of w v) x) ≡ y
-none-takes w v e x y = rw (takes_none w v e) (or_none y)
+takers : ℕ → (ℕ → ℕ) → (ℕ → ℕ) → variables.Variable → Bool
+takers zero w v x = false
+takers (suc n) w v x = takes_variable (takes_of (w 0) (v 0)) x || takers n (λ i. w (suc i)) (λ i. v (suc i)) x
 
 module _ (t : Term) where
   -- for a variable
@@ -51,18 +49,15 @@ module _ (t : Term) where
   images_variable (equals e m) h zero l x = absurd (omega arith)
   images_variable (equals {v = v} e m) h (suc n) l x = rw (takes_none v v e) (images_variable m h n (omega arith) x)
 
-  takers_variable : {ws vs : List ℕ} {σ : Substitution} → Matches ws vs σ → AllBind t σ → (n : ℕ) → length ws ≤ n → (x : variables.Variable) (y : Bool)
-      → takers n (λ i. get_or ws i 0) (λ i. get_or vs i 0) x y ≡ (y || any (λ (p : ℕ × ℕ). eqb p.0 x.0) σ)
+  takers_variable : {ws vs : List ℕ} {σ : Substitution} → Matches ws vs σ → AllBind t σ → (n : ℕ) → length ws ≤ n → (x : variables.Variable)
+      → takers n (λ i. get_or ws i 0) (λ i. get_or vs i 0) x ≡ any (λ (p : ℕ × ℕ). eqb p.0 x.0) σ
   unfolding takers any variable
-  takers_variable empty h zero l x y = sym (or_none y)
-  takers_variable empty h (suc n) l x y = ap (takers n (λ i. 0) (λ i. 0) x) (none-takes 0 0 refl x y) ∙ takers_variable empty h n (omega arith) x y
-  takers_variable (takes e m) h zero l x y = absurd (omega arith)
-  takers_variable (takes {w = w} {v = v} {ws = ws} {vs = vs} {σ = σ} e m) h (suc n) l x y =
-      ap (λ b. takers n (λ i. get_or ws i 0) (λ i. get_or vs i 0) x (y || b)) (ap (λ r. takes_variable r x) (takes_so w v e h.0.datum) ∙ eqb_flip x.0 w)
-      ∙ (takers_variable m h.1 n (omega arith) x (y || eqb w x.0) ∙ or_assoc y (eqb w x.0) (any (λ (p : ℕ × ℕ). eqb p.0 x.0) σ))
-  takers_variable (equals e m) h zero l x y = absurd (omega arith)
-  takers_variable (equals {v = v} {ws = ws} {vs = vs} e m) h (suc n) l x y =
-      ap (takers n (λ i. get_or ws i 0) (λ i. get_or vs i 0) x) (none-takes v v e x y) ∙ takers_variable m h n (omega arith) x y
+  takers_variable empty h zero l x = refl
+  takers_variable empty h (suc n) l x = rw (takes_none 0 0 refl) (takers_variable empty h n (omega arith) x)
+  takers_variable (takes e m) h zero l x = absurd (omega arith)
+  takers_variable (takes {w = w} {v = v} e m) h (suc n) l x = rw (takes_so w v e h.0.datum, takers_variable m h.1 n (omega arith) x, eqb_flip x.0 w)
+  takers_variable (equals e m) h zero l x = absurd (omega arith)
+  takers_variable (equals {v = v} e m) h (suc n) l x = rw (takes_none v v e) (takers_variable m h n (omega arith) x)
 
   -- and for any atom: no other is bound
   not-bound : (σ : Substitution) → AllBind t σ → (a : ℕ) → variable a ≡ false → any (λ (p : ℕ × ℕ). eqb p.0 a) σ ≡ false
@@ -71,15 +66,18 @@ module _ (t : Term) where
   not-bound (p ∷ σ) h a e = rw (not_so {a = eqb p.0 a} (λ k. clash (ap variable (sym (eqb-true p.0 a k)) ∙ h.0.key) e)) (not-bound σ h.1 a e)
 
   module _ {ws vs : List ℕ} {σ : Substitution} (m : Matches ws vs σ) (h : AllBind t σ) (l : length ws ≤ 4) (a : ℕ) where
-    abbrev slot : ℕ → Takes
+    abbrev slot : ℕ → rust.Option Binding
     slot i = takes_of (get_or ws i 0) (get_or vs i 0)
 
-    pub images_match : image_of_all (slot 0) (slot 1) (slot 2) (slot 3) a ≡ image σ a
+    abbrev pub four : List (rust.Option Binding)
+    four = slot 0 ∷ slot 1 ∷ slot 2 ∷ slot 3 ∷ []
+
+    pub images_match : image_of_all four a ≡ image σ a
     unfolding images
     images_match =
-        bool_case _ (variable a) (λ k. rw (class_variable a k) (images_variable m h 4 l (record { 0 = a }))) (λ k. not_changed (slot 0) (slot 1) (slot 2) (slot 3) a k ∙ sym (image_other t σ h a k))
+        bool_case _ (variable a) (λ k. rw (class_variable a k) (images_variable m h 4 l (record { 0 = a }))) (λ k. not_changed four a k ∙ sym (image_other t σ h a k))
 
-    pub takers_match : takes_one (slot 0) (slot 1) (slot 2) (slot 3) a ≡ any (λ (p : ℕ × ℕ). eqb p.0 a) σ
+    pub takers_match : takes_one four a ≡ any (λ (p : ℕ × ℕ). eqb p.0 a) σ
     unfolding takers
     takers_match =
-        bool_case _ (variable a) (λ k. rw (class_variable a k) (takers_variable m h 4 l (record { 0 = a }) false)) (λ k. not_taken (slot 0) (slot 1) (slot 2) (slot 3) a k ∙ sym (not-bound σ h a k))
+        bool_case _ (variable a) (λ k. rw (class_variable a k) (takers_variable m h 4 l (record { 0 = a }))) (λ k. not_taken four a k ∙ sym (not-bound σ h a k))

@@ -9,12 +9,13 @@ use lib.Seq.{take_all}
 use Rattle.cows.specs.Terms.{Term, size, invoke_of, receive_of}
 use Rattle.cows.specs.Kinds.{Node}
 use Rattle.cows.specs.Places.{way_to, sub}
-use Rattle.cows.specs.Format.{word, nodes, bytes, encode}
+use Rattle.cows.specs.Format.{nodes, bytes, encode}
 use Rattle.cows.specs.Moves.{silence, communicate_at}
 use Rattle.cows.proofs.Format.{length-nodes, length-encode}
 use Rattle.cows.proofs.Silence.{silence-size}
 use Rattle.cows.specs.Records.{bound_nodes}
-use Rattle.records.specs.declared.Takes.{Takes}
+use Rattle.records.specs.declared.Binding.{Binding}
+use Rattle.std.specs.Prelude as rust
 use Rattle.records.specs.Rewrites.{put}
 use Rattle.records.proofs.Put.{and_then}
 use Rattle.ways.specs.Ways.{start_of}
@@ -22,9 +23,8 @@ use Rattle.ways.proofs.KnownTables.{table_size, table_ended}
 use Rattle.renaming.specs.Bound.{bound_records, Unchanged}
 use Rattle.plans.specs.Plans.{Asks}
 use Rattle.plans.specs.Cutting.{Span}
-use Rattle.matching.specs.Taking.{takes_of}
 use Rattle.plans.proofs.Continuing.{span}
-use Rattle.communicate.specs.Outermost.{Outermost}
+use Rattle.communicate.specs.Outermost.{slots_taken, Outermost}
 use Rattle.communicate.proofs.Left.{Met, accepted_met}
 use Rattle.communicate.proofs.Replacing.{met_records, part_bound}
 use Rattle.communicate.proofs.Outside.{outside-unchanged}
@@ -96,17 +96,13 @@ module _ {s ends : List ℕ} (a b : ℕ) {from : ℕ} {out : List ℕ} (q : Asks
         record { front_fits = omega arith; body_fits = omega arith; back_fits = l; table = e }
 
     -- by what the code finds the slots to take
-    pub asks_parts : {t₀ t₁ t₂ t₃ : Takes} → t₀ ≡ takes_of (word s (16 * a + 6)) (word s (16 * b + 6)) → t₁ ≡ takes_of (word s (16 * a + 8)) (word s (16 * b + 8))
-        → t₂ ≡ takes_of (word s (16 * a + 10)) (word s (16 * b + 10)) → t₃ ≡ takes_of (word s (16 * a + 12)) (word s (16 * b + 12))
-        → Parts (bound_records t₀ t₁ t₂ t₃ b s 0 (from - 0)) (bound_records t₀ t₁ t₂ t₃ b s (a + 1) (end - (a + 1))) (bound_records t₀ t₁ t₂ t₃ b s rest (length s / 16 - rest)) out q.successor
-    asks_parts e₀ e₁ e₂ e₃ = let z : from - 0 ≡ from = omega arith in rw (z, e₀, e₁, e₂, e₃) met_parts
+    pub asks_parts : {ts : List (rust.Option Binding)} → ts ≡ slots_taken s a b
+        → Parts (bound_records ts b s 0 (from - 0)) (bound_records ts b s (a + 1) (end - (a + 1))) (bound_records ts b s rest (length s / 16 - rest)) out q.successor
+    asks_parts e = let z : from - 0 ≡ from = omega arith in rw (z, e) met_parts
 
   -- what changes stands from place low on, where the outermost delimitation that goes stands, to its end
-  pub asks_unchanged : {t₀ t₁ t₂ t₃ : Takes} → t₀ ≡ takes_of (word s (16 * a + 6)) (word s (16 * b + 6)) → t₁ ≡ takes_of (word s (16 * a + 8)) (word s (16 * b + 8))
-      → t₂ ≡ takes_of (word s (16 * a + 10)) (word s (16 * b + 10)) → t₃ ≡ takes_of (word s (16 * a + 12)) (word s (16 * b + 12))
-      → {low high : ℕ} → Outermost t b t₀ t₁ t₂ t₃ low → high ≡ get_or ends low 0 → Unchanged t₀ t₁ t₂ t₃ b s low high
-  asks_unchanged e₀ e₁ e₂ e₃ {low} o f =
-      rw (e₀, e₁, e₂, e₃) (outside-unchanged q.known.table a b met.receive met.invoke met.pairs met.matched low (rw (e₀, e₁, e₂, e₃) at o) f)
+  pub asks_unchanged : {ts : List (rust.Option Binding)} → ts ≡ slots_taken s a b → {low high : ℕ} → Outermost t b ts low → high ≡ get_or ends low 0 → Unchanged ts b s low high
+  asks_unchanged e {low} o f = rw e (outside-unchanged q.known.table a b met.receive met.invoke met.pairs met.matched low (rw e at o) f)
 
-  pub low_inside : {low : ℕ} {t₀ t₁ t₂ t₃ : Takes} → Outermost t b t₀ t₁ t₂ t₃ low → low < length s / 16
+  pub low_inside : {low : ℕ} {ts : List (rust.Option Binding)} → Outermost t b ts low → low < length s / 16
   low_inside o = omega (arith, o.over.inside, whole)

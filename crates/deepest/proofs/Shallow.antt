@@ -14,7 +14,9 @@ use Rattle.cows.specs.Places.{inside, left_of, right_of, plug, Way, fill, way_to
 use Rattle.cows.proofs.Basics.{and_none}
 use Rattle.cows.proofs.Places.{fill_spot}
 use Rattle.cows.proofs.Ways.{depth_part}
-use Rattle.roles.specs.Roles.{no_role, unfold_role, extrude_role, full, beside, crowded, role_of, deepens, open_role}
+use Rattle.roles.specs.declared.Role.{Role}
+use Rattle.roles.specs.declared.Role.TheVariants.{Idle, Unfold, Extrude}
+use Rattle.roles.specs.Roles.{is_role, full, beside, crowded, role_of, deepens, open_role}
 use Rattle.deepest.specs.Deepest.{side_of}
 
 -- what stands beside a place reaches no deeper than the table
@@ -35,9 +37,9 @@ crowded_side t n = go (way_to t n)
     go (left_of j r ∷ w) = refl
     go (right_of j l ∷ w) = refl
 
--- the role that is left, by these numbers
-pub left_role : (t : Term) (n role level height side : ℕ) → role ≡ role_of t n → level ≡ length (way_to t n) → height ≡ depth (sub t n) → side ≡ side_of (way_to t n)
-    → cond ((eqb role unfold_role && eqb (level + height) max_depth) || (eqb role extrude_role && eqb side max_depth)) no_role role ≡ open_role t n
+-- the role that is left, by what is found
+pub left_role : (t : Term) (n : ℕ) (role : Role) (level height side : ℕ) → role ≡ role_of t n → level ≡ length (way_to t n) → height ≡ depth (sub t n) → side ≡ side_of (way_to t n)
+    → cond ((is_role role Unfold && eqb (level + height) max_depth) || (is_role role Extrude && eqb side max_depth)) Idle role ≡ open_role t n
 unfolding open_role deepens full
 left_role t n role level height side e f g h = rw (e, f, g, h, crowded_side t n)
 
@@ -49,6 +51,6 @@ shallow_role t n h =
       ne_eqb (length (way_to t n) + depth (sub t n)) max_depth (λ z. omega (arith, depth_part (way_to t n) (sub t n))),
       crowded_side t n,
       ne_eqb (side_of (way_to t n)) max_depth (λ z. omega (arith, side_part (way_to t n) (sub t n))),
-      and_none (eqb (role_of t n) unfold_role),
-      and_none (eqb (role_of t n) extrude_role),
+      and_none (is_role (role_of t n) Unfold),
+      and_none (is_role (role_of t n) Extrude),
     )

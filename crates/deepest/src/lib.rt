@@ -2,21 +2,18 @@
 // to the first; the way to each place, and how deep what stands beside it reaches, from the first to the last.
 #![tactic(auto)]
 
-ghost use Rattle.std.specs.Prelude.{◌≡◌, cond, ◌&&◌, ◌||◌, ℕ, ◌+◌, ◌*◌, ◌/◌, ◌<◌, ◌≤◌, max, eqb, length, get_or};
+ghost use Rattle.std.specs.Prelude.{◌≡◌, cond, ◌&&◌, ◌||◌, ℕ, ◌+◌, ◌*◌, ◌/◌, ◌<◌, ◌≤◌, length};
 ghost use Rattle.cows.specs.Terms.{Term, size, depth};
 ghost use Rattle.records.specs.Rewrites.{StandsIn};
-ghost use Rattle.ways.specs.Known.{Table, Known};
+ghost use Rattle.ways.specs.TermOf.{TermOf};
 ghost use Rattle.depths.specs.Depths.{Standing};
-ghost use Rattle.roles.specs.Roles.{no_role, unfold_role, extrude_role, role_of, Cast};
+ghost use Rattle.roles.specs.declared.Role.TheVariants.{Idle, Unfold, Extrude};
+ghost use Rattle.roles.specs.Roles.{is_role, role_at, role_of, Cast};
 ghost use Rattle.deepest.specs.Deepest.{Heights, Told, Telling};
 
-use records::{children, limits, wide16};
-
-fn larger(a: u16, b: u16) -> u16
-    ensures { result ≡ max a b }
-{
-    if a < b { b } else { a }
-}
+use records::{children, limits};
+use roles::Role;
+use ways::KnownTable;
 
 // The depth of the term at place i, by those of its children.
 fn height(s: &[u8], ends: &[u16], heights: &[u16], i: usize) -> u16
@@ -31,18 +28,16 @@ fn height(s: &[u8], ends: &[u16], heights: &[u16], i: usize) -> u16
     if c == 1 {
         return 1 + first;
     }
-    1 + larger(first, heights[wide16(ends[i + 1])])
+    1 + first.max(heights[usize::from(ends[i + 1])])
 }
 
 // The depth of the term at each place, from the last to the first.
-fn find_heights(s: &[u8], ends: &[u16], heights: &mut [u16])
-    requires { Known s.now ends.now × (length s.now / 16 ≤ length heights.old) }
-    ensures { Heights s.now heights.new 0 }
+fn find_heights(table: KnownTable, heights: &mut [u16])
+    requires { length table.bytes.now / 16 ≤ length heights.old }
+    ensures { Heights table.entry.bytes.now heights.new 0 }
 {
-    let mut i = s.len() / 16;
-    while 0 < i {
-        i -= 1;
-        heights[i] = height(s, ends, heights, i);
+    for i in (0..table.bytes.len() / 16).rev() {
+        heights[i] = height(table.bytes, table.ends, heights, i);
     }
 }
 
@@ -62,51 +57,50 @@ fn tell(s: &[u8], ends: &[u16], heights: &[u16], levels: &mut [u16], sides: &mut
         sides[l] = 0;
         return;
     }
-    let r = wide16(ends[l]);
+    let r = usize::from(ends[l]);
     levels[r] = level;
     sides[l] = level + heights[r];
     sides[r] = level + heights[l];
 }
 
 // What is left of a role at a place that reaches the greatest depth, or beside one.
-fn open_role(role: u8, full: bool, crowded: bool) -> u8
-    ensures { result ≡ cond ((eqb role unfold_role && full) || (eqb role extrude_role && crowded)) no_role role }
+fn open_role(role: Role, full: bool, crowded: bool) -> Role
+    ensures { result ≡ cond ((is_role role Unfold && full) || (is_role role Extrude && crowded)) Idle role }
 {
-    if ((role == roles::UNFOLD) & full) | ((role == roles::EXTRUDE) & crowded) {
-        return roles::NONE;
+    match role {
+        Role::Unfold if full => Role::Idle,
+        Role::Extrude if crowded => Role::Idle,
+        _ => role,
     }
-    role
 }
 
 // The role at each place, from the first to the last.
-fn dismiss_all(s: &[u8], ends: &[u16], heights: &[u16], cast: &mut [u8])
-    requires { Known s.now ends.now × Heights s.now heights.now 0 × (length s.now / 16 ≤ length heights.now) × (length s.now / 16 ≤ length cast.old) }
-    ensures { (t : Term) → Table s.now ends.now t → ((n : ℕ) → n < size t → get_or cast.old n 0 ≡ role_of t n) → Cast t cast.new }
+fn dismiss_all(table: KnownTable, heights: &[u16], cast: &mut [Role])
+    requires { Heights table.bytes.now heights.now 0 × (length table.bytes.now / 16 ≤ length heights.now) × (length table.bytes.now / 16 ≤ length cast.old) }
+    ensures { (t : Term) → TermOf table.entry t → ((n : ℕ) → n < size t → role_at cast.old n ≡ role_of t n) → Cast t cast.new }
 {
     let mut levels = [0u16; limits::MAX_RECORDS];
     let mut sides = [0u16; limits::MAX_RECORDS];
-    let n = s.len() / 16;
-    let mut i = 0;
-    while i < n {
-        let full = wide16(levels[i]) + wide16(heights[i]) == limits::MAX_DEPTH;
-        cast[i] = open_role(cast[i], full, wide16(sides[i]) == limits::MAX_DEPTH);
-        tell(s, ends, heights, &mut levels, &mut sides, i);
-        i += 1;
+    let n = table.bytes.len() / 16;
+    for i in 0..n {
+        let full = usize::from(levels[i]) + usize::from(heights[i]) == limits::MAX_DEPTH;
+        cast[i] = open_role(cast[i], full, usize::from(sides[i]) == limits::MAX_DEPTH);
+        tell(table.bytes, table.ends, heights, &mut levels, &mut sides, i);
     }
 }
 
 // No unfolding and no floating that would be too deep keeps its role. A table that does not reach the greatest depth has none.
-pub fn dismiss_deep(s: &[u8], ends: &[u16], cast: &mut [u8])
-    requires { Known s.now ends.now × (length s.now / 16 ≤ length cast.old) }
-    ensures { (t : Term) → Table s.now ends.now t → ((n : ℕ) → n < size t → get_or cast.old n 0 ≡ role_of t n) → Cast t cast.new }
+pub fn dismiss_deep(table: KnownTable, cast: &mut [Role])
+    requires { length table.bytes.now / 16 ≤ length cast.old }
+    ensures { (t : Term) → TermOf table.entry t → ((n : ℕ) → n < size t → role_at cast.old n ≡ role_of t n) → Cast t cast.new }
 {
-    if s.len() / 16 < limits::MAX_DEPTH {
+    if table.bytes.len() / 16 < limits::MAX_DEPTH {
         return;
     }
     let mut heights = [0u16; limits::MAX_RECORDS];
-    find_heights(s, ends, &mut heights);
-    if wide16(heights[0]) < limits::MAX_DEPTH {
+    find_heights(table, &mut heights);
+    if usize::from(heights[0]) < limits::MAX_DEPTH {
         return;
     }
-    dismiss_all(s, ends, &heights, cast);
+    dismiss_all(table, &heights, cast);
 }

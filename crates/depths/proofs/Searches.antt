@@ -80,17 +80,3 @@ whole f t = from_same _ _ 0 (size t) (λ i l. let e : 0 + i - 0 ≡ 0 + i = omeg
 
 pub deep-first : (t : Term) → deep_in 1 0 t ≡ first too_deep t
 deep-first t = deep_seek [] 0 t ∙ whole too_deep t
-
--- what is found is one of the term's records
-or_case : (A : Type 0) (o q : Option ℕ) (p : ℕ) → or_else o q ≡ some p → (o ≡ some p → A) → (q ≡ some p → A) → A
-unfolding or_else
-or_case A none q p e f g = g e
-or_case A (some n) q p e f g = f e
-
-pub deep-below : (d at : ℕ) (t : Term) (p : ℕ) → deep_in d at t ≡ some p → p < at + size t
-unfolding deep_in size
-deep-below d at (leaf x) p e = omega (arith, (place_if-some _ _ p e).1)
-deep-below d at (under u t) p e = or_case _ _ _ p e (λ h. omega (arith, (place_if-some _ _ p h).1)) (λ h. omega (arith, deep-below (d + 1) (at + 1) t p h))
-deep-below d at (both j l r) p e =
-    or_case _ _ _ p e (λ h. omega (arith, (place_if-some _ _ p h).1))
-    (λ g. or_case _ _ _ p g (λ h. omega (arith, deep-below (d + 1) (at + 1) l p h)) (λ h. omega (arith, deep-below (d + 1) (at + 1 + size l) r p h)))

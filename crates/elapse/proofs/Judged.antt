@@ -14,17 +14,15 @@ use Rattle.cows.proofs.Recordwise.{of_size, of_depth, elapse-keeps, some-time, t
 use Rattle.records.specs.Rewrites.{put}
 use Rattle.ways.specs.Known.{Table, Known}
 use Rattle.ways.proofs.KnownTables.{table_size}
-use Rattle.plans.specs.declared.Judgement.TheVariants.{Allowed}
-use Rattle.plans.specs.declared.Plan.{Plan}
-use Rattle.plans.specs.Plans.{Planned, Asks}
+use Rattle.plans.specs.Plans.{Allowed, Asks}
 use Rattle.plans.proofs.Planning.{within_limits, planned_allowed}
 
 -- any time but 0 is allowed
-pub elapse_planned : (t : Term) (d : ℕ) → d ≢ 0 → (s ends : List ℕ) → Table s ends t → (r : Plan) → r.judgement ≡ Allowed (length s / 16) → r.from ≡ 0 → Planned (elapse_by t d) 0 r
-elapse_planned t d some s ends h r j q =
-    planned_allowed r (elapse d t) (length s / 16) j (some-time t d some)
+pub elapse_planned : (t : Term) (d : ℕ) → d ≢ 0 → (s ends : List ℕ) → Table s ends t → Allowed (elapse_by t d) 0 (record { records = length s / 16; from = 0 })
+elapse_planned t d some s ends h =
+    planned_allowed (elapse d t) (some-time t d some) _
     (within_limits (elapse d t) (omega (arith, elapse-keeps of_size d t, h.within.small)) (omega (arith, elapse-keeps of_depth d t, h.within.shallow)))
-    (table_size s ends t h ∙ sym (elapse-keeps of_size d t)) q
+    (table_size s ends t h ∙ sym (elapse-keeps of_size d t)) refl
 
 -- bytes from the output's start on
 pub put_first : (out bs : List ℕ) → length bs ≤ length out → put out 0 bs ≡ bs ++ drop (length bs) out

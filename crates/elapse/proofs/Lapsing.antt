@@ -1,15 +1,17 @@
 -- Time goes over a table in one walk that lowers its live waits in place: the records before its place are the successor's; from there on stand terms, one behind the other, as they were.
 use mathlib.Core.Path.{◌≡◌, refl, sym, ap, subst, ◌∙◌}
 use mathlib.Core.Logic.{◌≢◌}
+use mathlib.Core.Bool.{cond}
 use mathlib.Core.List.{List, [], ◌∷◌, ◌++◌, append_assoc, append-nil, flat_map}
 use Prim.Native.Nat.{ℕ, ◌+◌, ◌*◌, ◌-◌, ◌≤◌, ◌<◌}
 use native.Mathlib.Omega.{arith}
 use lib.ListN.{length, drop, get_or, length-append}
 use lib.Seq.{sets-eq, take_at, drop_at, drop-append-add}
 use Rattle.cows.specs.Terms.{receive, wait, protection, delimitation, replication, choice, parallel, Term, leaf, under, both, below, size}
-use Rattle.cows.specs.Kinds.{root, kind_of, open_kinds}
+use Rattle.cows.specs.Kinds.{root, kind_of, live_kind, open_kinds}
 use Rattle.cows.specs.Format.{bytes2, word, layout, record16, encode}
 use Rattle.cows.specs.Moves.{lower, elapse}
+use Rattle.cows.proofs.Basics.{cond_case}
 use Rattle.cows.proofs.Fields.{kind-wait, interval-wait}
 use Rattle.cows.proofs.Format.{length-encode}
 use Rattle.cows.proofs.Rows.{length_record16}
@@ -17,7 +19,7 @@ use Rattle.records.specs.Ends.{EndsFrom}
 use Rattle.records.specs.Rewrites.{put, StandsIn, unchanged}
 use Rattle.records.proofs.Pieces.{word_piece}
 use Rattle.records.proofs.StandsIn.{encode-under, stands_kind, stands_record}
-use Rattle.elapse.proofs.Walking.{tables, tables_first, Still, Through, child_terms, encode-children, Ahead, ahead-start, ahead_none, First, first, ahead_past, next-bytes}
+use Rattle.elapse.proofs.Walking.{tables, tables_first, Still, Through, live-through, shut-still, past_wait, child_terms, encode-children, Ahead, ahead-start, ahead_none, First, first, ahead_past, next-bytes}
 
 -- Time at the first of them: it makes `after` of the first bytes, `before`, and passes on to what these leave.
 record Elapses (d : ℕ) (t : Term) (before after : List ℕ) (left : List Term) : Type 0 where
@@ -155,22 +157,26 @@ module _ (s : List ℕ) (d : ℕ) (t : Term) (behind : List ℕ) where
       here_kind : get_or out (16 * p) 0 ≡ kind_of f.term
       here_kind = stands_kind f.term lies
 
-      pub lapsing_through : (5 ≤ get_or out (16 * p) 0) × (get_or out (16 * p) 0 ≢ 9) → Lapsing s d t behind out (p + 1)
+      lapsing_through : (5 ≤ get_or out (16 * p) 0) × (get_or out (16 * p) 0 ≢ 9) → Lapsing s d t behind out (p + 1)
       lapsing_through k = kept (elapses_through d f.term (omega (arith, here_kind))) (omega (arith, length_record16 (root f.term)))
 
       module _ {ends : List ℕ} (e : EndsFrom s ends 0) {next : ℕ} (at : next ≡ get_or ends p 0) where
         as_far : 16 * next ≡ 16 * p + length (encode f.term)
         as_far = next-bytes s p h.ahead f e at
 
-        pub lapsing_still : (4 ≤ get_or out (16 * p) 0 → 9 ≤ get_or out (16 * p) 0) → Lapsing s d t behind out next
+        lapsing_still : (4 ≤ get_or out (16 * p) 0 → 9 ≤ get_or out (16 * p) 0) → Lapsing s d t behind out next
         lapsing_still k = kept (elapses_still d f.term (λ m. omega (arith, here_kind, k (omega (arith, here_kind))))) as_far
 
-        pub lapsing_wait : get_or out (16 * p) 0 ≡ 4 → {w : ℕ} {after : List ℕ} → w ≡ word out (16 * p + 14) - d → after ≡ put out (16 * p + 14) (bytes2 w) → Lapsing s d t behind after next
-        lapsing_wait k {w} {after} v o =
+        pub lapsing_past : get_or out (16 * p) 0 ≢ 4 → {r : ℕ} → r ≡ cond (live_kind (get_or out (16 * p) 0)) (p + 1) next → Lapsing s d t behind out r
+        lapsing_past n {r} q =
+            rw q (cond_case (Lapsing s d t behind out) (live_kind (get_or out (16 * p) 0)) (λ e. lapsing_through (live-through _ e)) (λ e. lapsing_still (shut-still _ e n)))
+
+        pub lapsing_wait : get_or out (16 * p) 0 ≡ 4 → {r : ℕ} → r ≡ cond (live_kind (get_or out (16 * p) 0)) (p + 1) next → {w : ℕ} {after : List ℕ} → w ≡ word out (16 * p + 14) - d → after ≡ put out (16 * p + 14) (bytes2 w) → Lapsing s d t behind after r
+        lapsing_wait k {r} z {w} {after} v o =
             let (n, q) = kind-wait f.term (sym here_kind ∙ k) in
-            let r = below f.term in
-            let i = stands_interval out (16 * p) n r (subst (StandsIn out (16 * p)) q lies) in
-            let (a, c) : Elapses d f.term (encode f.term) (encode (under (wait (n - d)) r)) [] × (encode f.term ≡ encode (under (wait n) r)) =
-            (subst (λ x. Elapses d x (encode x) (encode (under (wait (n - d)) r)) []) (sym q) (elapses_wait d n r), ap encode q) in
-            onward a as_far
-            (o ∙ (ap (λ x. put x (16 * p + 14) (bytes2 w)) (apart (encode f.term) [] a.was) ∙ rw (c, v, i) (put-interval n (n - d) r h.done (tables unchanged f.rest ++ behind) (16 * p + 14) (omega (arith, h.at)))))
+            let u = below f.term in
+            let i = stands_interval out (16 * p) n u (subst (StandsIn out (16 * p)) q lies) in
+            let (a, c) : Elapses d f.term (encode f.term) (encode (under (wait (n - d)) u)) [] × (encode f.term ≡ encode (under (wait n) u)) =
+            (subst (λ x. Elapses d x (encode x) (encode (under (wait (n - d)) u)) []) (sym q) (elapses_wait d n u), ap encode q) in
+            rw (past_wait p k z) (onward a as_far
+            (o ∙ (ap (λ x. put x (16 * p + 14) (bytes2 w)) (apart (encode f.term) [] a.was) ∙ rw (c, v, i) (put-interval n (n - d) u h.done (tables unchanged f.rest ++ behind) (16 * p + 14) (omega (arith, h.at))))))

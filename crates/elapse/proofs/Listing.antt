@@ -1,6 +1,7 @@
 -- The live waits of a table, listed by their places (specs/Waits): a walk that lists them, and the listed ones lowered one by one.
 use mathlib.Core.Path.{◌≡◌, refl, sym, ap, ap₂, subst, ◌∙◌}
 use mathlib.Core.Logic.{◌≢◌}
+use mathlib.Core.Bool.{cond}
 use mathlib.Core.List.{List, [], ◌∷◌, ◌++◌, append_assoc, append-nil, flat_map}
 use Prim.Native.Nat.{ℕ, zero, suc, ◌+◌, ◌*◌, ◌-◌, ◌/◌, ◌%◌, ◌≤◌, ◌<◌}
 use native.Mathlib.Omega.{arith}
@@ -11,10 +12,10 @@ use lib.ListN.{length, drop, get_or, length-append, drop_of_length-le, get_or-ap
 use lib.Seq.{drop-cons, drop_at, get_or-append-add}
 use Rattle.cows.specs.Basics.{found}
 use Rattle.cows.specs.Terms.{Prefix, receive, wait, protection, delimitation, replication, Join, choice, parallel, Term, leaf, under, both, size, waits}
-use Rattle.cows.specs.Kinds.{prefix, join, root, kind_of, open_kinds}
+use Rattle.cows.specs.Kinds.{prefix, join, root, kind_of, live_kind, open_kinds}
 use Rattle.cows.specs.Format.{bytes2, byte, word, record16, encode}
 use Rattle.cows.specs.Moves.{lower, elapse}
-use Rattle.cows.proofs.Basics.{bool_case}
+use Rattle.cows.proofs.Basics.{bool_case, cond_case}
 use Rattle.cows.proofs.Cut.{flat_map_append}
 use Rattle.cows.proofs.Fields.{kind-wait}
 use Rattle.cows.proofs.Format.{length-encode}
@@ -26,7 +27,7 @@ use Rattle.records.specs.Rewrites.{put, Has}
 use Rattle.records.proofs.Put.{and_then, has_byte, has_right, has_fits}
 use Rattle.records.proofs.StandsIn.{encode-under, encode-both, stands_kind, stands_fits}
 use Rattle.elapse.specs.Waits.{wait_at, waits_from, wait_places, Lists, Listed}
-use Rattle.elapse.proofs.Walking.{Still, Through, child_terms, encode-children, Ahead, ahead-start, ahead_none, First, first, ahead_past, next_is, next-bytes}
+use Rattle.elapse.proofs.Walking.{Still, Through, live-through, shut-still, past_wait, child_terms, encode-children, Ahead, ahead-start, ahead_none, First, first, ahead_past, next_is, next-bytes}
 use Rattle.elapse.proofs.Judged.{put_first}
 use Rattle.elapse.proofs.Lapsing.{stands_interval, put-interval}
 
@@ -210,7 +211,7 @@ module _ (s list₀ : List ℕ) (t : Term) where
       here_kind : get_or s (16 * p) 0 ≡ kind_of f.term
       here_kind = stands_kind f.term f.stands
 
-      pub listing_through : (5 ≤ get_or s (16 * p) 0) × (get_or s (16 * p) 0 ≢ 9) → Listing s list₀ t list (p + 1) w
+      listing_through : (5 ≤ get_or s (16 * p) 0) × (get_or s (16 * p) 0 ≢ 9) → Listing s list₀ t list (p + 1) w
       unfolding ahead_past
       listing_through k = record {
         ahead = ahead_past s p h.ahead f (record16 (root f.term)) (child_terms f.term) (encode-children f.term) (omega (arith, length_record16 (root f.term)));
@@ -233,7 +234,7 @@ module _ (s list₀ : List ℕ) (t : Term) where
             ∙ (ap (λ x. h.found ++ x) (ap (waits_ahead p) f.is ∙ (ap (λ x. x ++ waits_ahead (p + size f.term) f.rest) k ∙ ap (λ n. ps ++ waits_ahead n f.rest) (sym (next_is s p h.ahead f e at))))
             ∙ sym (append_assoc h.found ps (waits_ahead next f.rest)))
 
-        pub listing_still : (4 ≤ get_or s (16 * p) 0 → 9 ≤ get_or s (16 * p) 0) → Listing s list₀ t list next w
+        listing_still : (4 ≤ get_or s (16 * p) 0 → 9 ≤ get_or s (16 * p) 0) → Listing s list₀ t list next w
         unfolding behind ahead_past
         listing_still k = record {
           ahead = behind;
@@ -243,10 +244,14 @@ module _ (s list₀ : List ℕ) (t : Term) where
           places = part (waits_still p f.term (λ m. omega (arith, here_kind, k (omega (arith, here_kind))))) ∙ ap (λ x. x ++ waits_ahead next f.rest) (append-nil h.found);
         }
 
-        pub listing-wait : get_or s (16 * p) 0 ≡ 4 → {after : List ℕ} → after ≡ put list (2 * w) (bytes2 p) → Listing s list₀ t after next (w + 1)
+        pub listing_past : get_or s (16 * p) 0 ≢ 4 → {r : ℕ} → r ≡ cond (live_kind (get_or s (16 * p) 0)) (p + 1) next → Listing s list₀ t list r w
+        listing_past n {r} q =
+            rw q (cond_case (λ x. Listing s list₀ t list x w) (live_kind (get_or s (16 * p) 0)) (λ e. listing_through (live-through _ e)) (λ e. listing_still (shut-still _ e n)))
+
+        pub listing-wait : get_or s (16 * p) 0 ≡ 4 → {r : ℕ} → r ≡ cond (live_kind (get_or s (16 * p) 0)) (p + 1) next → {after : List ℕ} → after ≡ put list (2 * w) (bytes2 p) → Listing s list₀ t after r (w + 1)
         unfolding behind ahead_past waits_from wait_at waits found open_kinds flat_map
-        listing-wait k {after} o =
-            let (n, q) = kind-wait f.term (sym here_kind ∙ k) in record {
+        listing-wait k {r} z {after} o =
+            let (n, q) = kind-wait f.term (sym here_kind ∙ k) in rw (past_wait p k z) (record {
               ahead = behind;
               found = h.found ++ (p ∷ []);
               count = omega (arith, h.count, length-append h.found (p ∷ []));
@@ -254,4 +259,4 @@ module _ (s list₀ : List ℕ) (t : Term) where
                   and_then list₀ 0 (2 * w) (flat_map bytes2 h.found) (bytes2 p) (omega (arith, h.count, words_long h.found)) h.written o
                   ∙ ap (put list₀ 0) (ap (λ x. flat_map bytes2 h.found ++ x) (sym (append-nil (bytes2 p))) ∙ sym (flat_map_append bytes2 h.found (p ∷ [])));
               places = part (ap (waits_from p) q);
-            }
+            })

@@ -1,17 +1,23 @@
 -- A walk over a table as time goes: from its place on stand terms, one behind the other.
 use mathlib.Core.Path.{◌≡◌, refl, sym, ap, ◌∙◌}
 use mathlib.Core.Logic.{◌≢◌}
+use mathlib.Core.Bool.{Bool, true, false, cond, ◌&&◌}
 use mathlib.Core.List.{List, [], ◌∷◌, ◌++◌, append_assoc, append-nil, flat_map}
 use Prim.Native.Nat.{ℕ, ◌+◌, ◌*◌, ◌≤◌, ◌<◌}
 use native.Mathlib.Omega.{arith}
+use lib.Dec.{leb}
+use borrow.Author.Tests.{le-leb}
+use Rattle.std.proofs.lemmas.Bool.{leb-true}
 use lib.ListN.{length, drop, get_or, length-append, length-drop}
 use lib.Seq.{drop_at, drop-drop}
 use Rattle.cows.specs.Terms.{Term, leaf, under, both, size}
-use Rattle.cows.specs.Kinds.{prefix, join, root, kind_of}
+use Rattle.cows.specs.Kinds.{prefix, join, root, kind_of, live_kind, open_kinds}
 use Rattle.cows.specs.Format.{record16, encode}
+use Rattle.cows.proofs.Basics.{clash, cond_case, lt_case, and_true, true_and}
 use Rattle.cows.proofs.Cut.{flat_map_append}
 use Rattle.cows.proofs.Format.{length-encode}
 use Rattle.cows.proofs.Places.{size_pos}
+use Rattle.cows.proofs.Rows.{kind-range}
 use Rattle.records.specs.Ends.{EndsFrom}
 use Rattle.records.specs.Rewrites.{StandsIn, unchanged}
 use Rattle.records.proofs.Shapes.{end_stands}
@@ -34,6 +40,22 @@ Still t = 4 ≤ kind_of t → 9 ≤ kind_of t
 
 abbrev pub Through : Term → Type 0
 Through t = (5 ≤ kind_of t) × (kind_of t ≢ 9)
+
+-- the two by what the code tests
+live-range : (k : ℕ) → (leb 5 k && leb k 8) ≡ live_kind k
+unfolding open_kinds
+live-range = kind-range 5 8 live_kind (omega arith) (refl, refl, refl, refl, refl, refl, refl, refl, refl, refl) (λ n. refl)
+
+pub live-through : (k : ℕ) → live_kind k ≡ true → (5 ≤ k) × (k ≢ 9)
+live-through k e = let (a, b) = and_true (leb 5 k) (leb k 8) (live-range k ∙ e) in omega (arith, leb-true 5 k a, leb-true k 8 b)
+
+pub shut-still : (k : ℕ) → live_kind k ≡ false → k ≢ 4 → 4 ≤ k → 9 ≤ k
+shut-still k e n l = lt_case (9 ≤ k) 8 k (λ m. m) (λ m. clash (sym (live-range k) ∙ true_and (le-leb 5 k (omega arith)) (le-leb k 8 m)) e)
+
+-- behind a wait
+pub past_wait : (p : ℕ) {k end r : ℕ} → k ≡ 4 → r ≡ cond (live_kind k) (p + 1) end → r ≡ end
+unfolding open_kinds
+past_wait p {end = end} w e = e ∙ ap (λ j. cond (live_kind j) (p + 1) end) w
 
 abbrev pub child_terms : Term → List Term
 child_terms (leaf x) = []
@@ -104,3 +126,7 @@ module _ (s : List ℕ) (p : ℕ) (h : Ahead s p) where
 -- where the walk goes on behind a term, for code that knows of some table
 pub ahead-next : (s ends : List ℕ) (p : ℕ) (q : Known s ends) → Ahead s p → 16 * p < length s → {next : ℕ} → next ≡ get_or ends p 0 → (p < next) × (16 * next ≤ length s)
 ahead-next s ends p q h l at = next_fits s p h (first s p h l) q.table.end at
+
+-- where it goes on: at the next record, or there
+pub ahead-past : (s ends : List ℕ) (p : ℕ) (q : Known s ends) → Ahead s p → 16 * p < length s → {next : ℕ} → next ≡ get_or ends p 0 → (b : Bool) {r : ℕ} → r ≡ cond b (p + 1) next → (p < r) × (16 * r ≤ length s)
+ahead-past s ends p q h l {next} at b e = let a = ahead-next s ends p q h l at in rw e (cond_case (λ x. (p < x) × (16 * x ≤ length s)) b (λ i. omega arith) (λ i. a))

@@ -6,9 +6,9 @@ ghost use Rattle.cows.specs.Moves.{elapse};
 ghost use Rattle.ways.specs.Known.{Table, Known};
 ghost use Rattle.elapse.specs.Waits.{wait_places, Lists, Listed};
 
-use crate::lower;
+use crate::{lower, next_live};
 use records::copying::put_word;
-use records::{kinds, wide16, word_at};
+use records::{kinds, word_at};
 
 // Lists the live waits of the table of n records at the start of t, in one walk as time goes; how many they are.
 pub fn list_waits(t: &[u8], ends: &[u16], n: usize, list: &mut [u8]) -> usize
@@ -17,24 +17,15 @@ pub fn list_waits(t: &[u8], ends: &[u16], n: usize, list: &mut [u8]) -> usize
 {
     let mut p = 0;
     let mut w = 0;
+    // A walk by the ends: where it goes on depends on the record.
     while p < n {
         let kind = t[16 * p];
-        let next = wide16(ends[p]);
-        if kind < kinds::WAIT {
-            p = next;
-            continue;
-        }
+        let next = next_live(kind, p, usize::from(ends[p]));
         if kind == kinds::WAIT {
             put_word(p as u16, list, 2 * w);
             w += 1;
-            p = next;
-            continue;
         }
-        if kind == kinds::REPLICATION {
-            p = next;
-            continue;
-        }
-        p += 1;
+        p = next;
     }
     w
 }
@@ -44,10 +35,8 @@ pub fn lower_listed(t: &mut [u8], list: &[u8], w: usize, d: u16)
     requires { Listed t.old list.now w }
     ensures { (u : Term) (rest : List ℕ) → t.old ≡ encode u ++ rest → Lists list.now w (wait_places u) → t.new ≡ encode (elapse d u) ++ rest }
 {
-    let mut i = 0;
-    while i < w {
-        let k = 16 * wide16(word_at(list, 2 * i)) + 14;
+    for i in 0..w {
+        let k = 16 * usize::from(word_at(list, 2 * i)) + 14;
         put_word(lower(word_at(t, k), d), t, k);
-        i += 1;
     }
 }

@@ -7,6 +7,7 @@ ghost use Rattle.records.specs.Rewrites.{put};
 ghost use Rattle.entries.specs.Entries.{places_of, EntryRoom, Entered};
 
 use records::copying::put_word;
+use roles::Role;
 
 // Writes a move.
 pub fn put_move(kind: u8, a: u16, b: u16, out: &mut [u8], at: usize)
@@ -18,35 +19,24 @@ pub fn put_move(kind: u8, a: u16, b: u16, out: &mut [u8], at: usize)
     put_word(b, out, at + 4);
 }
 
-// How many of the first n places have the role.
-pub fn count(cast: &[u8], n: usize, role: u8) -> usize
-    requires { n ≤ length cast.now }
-    ensures { (result ≡ length (places_of cast.now role n)) × (result ≤ n) }
+// How many places have the role.
+pub fn count(cast: &[Role], role: Role) -> usize
+    ensures { (result ≡ length (places_of cast.now role (length cast.now))) × (result ≤ length cast.now) }
 {
-    let mut m = 0;
-    let mut i = 0;
-    while i < n {
-        m += (cast[i] == role) as usize;
-        i += 1;
-    }
-    m
+    cast.iter().filter(|r| **r == role).count()
 }
 
-// Writes the moves of one kind, those of the first n places that have the role, behind the m moves that stand there; how many stand there then.
-pub fn put_kind(cast: &[u8], n: usize, role: u8, kind: u8, out: &mut [u8], m: usize) -> usize
-    requires { EntryRoom cast.now role n out.old m }
-    ensures { Entered cast.now role kind out.old m n out.new result }
+// Writes the moves of one kind, those of the places that have the role, behind the m moves that stand there; how many stand there then.
+pub fn put_kind(cast: &[Role], role: Role, kind: u8, out: &mut [u8], m: usize) -> usize
+    requires { EntryRoom cast.now role (length cast.now) out.old m }
+    ensures { Entered cast.now role kind out.old m (length cast.now) out.new result }
 {
     let mut count = m;
-    let mut i = 0;
-    while i < n {
-        if cast[i] != role {
-            i += 1;
-            continue;
+    for i in 0..cast.len() {
+        if cast[i] == role {
+            put_move(kind, i as u16, 0, out, 6 * count);
+            count += 1;
         }
-        put_move(kind, i as u16, 0, out, 6 * count);
-        count += 1;
-        i += 1;
     }
     count
 }

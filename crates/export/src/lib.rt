@@ -12,6 +12,7 @@ use tables::Reply;
 use tally::Tally;
 
 // A reply in 64 bits: the answer in the lowest 8, the place in the 24 above them, the records in the highest 32.
+// The C interface (include/wigandoy.h) takes a number and no struct. A function and no `From`: not every `Reply` fits.
 fn pack(r: Reply) -> u64
     requires { Fits r }
     ensures { result ≡ packed r }
@@ -22,7 +23,7 @@ fn pack(r: Reply) -> u64
     answer + 256 * place + 4294967296 * records
 }
 
-// A tally in four numbers.
+// A tally in four numbers: the C interface lends an array of them.
 fn four_counts(c: Tally) -> [u32; 4]
     ensures { result ≡ four_counts c }
 {

@@ -4,7 +4,6 @@
 ghost use Rattle.std.specs.Prelude.{◌≡◌, ◌≤◌};
 ghost use Rattle.extents.specs.Extents.{added_by, deepened_by, Measurable, Measured};
 
-use depths::larger;
 use scripts::kinds;
 
 // Of an expression: the place behind it, and the records and the depth of its translation.
@@ -19,13 +18,11 @@ pub struct Extent {
 fn added(kind: u8) -> usize
     ensures { (result ≡ added_by kind) × (result ≤ 8) }
 {
-    if kind == kinds::PARALLEL {
-        return 1;
+    match kind {
+        kinds::PARALLEL => 1,
+        kinds::SEQUENCE => 6,
+        _ => 8,
     }
-    if kind == kinds::SEQUENCE {
-        return 6;
-    }
-    8
 }
 
 // The depth of a composition's translation by those of its parts'.
@@ -33,13 +30,11 @@ fn deepened(kind: u8, left: usize, right: usize) -> usize
     requires { (left ≤ 4096) × (right ≤ 4096) }
     ensures { result ≡ deepened_by kind left right }
 {
-    if kind == kinds::PARALLEL {
-        return 1 + larger(left, right);
+    match kind {
+        kinds::PARALLEL => 1 + left.max(right),
+        kinds::SEQUENCE => (3 + left).max(6 + right),
+        _ => (4 + left).max((6 + right).max(8)),
     }
-    if kind == kinds::SEQUENCE {
-        return larger(3 + left, 6 + right);
-    }
-    larger(4 + left, larger(6 + right, 8))
 }
 
 // The extent of the expression at place i.

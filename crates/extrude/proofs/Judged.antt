@@ -33,12 +33,14 @@ use Rattle.ways.specs.Ways.{live_there, LiveAt, parent_of}
 use Rattle.depths.specs.Depths.{Standing}
 use Rattle.ways.proofs.KnownTables.{table_size, table_ended}
 use Rattle.depths.proofs.Deep.{standing}
-use Rattle.plans.specs.declared.Judgement.TheVariants.{Allowed, Stuck, Large}
+use Rattle.std.specs.Prelude as rust
+use Rattle.std.specs.Prelude.{Ok, Err}
+use Rattle.plans.specs.declared.Refusal.{Refusal}
+use Rattle.plans.specs.declared.Refusal.TheVariants.{Stuck, Large}
 use Rattle.cows.specs.Within.{Right}
 use Rattle.cows.proofs.Sets.{in-values, in-variables, in_labels, value-range, variable-range, label-range, set_case}
 use Rattle.records.specs.Atoms.{class_of}
-use Rattle.plans.specs.declared.Plan.{Plan}
-use Rattle.plans.specs.Plans.{result_of, limited, Planned, Asks}
+use Rattle.plans.specs.Plans.{refusal_of, result_of, limited, Allowed, Asks}
 use Rattle.extrude.specs.Extruding.{is_label, beside_of, lift_at, Lifting, Liftable, Lifts, lifted}
 use Rattle.plans.proofs.Planning.{within_limits, absent}
 use Rattle.plans.proofs.Joining.{length_part}
@@ -104,7 +106,7 @@ module _ (s ends : List ℕ) (a p k : ℕ) (t : Term) (d : ℕ) (h : Lifting s e
   unfolding fitting on_kind
   fitting_at = ap fitting way_is ∙ ap floats_over (sym (plug-kind f (sub t a)) ∙ sym (holds_kind s t p h.table.holds at.0 ∙ ap kind_of at.1))
 
-  pub lift_stuck : floats_over (get_or s (16 * p) 0) ≡ false → result_of (Stuck a) ≡ limited (lift_at d t a)
+  pub lift_stuck : floats_over (get_or s (16 * p) 0) ≡ false → refusal_of (Stuck a) ≡ limited (lift_at d t a)
   unfolding limited lift_at ◌>>=◌ ◌>>◌ forbid place_if
   lift_stuck e = rw (fitting_at, e)
 
@@ -160,16 +162,16 @@ module _ (s ends : List ℕ) (a p k : ℕ) (t : Term) (d : ℕ) (h : Lifting s e
   old_shallow : k + depth (plug f (sub t a)) ≤ 257
   old_shallow = omega (arith, level, depth_part w (plug f (sub t a)), ap depth old, h.table.within.shallow)
 
-  lift_allowed : floats_over (get_or s (16 * p) 0) ≡ true → over_limits (after_extrude d t a) ≡ false → result_of (Allowed (length s / 16)) ≡ limited (lift_at d t a)
+  lift_allowed : floats_over (get_or s (16 * p) 0) ≡ true → over_limits (after_extrude d t a) ≡ false → accept (length s / 16) ≡ limited (lift_at d t a)
   unfolding limited lift_at ◌>>=◌ ◌>>◌ forbid place_if
   lift_allowed e o = rw (fitting_at, e, o, lift_size)
 
-  lift_large : floats_over (get_or s (16 * p) 0) ≡ true → over_limits (after_extrude d t a) ≡ true → result_of Large ≡ limited (lift_at d t a)
+  lift_large : floats_over (get_or s (16 * p) 0) ≡ true → over_limits (after_extrude d t a) ≡ true → refusal_of Large ≡ limited (lift_at d t a)
   unfolding limited lift_at ◌>>=◌ ◌>>◌ forbid place_if
   lift_large e o = rw (fitting_at, e, o)
 
   -- above it a prefix: no record goes deeper
-  pub lift_plain : floats_over (get_or s (16 * p) 0) ≡ true → get_or s (16 * p) 0 ≢ 6 → result_of (Allowed (length s / 16)) ≡ limited (lift_at d t a)
+  pub lift_plain : floats_over (get_or s (16 * p) 0) ≡ true → get_or s (16 * p) 0 ≢ 6 → accept (length s / 16) ≡ limited (lift_at d t a)
   lift_plain e n =
       let z = holds_kind s t p h.table.holds at.0 ∙ ap kind_of at.1 in
       let q = plain_depth f (sub t a) body (λ y. n (z ∙ y)) (rw z at e) depth_here in
@@ -207,10 +209,10 @@ module _ (s ends : List ℕ) (a p k : ℕ) (t : Term) (d : ℕ) (h : Lifting s e
     fits : floats_over (get_or s (16 * p) 0) ≡ true
     fits = rw e (unfold open_kinds in refl)
 
-    pub lift_beside : b ≡ false → result_of (Allowed (length s / 16)) ≡ limited (lift_at d t a)
+    pub lift_beside : b ≡ false → accept (length s / 16) ≡ limited (lift_at d t a)
     lift_beside l = lift_allowed fits (shallow_enough (omega (arith, ltb-false (255 - k) _ (sym beside-deep ∙ l), (sibling e).deep body, (sibling e).deep (sub t a), old_shallow, depth_here)))
 
-    pub lift_deep : b ≡ true → result_of Large ≡ limited (lift_at d t a)
+    pub lift_deep : b ≡ true → refusal_of Large ≡ limited (lift_at d t a)
     lift_deep l = lift_large fits (too_deep_lem (omega (arith, ltb-true (255 - k) _ (sym beside-deep ∙ l), (sibling e).deep body)))
 
 -- Which of the three sets an atom is of, by its class.
@@ -292,8 +294,13 @@ module _ (s : List ℕ) (t : Term) (a k : ℕ) (h : LiveAt s t a 8) (count : k �
     unfolding extrude_at lift_at ◌>>=◌
     lift_is = rw (delimitation-wanted, sym label_read ∙ (or_false (is_label (class_of (word s (16 * a + 2)))) (eqb k 0) e).0)
 
-    pub lift_planned : (r : Plan) → result_of r.judgement ≡ limited (lift_at d t a) → r.from ≡ p → Planned (extrude_at t a) (parent_of (way_to t a)) r
-    lift_planned r j f = record { judged = j ∙ ap limited (sym lift_is); place_is = λ u y. f ∙ at }
+    -- judged as the record above it tells
+    module _ {j : rust.Result ℕ Refusal} (q : result_of j ≡ limited (lift_at d t a)) where
+      pub lift_planned : {n : ℕ} → j ≡ Ok n → Allowed (extrude_at t a) (parent_of (way_to t a)) (record { records = n; from = p })
+      lift_planned e = record { judged = sym (ap result_of e) ∙ (q ∙ ap limited (sym lift_is)); place_is = at }
+
+      pub lift_refused : {r : Refusal} → j ≡ Err r → refusal_of r ≡ limited (extrude_at t a)
+      lift_refused e = sym (ap result_of e) ∙ (q ∙ ap limited (sym lift_is))
 
     pub live_below : length s / 16 + 1 < length ends → k < 256 → Liftable s ends a p k
     live_below m n = record {

@@ -8,33 +8,28 @@ ghost use Rattle.cows.specs.Places.{way_to};
 ghost use Rattle.cows.specs.Kinds.{floats_over};
 ghost use Rattle.cows.specs.Moves.{extrude_at};
 ghost use Rattle.records.specs.Rewrites.{put};
-ghost use Rattle.ways.specs.Known.{Table, Known};
+ghost use Rattle.ways.specs.TermOf.{TermOf};
 ghost use Rattle.ways.specs.Ways.{parent_of};
 ghost use Rattle.plans.specs.Plans.{result_of, limited, Planned, Asks, Gives};
 ghost use Rattle.extrude.specs.Extruding.{is_label, beside_of, lift_at, Lifting, Liftable, Lifts, lifted, raised, LiftsEnds, EndsLifted};
 
 use depths::deeper;
-use plans::{Judgement, Plan, refused};
+use plans::{Plan, Refusal};
 use records::copying::copy;
-use records::{Atom, atom_at, kinds, limits, wide16};
-use ways::place_at;
+use records::{Atom, atom_at, kinds, limits};
+use ways::KnownTable;
 
 fn is_label(a: Atom) -> bool
     ensures { result ≡ is_label a }
 {
-    match a {
-        Atom::None => false,
-        Atom::Value(v) => false,
-        Atom::Variable(x) => false,
-        Atom::Label(k) => true,
-    }
+    matches!(a, Atom::Label(_))
 }
 
 // Whether a delimitation may change places with a record of this kind above it.
 fn floats_over(kind: u8) -> bool
     ensures { result ≡ floats_over kind }
 {
-    (kinds::PARALLEL <= kind) & (kind <= kinds::DELIMITATION)
+    matches!(kind, kinds::PARALLEL..=kinds::DELIMITATION)
 }
 
 // Where the other side begins of the parallel at place p, one side of which is at place a and ends at place `end`.
@@ -46,42 +41,38 @@ fn beside(p: usize, a: usize, end: usize) -> usize
 }
 
 // The delimitation at place a and the record above it at place p change places, if they may; k records are on the way to a.
-fn judge_above(s: &[u8], ends: &[u16], a: usize, p: usize, k: usize) -> Judgement
+fn judge_above(s: &[u8], ends: &[u16], a: usize, p: usize, k: usize) -> Result<usize, Refusal>
     requires { Liftable s.now ends.now a p k }
     ensures { (t : Term) (d : ℕ) → Lifting s.now ends.now a p k t d → result_of result ≡ limited (lift_at d t a) }
 {
     let kind = s[16 * p];
     if !floats_over(kind) {
-        return Judgement::Stuck(a);
+        return Err(Refusal::Stuck(a));
     }
     let n = s.len() / 16;
     if kind != kinds::PARALLEL {
-        return Judgement::Allowed(n);
+        return Ok(n);
     }
     let room = limits::MAX_DEPTH - 1 - k;
-    if deeper(s, ends, beside(p, a, wide16(ends[a])), room) {
-        return Judgement::Large;
+    if deeper(s, ends, beside(p, a, usize::from(ends[a])), room) {
+        return Err(Refusal::Large);
     }
-    Judgement::Allowed(n)
+    Ok(n)
 }
 
 // The move on the delimitation at place a; the place of its plan is the record above.
-pub fn judge(s: &[u8], ends: &[u16], a: usize) -> Plan
-    requires { Known s.now ends.now }
-    ensures { (t : Term) → Table s.now ends.now t → Planned (extrude_at t a) (parent_of (way_to t a)) result }
+pub fn judge(table: KnownTable, a: usize) -> Result<Plan, Refusal>
+    ensures { (t : Term) → TermOf table.entry t → Planned (extrude_at t a) (parent_of (way_to t a)) result }
 {
-    let place = place_at(s, ends, a, kinds::DELIMITATION);
-    if !place.live {
-        return refused(Judgement::Absent(a));
-    }
-    if is_label(atom_at(s, 16 * a + 2)) | (place.above == 0) {
-        return refused(Judgement::Stuck(a));
+    let Some(place) = table.place_at(a, kinds::DELIMITATION) else {
+        return Err(Refusal::Absent(a));
+    };
+    if is_label(atom_at(table.bytes, 16 * a + 2)) | (place.above == 0) {
+        return Err(Refusal::Stuck(a));
     }
     let p = place.parent;
-    Plan {
-        judgement: judge_above(s, ends, a, p, place.above),
-        from: p,
-    }
+    let records = judge_above(table.bytes, table.ends, a, p, place.above)?;
+    Ok(Plan { records, from: p })
 }
 
 // The record at place a goes before those from place p on.
@@ -96,11 +87,11 @@ fn lift(s: &[u8], a: usize, p: usize, out: &mut [u8])
 }
 
 // Its successor.
-pub fn write(s: &[u8], ends: &[u16], a: usize, from: usize, out: &mut [u8])
-    requires { Asks (λ t. extrude_at t a) (λ t. parent_of (way_to t a)) s.now ends.now from out.old }
-    ensures { Gives (λ t. extrude_at t a) s.now ends.now out.old out.new }
+pub fn write(table: KnownTable, a: usize, from: usize, out: &mut [u8])
+    requires { Asks (λ t. extrude_at t a) (λ t. parent_of (way_to t a)) table.bytes.now table.ends.now from out.old }
+    ensures { Gives (λ t. extrude_at t a) table.entry.bytes.now table.entry.ends.now out.old out.new }
 {
-    lift(s, a, from, out);
+    lift(table.bytes, a, from, out);
 }
 
 // The bytes from `low` up to `high` go up by one record, the last first.
@@ -108,9 +99,7 @@ fn raise(t: &mut [u8], low: usize, high: usize)
     requires { (low ≤ high) × (high + 16 ≤ length t.old) }
     ensures { t.new ≡ raised t.old low high }
 {
-    let mut i = high;
-    while low < i {
-        i -= 1;
+    for i in (low..high).rev() {
         t[i + 16] = t[i];
     }
 }
@@ -132,10 +121,8 @@ pub fn lift_ends(ends: &mut [u16], a: usize, p: usize)
     ensures { EndsLifted ends.old a p ends.new }
 {
     let top = ends[p];
-    let mut i = a;
-    while p + 1 < i {
-        ends[i] = ends[i - 1] + 1;
-        i -= 1;
+    for i in (p + 1..a).rev() {
+        ends[i + 1] = ends[i] + 1;
     }
     ends[p + 1] = top;
 }

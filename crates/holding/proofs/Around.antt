@@ -5,10 +5,10 @@ use mathlib.Core.Logic.{◌≢◌}
 use mathlib.Core.Bool.{Bool, true, false, ◌&&◌, ◌||◌}
 use mathlib.Core.Option.{Option, none, some}
 use mathlib.Core.List.{List}
-use Prim.Native.Nat.{ℕ, zero, suc, ◌+◌, ◌*◌, ◌-◌, ◌≤◌, ◌<◌}
+use Prim.Native.Nat.{ℕ, zero, suc, ◌+◌, ◌*◌, ◌-◌, ◌/◌, ◌≤◌, ◌<◌}
 use native.Mathlib.Omega.{arith}
 use lib.Dec.{ltb, eqb}
-use lib.ListN.{get_or}
+use lib.ListN.{length, get_or}
 use borrow.Author.Tests.{ltb-true, lt-ltb, eq-eqb, ne_eqb}
 use Rattle.cows.specs.Basics.{any, found_with, place_if, or_else, first_from}
 use Rattle.cows.specs.Terms.{Term, size, label, prefixed, delimits, delimits_at}
@@ -18,13 +18,18 @@ use Rattle.cows.specs.Active.{live}
 use Rattle.cows.specs.Moves.{held_back}
 use Rattle.cows.specs.Within.{Within}
 use Rattle.cows.proofs.Basics.{clash, and_true, true_and, or_left, or_case, and_none, not_so, holds_some, none-first_from, from_next, from_skip}
-use Rattle.cows.proofs.Reach.{reaches_enclosed}
+use Rattle.cows.proofs.Reach.{enclosed_reaches, reaches_enclosed}
 use Rattle.cows.proofs.Sets.{label-range}
 use Rattle.cows.proofs.Stands.{fails_first}
 use Rattle.records.specs.Holds.{Holds}
-use Rattle.ways.specs.Ways.{Over, Step}
-use Rattle.ways.proofs.Frames.{delimits-bytes, frame_delimits_lem}
-use Rattle.ways.proofs.Descending.{way_root, at_end}
+use Rattle.records.specs.Answers.{found_of}
+use Rattle.ways.specs.Known.{Table}
+use Rattle.ways.specs.Ways.{Over, FirstAbove}
+use Rattle.ways.proofs.KnownTables.{table_inside}
+use Rattle.std.specs.Prelude as rust
+use Rattle.std.specs.Prelude.{Some, None, is_some}
+use Rattle.ways.proofs.Frames.{delimits-bytes}
+use Rattle.ways.proofs.Parts.{part_ends}
 use Rattle.holding.specs.Holding.{killed, holds_at, Outside}
 use Rattle.holding.proofs.HeldBack.{held_whole}
 
@@ -38,18 +43,15 @@ module _ (s : List ℕ) (t : Term) (p : ℕ) (h : Holds s t) (l : p < size t) (k
       let z : eqb (word s (16 * p + 2)) k ≡ false = ne_eqb _ k (λ e. omega (arith, label-range k v)) in
       sym (delimits-bytes s t p k h l) ∙ rw z (and_none (eqb (get_or s (16 * p) 0) 8))
 
--- the walk down to a place, outside of the delimitations of the atoms that pass a test
-module _ (test : ℕ → Bool) (t : Term) where
-  pub outside-root : Outside test t 0
-  unfolding enclosed any
-  outside-root k v = ap (enclosed k) (way_root t)
+-- where no record above a place delimits an atom that passes a test, none encloses the place
+pub outside_above : (test : ℕ → Bool) (t : Term) (a : ℕ) → a < size t → ((q : ℕ) → Over t q a → q < a → (k : ℕ) → test k ≡ true → delimits_at k (sub t q) ≡ false) → Outside test t a
+outside_above test t a l h k v = not_so (λ e.
+    let (q, m, x, i) = enclosed_reaches t k a l e in
+    clash x (h q (record { inside = omega (arith, l); low = omega arith; over = i }) m k v))
 
-  pub outside_step : {p a q : ℕ} → Step t p a q → Outside test t p → ((k : ℕ) → test k ≡ true → delimits_at k (sub t p) ≡ false) → Outside test t q
-  unfolding enclosed any
-  outside_step {q = q} x o e k v = rw (x.way, frame_delimits_lem k x.frame (sub t q), ← x.stands, e k v) (o k v)
-
-  pub outside-end : {p a : ℕ} → Over t p a → a ≤ p → Outside test t p → Outside test t a
-  outside-end v l o k e = sym (at_end (λ p. enclosed k (way_to t p)) v l) ∙ o k e
+-- what is above a record on the way to a place is above the place
+pub over_above : {t : Term} {q p a : ℕ} → Over t q p → Over t p a → Over t q a
+over_above {t = t} {q = q} {p = p} x o = record { inside = x.inside; low = omega (arith, x.low, o.low); over = omega (arith, o.over, part_ends t q p x.inside x.low x.over) }
 
 -- a record that delimits no label of a ready kill
 pub holds_none : (t : Term) (p : ℕ) → holds_at t p ≡ false → (k : ℕ) → killed t k ≡ true → delimits_at k (sub t p) ≡ false
@@ -167,3 +169,26 @@ module _ (t : Term) (a b : ℕ) (l : a ≤ b) where
   pub first_either_flipped : first (held_back b a) t ≡ either_first
   unfolding first
   first_either_flipped = either_first_lem _ _ _ (λ n. held_one t b a n ∙ or_flip (held_back b b n (spot_at t n)) (held_back a a n (spot_at t n))) lower-first 0 (size t)
+
+-- no record above a place delimits a label
+pub unlabelled : {s ends : List ℕ} {t : Term} {a : ℕ} {test : ℕ → Bool → Type 0} → Table s ends t → a < length s / 16
+    → ((p : ℕ) → p < size t → test p false → (k : ℕ) → label k ≡ true → delimits_at k (sub t p) ≡ false)
+    → (r : rust.Option ℕ) → is_some r ≡ false → FirstAbove test t a r → Outside label t a
+unlabelled {s = s} {ends = ends} {t = t} {a = a} h l tells None e f = outside_above label t a (table_inside s ends t h a l) (λ q o n. tells q o.inside (f.none refl q o n))
+unlabelled h l tells (Some p) e f = clash refl e
+
+-- the first record above a live place that delimits a label of a ready kill is the first that holds the place back
+module _ {s ends : List ℕ} {t : Term} {a : ℕ} (h : Table s ends t) (l : a < length s / 16) (v : live (way_to t a) ≡ true) {test : ℕ → Bool → Type 0}
+    (tells : (p : ℕ) (b : Bool) → p < size t → test p b → b ≡ holds_at t p) where
+  abbrev inside : a < size t
+  inside = table_inside s ends t h a l
+
+  unmarked : (c : ℕ) → c < size t → ((q : ℕ) → Over t q c → q < c → test q false) → Outside (killed t) t c
+  unmarked c m e = outside_above (killed t) t c m (λ q o n. holds_none t q (sym (tells q false o.inside (e q o n))))
+
+  pub marked_first : (r : rust.Option ℕ) → FirstAbove test t a r → r ≡ found_of (first (held_back a a) t)
+  marked_first None f = let o = unmarked a inside (f.none refl) in ap found_of (sym (none-held t h.within a a inside inside v v o o))
+  marked_first (Some p) f =
+      let (o, m, e, b) = f.some p refl in
+      let u = unmarked p o.inside (λ q x n. b q (over_above x o) n) in
+      ap found_of (sym (first_around t h.within a inside v p o m u (sym (tells p true o.inside e))))

@@ -23,8 +23,9 @@ use Rattle.records.specs.Holds.{Holds}
 use Rattle.records.proofs.StandsIn.{holds_kind}
 use Rattle.ways.specs.Known.{Table}
 use Rattle.ways.proofs.KnownTables.{table_size}
-use Rattle.matching.specs.declared.Fit.{Fit}
-use Rattle.matching.specs.declared.Fit.TheVariants.{Binds, Differs}
+use Rattle.std.specs.Prelude as rust
+use Rattle.matching.specs.declared.Difference.{Difference}
+use Rattle.std.specs.Prelude.{Ok, Err}
 use Rattle.matching.specs.Matching.{fit_of, ActionAt}
 use Rattle.matching.proofs.Parties.{receive_here, receive_ends}
 use Rattle.holding.specs.Holding.{rival_at}
@@ -34,9 +35,9 @@ abbrev pub tightening : ℕ → Action → Term → Bool
 tightening l m r = found_with (λ q. fewer l (fit q m)) (prefixed receives r)
 
 -- and of an answer
-abbrev pub fewer_bound : ℕ → Fit → Bool
-fewer_bound l (Binds n) = ltb n l
-fewer_bound l (Differs d) = false
+abbrev pub fewer_bound : ℕ → rust.Result ℕ Difference → Bool
+fewer_bound l (Ok n) = ltb n l
+fewer_bound l (Err d) = false
 
 fewer-bound : (l : ℕ) (x : Matching) → fewer_bound l (fit_of x) ≡ fewer l x
 unfolding fewer
@@ -57,7 +58,7 @@ module _ (s : List ℕ) (t : Term) (i l : ℕ) (m : Action) (h : Holds s t) (p :
     unfolding prefixed receives
     receiving = let (q, z, k) = receive_here s t i h p (sym (holds_kind s t i h p) ∙ e) in (q, k, ap (prefixed receives) z)
 
-    pub receive_tests : (r : Fit) → ((q : Action) → ActionAt s i q → r ≡ fit_of (fit q m)) → fewer_bound l r ≡ tightening l m (sub t i)
+    pub receive_tests : (r : rust.Result ℕ Difference) → ((q : Action) → ActionAt s i q → r ≡ fit_of (fit q m)) → fewer_bound l r ≡ tightening l m (sub t i)
     unfolding found_with
     receive_tests r f = let (q, k, z) = receiving in rw (z, f q k) (fewer-bound l (fit q m))
 
@@ -81,13 +82,13 @@ pub none-under : (t : Term) (m : Action) → first (tighter m 0) t ≡ none
 none-under t m = fails_first (tighter m 0) t (λ i k e. let (q, σ, z, x, n) = tighter_is t m 0 i e in omega arith)
 
 -- nor than one that is alone on its endpoint
-module _ {s ends : List ℕ} {t : Term} (h : Table s ends t) (a b l : ℕ) (q m : Action) (here : prefixed receives (sub t a) ≡ some q) (sent : ActionAt s b m) (f : Binds l ≡ fit_of (fit q m))
+module _ {s ends : List ℕ} {t : Term} (h : Table s ends t) (a b l : ℕ) (q m : Action) (here : prefixed receives (sub t a) ≡ some q) (sent : ActionAt s b m) (f : Ok l ≡ fit_of (fit q m))
     (ahead : (i : ℕ) → 0 ≤ i → i < a → rival_at s b i ≡ false) (behind : (i : ℕ) → a + 1 ≤ i → i < length s / 16 → rival_at s b i ≡ false) where
   not_itself : (r : Action) (σ : Substitution) → prefixed receives (sub t a) ≡ some r → fit r m ≡ binds σ → length σ < l → ⊥
   not_itself r σ z x n =
       let s : some q ≡ some r = sym here ∙ z in
       let y : q ≡ r = cc in
-      let w : Binds l ≡ Binds (length σ) = f ∙ (ap (λ p. fit_of (fit p m)) y ∙ ap fit_of x) in
+      let w : Ok l ≡ Ok (length σ) = f ∙ (ap (λ p. fit_of (fit p m)) y ∙ ap fit_of x) in
       let v : l ≡ length σ = cc in
       omega arith
 

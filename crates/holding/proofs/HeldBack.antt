@@ -16,21 +16,12 @@ use Rattle.cows.specs.Moves.{ready_kill, held_back}
 use Rattle.cows.specs.Within.{Right, Bound, Within}
 use Rattle.cows.proofs.Basics as basics
 use Rattle.cows.proofs.Basics.{bool_case, and_true, true_and, or_case, or_right, and_none, same_test, none_found, holds_some, every_append}
-use Rattle.cows.proofs.Places.{spot_part, spot_fits, descend_way, descend_here}
+use Rattle.cows.proofs.Places.{spot_fits}
 use Rattle.cows.proofs.Stands.{right_at, kills_is, Test, fails_first, first_found, scoped_at}
 use Rattle.cows.proofs.Scans.{live-ready}
 use Rattle.cows.proofs.Reach.{enclosed_reaches}
 use Rattle.ways.proofs.Once.{one_delimitation}
-
--- place i of the term at place n, as a place of the table
-module _ (t : Term) (n : ℕ) (l : n < size t) (i : ℕ) (m : i < size (sub t n)) where
-  part_way : way_to t (n + i) ≡ way_to (sub t n) i ++ way_to t n
-  unfolding way_to sub spot_at
-  part_way = ap (λ (z : Spot). z.way) ((spot_part t n l).1 i m) ∙ descend_way [] (way_to t n) (sub t n) i
-
-  pub part_sub : sub t (n + i) ≡ sub (sub t n) i
-  unfolding way_to sub spot_at
-  part_sub = ap (λ (z : Spot). z.here) ((spot_part t n l).1 i m) ∙ descend_here (way_to t n) [] (sub t n) i
+use Rattle.ways.proofs.Parts.{part_way, part_sub}
 
 -- what is found stands somewhere
 found_at : (b : Bool) (f : Test) (t : Term) → ((i : ℕ) → i < size t → f i (record { way = way_to t i; here = sub t i }) ≡ true → b ≡ true) → found (first f t) ≡ true → b ≡ true

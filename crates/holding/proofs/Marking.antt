@@ -1,5 +1,5 @@
 -- The marks of labels (specs/Holding): the walk that marks the ready kills of a table, and what the marks say of a delimitation.
-use mathlib.Core.Path.{◌≡◌, refl, sym, ap, ◌∙◌, subst}
+use mathlib.Core.Path.{◌≡◌, refl, sym, ap, ◌∙◌}
 use mathlib.Core.Logic.{◌≢◌}
 use mathlib.Core.Bool.{Bool, true, false, not}
 use mathlib.Core.List.{List}
@@ -11,7 +11,7 @@ use lib.ListN.{length, get_or}
 use borrow.Author.Tests.{eqb-true, eq-eqb}
 use Rattle.cows.specs.Basics.{found_with, found}
 use Rattle.cows.specs.Terms.{nil, kill, invoke, receive, wait, protection, delimitation, replication, Term, leaf, under, both, size, label, kills, prefixed, delimits}
-use Rattle.cows.specs.Kinds.{root, kind_of, ready_kind, open_kinds}
+use Rattle.cows.specs.Kinds.{root, kind_of, ready_kind}
 use Rattle.cows.specs.Places.{sub, first}
 use Rattle.cows.specs.Format.{word, record16}
 use Rattle.cows.specs.Active.{ready}
@@ -25,7 +25,8 @@ use Rattle.records.proofs.StandsIn.{holds_kind, holds_word}
 use Rattle.ways.specs.Known.{Table}
 use Rattle.holding.specs.Holding.{mark_of, Marks, Unmarked, killed, KillsMarked, holds_at, Outside}
 use Rattle.ways.proofs.KnownTables.{table_inside}
-use Rattle.ways.proofs.Seeking.{Seeking, seeking_start, seeking_end, seeking_over}
+use Rattle.ways.proofs.Seeking.{Seeking, seeking_start, seeking_end}
+use Rattle.holding.proofs.Passing.{past_of, past_seeking}
 use Rattle.holding.proofs.HeldBack.{is_kill, kill-label, kills_labelled}
 
 -- a kill and a delimitation by their kinds
@@ -77,14 +78,17 @@ module _ (marks : List ℕ) (t : Term) where
       (λ z. rw z (sym (none_found _ (seeking_end _ _ t i (h.ahead k e (eqb-true _ _ z)) l))))
       (λ z. rw z (sym (h.marked k e (λ y. clash (eq-eqb _ _ y) z))))
 
-module _ (s ends : List ℕ) (t : Term) (h : Table s ends t) (i : ℕ) (l : i < length s / 16) where
+module _ (s ends : List ℕ) (t : Term) (h : Table s ends t) (i : ℕ) (l : i < length s / 16) (j : ℕ) (past : j ≡ past_of s ends i) where
   placed : i < size t
   placed = table_inside s ends t h i l
 
+  step : (test : Term → Bool) → Seeking ready_kind test t i → test (sub t i) ≡ false → Seeking ready_kind test t j
+  step test k miss = past_seeking s ends t h i l j past test k (λ p. refl) miss
+
   -- past a record that is no kill
-  pub marking_step : (marks : List ℕ) (j : ℕ) → get_or s (16 * i) 0 ≢ 1 → ((test : Term → Bool) → Seeking ready_kind test t i → test (sub t i) ≡ false → Seeking ready_kind test t j) → Marking marks t i → Marking marks t j
+  pub marking_step : (marks : List ℕ) → get_or s (16 * i) 0 ≢ 1 → Marking marks t i → Marking marks t j
   unfolding found_with
-  marking_step marks j e step m = record {
+  marking_step marks e m = record {
     walk = step _ m.walk refl;
     ahead = λ k p z. step _ (m.ahead k p z) (rw (kills-none (sub t i) (λ q. e (holds_kind s t i h.holds placed ∙ q))));
     marked = m.marked;
@@ -102,18 +106,14 @@ module _ (s ends : List ℕ) (t : Term) (h : Table s ends t) (i : ℕ) (l : i < 
       other_mark : (k : ℕ) → label k ≡ true → eqb k w ≡ false → mark_of marks' (k - 49152) ≡ mark_of marks (k - 49152)
       other_mark k p n = set.others (k - 49152) (λ z. clash (eq-eqb k w (omega (arith, label-range k p, kill-range))) n)
 
-      past_kill : (test : Term → Bool) → Seeking ready_kind test t i → test (sub t i) ≡ false → Seeking ready_kind test t (i + 1)
-      unfolding size open_kinds
-      past_kill test k miss = subst (Seeking ready_kind test t) (ap (λ r. i + size r) here) (seeking_over ready_kind test t i k placed miss (ap (λ r. ready_kind (kind_of r)) here))
-
-      pub marking_kill : Marking marks t i → Marking marks' t (i + 1)
+      pub marking_kill : Marking marks t i → Marking marks' t j
       unfolding found_with kills ready
       marking_kill m =
           record {
-            walk = past_kill _ m.walk refl;
-            ahead = λ k q z. bool_case (Seeking ready_kind (killing k) t (i + 1)) (eqb k w)
+            walk = step _ m.walk refl;
+            ahead = λ k q z. bool_case (Seeking ready_kind (killing k) t j) (eqb k w)
                 (λ y. absurd (omega (arith, set.here, ap (λ d. mark_of marks' (d - 49152)) (eqb-true k w y))))
-                (λ n. past_kill _ (m.ahead k q (sym (other_mark k q n) ∙ z)) (ap (killing k) here ∙ n));
+                (λ n. step _ (m.ahead k q (sym (other_mark k q n) ∙ z)) (ap (killing k) here ∙ n));
             marked = λ k q z. bool_case (found (first (ready_kill k) t) ≡ true) (eqb k w)
                 (λ y. is_kill k t i placed (m.walk.active placed) (here ∙ ap (λ d. leaf (kill d)) (sym (eqb-true k w y))))
                 (λ n. m.marked k q (λ y. z (other_mark k q n ∙ y)));

@@ -7,14 +7,14 @@ ghost use Rattle.cows.specs.Places.{sub, first};
 ghost use Rattle.cows.specs.Moves.{closed_action, fit, fewer, tighter};
 ghost use Rattle.records.specs.Holds.{Holds};
 ghost use Rattle.records.specs.Answers.{found_of};
-ghost use Rattle.ways.specs.Known.{Table, Known};
-ghost use Rattle.matching.specs.declared.Fit.TheVariants.{Binds};
+ghost use Rattle.ways.specs.TermOf.{TermOf};
 ghost use Rattle.matching.specs.Matching.{fit_of, ActionAt};
 ghost use Rattle.holding.specs.Holding.{rival_at};
 
-use crate::ready_kind;
-use matching::{Fit, fits_closed};
-use records::{Found, kinds, wide16, word_at};
+use crate::next_ready;
+use matching::fits_closed;
+use records::{kinds, word_at};
+use ways::KnownTable;
 
 // Whether the record at place i is a receive that fits the invoke at place b, which holds no variable, and binds fewer than l variables.
 fn tighter(s: &[u8], i: usize, b: usize, l: usize) -> bool
@@ -24,30 +24,27 @@ fn tighter(s: &[u8], i: usize, b: usize, l: usize) -> bool
     if s[16 * i] != kinds::RECEIVE {
         return false;
     }
-    let Fit::Binds(n) = fits_closed(s, i, b) else {
+    let Ok(n) = fits_closed(s, i, b) else {
         return false;
     };
     n < l
 }
 
 // The first such receive among the ready records.
-pub fn first_tighter(s: &[u8], ends: &[u16], b: usize, l: usize) -> Found
-    requires { Known s.now ends.now × (b < length s.now / 16) }
-    ensures { (t : Term) (m : Action) → Table s.now ends.now t → ActionAt s.now b m → closed_action m ≡ true → result ≡ found_of (first (tighter m l) t) }
+pub fn first_tighter(table: KnownTable, b: usize, l: usize) -> Option<usize>
+    requires { b < length table.bytes.now / 16 }
+    ensures { (t : Term) (m : Action) → TermOf table.entry t → ActionAt table.entry.bytes.now b m → closed_action m ≡ true → result ≡ found_of (first (tighter m l) t) }
 {
-    let n = s.len() / 16;
+    let n = table.bytes.len() / 16;
     let mut i = 0;
+    // A walk by the ends: where it goes on depends on the record.
     while i < n {
-        if tighter(s, i, b, l) {
-            return Found::At(i);
+        if tighter(table.bytes, i, b, l) {
+            return Some(i);
         }
-        if ready_kind(s[16 * i]) {
-            i += 1;
-            continue;
-        }
-        i = wide16(ends[i]);
+        i = next_ready(table, i);
     }
-    Found::Nothing
+    None
 }
 
 // Whether the record at place i is a receive on the endpoint of the invoke at place b.
@@ -68,24 +65,23 @@ fn any_rival(s: &[u8], from: usize, to: usize, b: usize) -> bool
     ensures { result ≡ false → (i : ℕ) → from ≤ i → i < to → rival_at s.now b i ≡ false }
 {
     let mut any = false;
-    let mut i = from;
-    while i < to {
+    for i in from..to {
         any = any | rival(s, i, b);
-        i += 1;
     }
     any
 }
 
 // The first receive that is tighter than the one at place a, which fits the invoke at place b and binds l variables. Where it binds none, or is alone on the endpoint, none is.
-pub fn first_rival(s: &[u8], ends: &[u16], a: usize, b: usize, l: usize) -> Found
-    requires { Known s.now ends.now × (a < length s.now / 16) × (b < length s.now / 16) }
-    ensures { (t : Term) (q m : Action) → Table s.now ends.now t → prefixed receives (sub t a) ≡ some q → ActionAt s.now b m → closed_action m ≡ true → Binds l ≡ fit_of (fit q m) → result ≡ found_of (first (tighter m l) t) }
+pub fn first_rival(table: KnownTable, a: usize, b: usize, l: usize) -> Option<usize>
+    requires { (a < length table.bytes.now / 16) × (b < length table.bytes.now / 16) }
+    ensures { (t : Term) (q m : Action) → TermOf table.entry t → prefixed receives (sub t a) ≡ some q → ActionAt table.entry.bytes.now b m → closed_action m ≡ true → Ok l ≡ fit_of (fit q m) → result ≡ found_of (first (tighter m l) t) }
 {
     if l == 0 {
-        return Found::Nothing;
+        return None;
     }
-    if !(any_rival(s, 0, a, b) | any_rival(s, a + 1, s.len() / 16, b)) {
-        return Found::Nothing;
+    let n = table.bytes.len() / 16;
+    if !(any_rival(table.bytes, 0, a, b) | any_rival(table.bytes, a + 1, n, b)) {
+        return None;
     }
-    first_tighter(s, ends, b, l)
+    first_tighter(table, b, l)
 }

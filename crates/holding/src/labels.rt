@@ -3,11 +3,11 @@ ghost use Rattle.std.specs.Prelude.{◌≡◌, true, false, ℕ, ◌+◌, ◌*�
 ghost use Rattle.cows.specs.Terms.{Term, size, label, delimits_at};
 ghost use Rattle.cows.specs.Places.{sub};
 ghost use Rattle.records.specs.Holds.{Holds};
-ghost use Rattle.ways.specs.Known.{Table, Known};
+ghost use Rattle.ways.specs.TermOf.{TermOf};
 ghost use Rattle.holding.specs.Holding.{Outside};
 
 use records::{Atom, atom_at, kinds};
-use ways::down;
+use ways::KnownTable;
 
 // Whether the record at place p is a delimitation of a label.
 fn delimits_label(s: &[u8], p: usize) -> bool
@@ -24,16 +24,11 @@ fn delimits_label(s: &[u8], p: usize) -> bool
 }
 
 // Whether a delimitation of a label encloses place a.
-pub fn labelled(s: &[u8], ends: &[u16], a: usize) -> bool
-    requires { Known s.now ends.now × (a < length s.now / 16) }
-    ensures { result ≡ false → (t : Term) → Table s.now ends.now t → Outside label t a }
+pub fn labelled(table: KnownTable, a: usize) -> bool
+    requires { a < length table.bytes.now / 16 }
+    ensures { result ≡ false → (t : Term) → TermOf table.entry t → Outside label t a }
 {
-    let mut p = 0;
-    while p < a {
-        if delimits_label(s, p) {
-            return true;
-        }
-        p = down(ends, p, a);
-    }
-    false
+    table
+        .first_above(a, |p| delimits_label(table.bytes, p))
+        .is_some()
 }

@@ -5,7 +5,7 @@
 pub mod conflicts;
 mod labels;
 
-ghost use Rattle.std.specs.Prelude.{◌≡◌, true, false, not, ◌+◌, ◌*◌, ◌-◌, ◌/◌, ◌<◌, ◌≤◌, eqb, length};
+ghost use Rattle.std.specs.Prelude.{◌≡◌, true, false, not, cond, ◌+◌, ◌*◌, ◌-◌, ◌/◌, ◌<◌, ◌≤◌, eqb, length, get_or};
 ghost use Rattle.cows.specs.Limits.{first_label};
 ghost use Rattle.cows.specs.Basics.{or_else};
 ghost use Rattle.cows.specs.Terms.{Term, size};
@@ -15,18 +15,30 @@ ghost use Rattle.cows.specs.Active.{live};
 ghost use Rattle.cows.specs.Moves.{held_back};
 ghost use Rattle.records.specs.Holds.{Holds};
 ghost use Rattle.records.specs.Answers.{found_of};
-ghost use Rattle.ways.specs.Known.{Table, Known};
+ghost use Rattle.ways.specs.TermOf.{TermOf};
 ghost use Rattle.holding.specs.Holding.{mark_of, Marks, Unmarked, KillsMarked, holds_at};
 
 use labels::labelled;
-use records::{Atom, Found, Label, atom_at, kinds, label_index, wide16};
-use ways::down;
+use records::{Atom, Label, atom_at, kinds, label_index};
+use ways::KnownTable;
 
 // Whether the way to a ready record may pass a record of this kind.
 pub fn ready_kind(kind: u8) -> bool
     ensures { result ≡ ready_kind kind }
 {
     (kinds::CHOICE <= kind) & (kind <= kinds::REPLICATION)
+}
+
+// The next place of the walk over the ready records: into the term at place i where the way may pass its record, and else behind the term.
+pub fn next_ready(table: KnownTable, i: usize) -> usize
+    requires { i < length table.bytes.now / 16 }
+    ensures { result ≡ cond (ready_kind (get_or table.entry.bytes.now (16 * i) 0)) (i + 1) (get_or table.entry.ends.now i 0) }
+{
+    if ready_kind(table.bytes[16 * i]) {
+        i + 1
+    } else {
+        usize::from(table.ends[i])
+    }
 }
 
 // Marks the label k. There is one bit for each label.
@@ -48,30 +60,24 @@ fn marked(k: Label, marks: &[u64]) -> bool
 }
 
 // Marks the label of each ready kill, in one walk over the ready records, and says whether there is one.
-fn mark_kills(s: &[u8], ends: &[u16], marks: &mut [u64]) -> bool
-    requires { Known s.now ends.now × (length marks.old ≡ 256) }
-    ensures { Unmarked marks.old → (result ≡ false → Unmarked marks.new) × ((t : Term) → Table s.now ends.now t → KillsMarked marks.new t) }
+fn mark_kills(table: KnownTable, marks: &mut [u64]) -> bool
+    requires { length marks.old ≡ 256 }
+    ensures { Unmarked marks.old → (result ≡ false → Unmarked marks.new) × ((t : Term) → TermOf table.entry t → KillsMarked marks.new t) }
 {
-    let n = s.len() / 16;
+    let n = table.bytes.len() / 16;
     let mut any = false;
     let mut i = 0;
+    // A walk by the ends: where it goes on depends on the record.
     while i < n {
-        let kind = s[16 * i];
+        let kind = table.bytes[16 * i];
         if kind == kinds::KILL {
-            let atom = atom_at(s, 16 * i + 2);
-            i += 1;
-            let Atom::Label(k) = atom else {
-                continue;
-            };
-            mark(k, marks);
-            any = true;
-            continue;
+            let atom = atom_at(table.bytes, 16 * i + 2);
+            if let Atom::Label(k) = atom {
+                mark(k, marks);
+                any = true;
+            }
         }
-        if ready_kind(kind) {
-            i += 1;
-            continue;
-        }
-        i = wide16(ends[i]);
+        i = next_ready(table, i);
     }
     any
 }
@@ -92,46 +98,39 @@ fn delimits_marked(s: &[u8], p: usize, marks: &[u64]) -> bool
 }
 
 // The first delimitation of a marked label on the way to the live place a.
-fn marked_around(s: &[u8], ends: &[u16], a: usize, marks: &[u64]) -> Found
-    requires { Known s.now ends.now × (a < length s.now / 16) × (length marks.now ≡ 256) }
-    ensures { (t : Term) → Table s.now ends.now t → KillsMarked marks.now t → live (way_to t a) ≡ true → result ≡ found_of (first (held_back a a) t) }
+fn marked_around(table: KnownTable, a: usize, marks: &[u64]) -> Option<usize>
+    requires { (a < length table.bytes.now / 16) × (length marks.now ≡ 256) }
+    ensures { (t : Term) → TermOf table.entry t → KillsMarked marks.now t → live (way_to t a) ≡ true → result ≡ found_of (first (held_back a a) t) }
 {
-    let mut p = 0;
-    while p < a {
-        if delimits_marked(s, p, marks) {
-            return Found::At(p);
-        }
-        p = down(ends, p, a);
-    }
-    Found::Nothing
+    table.first_above(a, |p| delimits_marked(table.bytes, p, marks))
 }
 
 // The first on the way to the live place a, or else on the way to the live place b.
-fn first_marked(s: &[u8], ends: &[u16], a: usize, b: usize, marks: &[u64]) -> Found
-    requires { Known s.now ends.now × (a < length s.now / 16) × (b < length s.now / 16) × (length marks.now ≡ 256) }
-    ensures { (t : Term) → Table s.now ends.now t → KillsMarked marks.now t → live (way_to t a) ≡ true → live (way_to t b) ≡ true → result ≡ found_of (or_else (first (held_back a a) t) (first (held_back b b) t)) }
+fn first_marked(table: KnownTable, a: usize, b: usize, marks: &[u64]) -> Option<usize>
+    requires { (a < length table.bytes.now / 16) × (b < length table.bytes.now / 16) × (length marks.now ≡ 256) }
+    ensures { (t : Term) → TermOf table.entry t → KillsMarked marks.now t → live (way_to t a) ≡ true → live (way_to t b) ≡ true → result ≡ found_of (or_else (first (held_back a a) t) (first (held_back b b) t)) }
 {
-    if let Found::At(p) = marked_around(s, ends, a, marks) {
-        return Found::At(p);
+    if let Some(p) = marked_around(table, a, marks) {
+        return Some(p);
     }
-    marked_around(s, ends, b, marks)
+    marked_around(table, b, marks)
 }
 
 // The first delimitation that holds back a meeting of the live places a and b. Where no label is delimited around either, or no kill is ready, none does.
 // One around the higher place alone begins behind all that are around the lower one.
-pub fn first_held(s: &[u8], ends: &[u16], a: usize, b: usize) -> Found
-    requires { Known s.now ends.now × (a < length s.now / 16) × (b < length s.now / 16) }
-    ensures { (t : Term) → Table s.now ends.now t → live (way_to t a) ≡ true → live (way_to t b) ≡ true → result ≡ found_of (first (held_back a b) t) }
+pub fn first_held(table: KnownTable, a: usize, b: usize) -> Option<usize>
+    requires { (a < length table.bytes.now / 16) × (b < length table.bytes.now / 16) }
+    ensures { (t : Term) → TermOf table.entry t → live (way_to t a) ≡ true → live (way_to t b) ≡ true → result ≡ found_of (first (held_back a b) t) }
 {
-    if !(labelled(s, ends, a) | labelled(s, ends, b)) {
-        return Found::Nothing;
+    if !(labelled(table, a) | labelled(table, b)) {
+        return None;
     }
     let mut marks = [0u64; 256];
-    if !mark_kills(s, ends, &mut marks) {
-        return Found::Nothing;
+    if !mark_kills(table, &mut marks) {
+        return None;
     }
     if a < b {
-        return first_marked(s, ends, a, b, &marks);
+        return first_marked(table, a, b, &marks);
     }
-    first_marked(s, ends, b, a, &marks)
+    first_marked(table, b, a, &marks)
 }

@@ -7,7 +7,7 @@ use Prim.Native.Nat.{ℕ, zero, suc, ◌+◌, ◌*◌, ◌-◌, ◌/◌, ◌%◌
 use native.Mathlib.Omega.{arith}
 use native.Mathlib.Nat.{zero-add}
 use lib.Dec.{leb, ltb, eqb}
-use lib.ListN.{length, get_or, set, replicate, length-set, length-replicate}
+use lib.ListN.{length, get_or, set, replicate, length-replicate}
 use lib.Seq.{get_or-set_same, get_or-set_other}
 use borrow.Author.Count.{below_more}
 use borrow.Author.Tests.{ltb-true, leb-true, eqb-true, eqb-false, not-true, ne_eqb, eq-eqb}
@@ -30,34 +30,29 @@ use Rattle.scopes.proofs.NextPlace.{ends_of}
 use Rattle.scopes.proofs.Uses.{place_inside, kind_here, delimitation_is, delimitation_here, endpoint_here, kill_here, none_used}
 use Rattle.ranges.specs.Lists.{Listed}
 use Rattle.ranges.specs.Ranges.{pattern_right}
-use Rattle.ranges.proofs.Lists.{listed-inside, listed_all}
-use Rattle.index.specs.Index.{slot_of, entry_of, Entering, OnlyEntries, HasEntry, Entered, fault_of, fault_by, Clear, Fine, UsesRight, TableLists, BlankIndex, ScopesRight}
+use Rattle.ranges.proofs.Lists.{listed_all}
+use Rattle.index.specs.Index.{slot_of, entry_of, Entering, OnlyEntries, HasEntry, Entered, fault_of, fault_by, Clear, Fine, UsesRight, TableLists, ScopesRight}
 use Rattle.index.proofs.Bounds.{entry_atom, entry_large, entry_same, entry_clear}
 
--- an index that is cleared; one in which slot 0 has the number by which 0 is right everywhere
-pub cleared : (k shift mask : ℕ) → shift < 64 → mask < k → BlankIndex (replicate k 0) shift mask
-cleared k shift mask small room = record { slots = record { small = small; room = rw (length-replicate {A = ℕ} k 0) room }; empty = get_d_zeros k }
-
-pub ready : (s ends marks : List ℕ) (m : ℕ) (users : List ℕ) (u : ℕ) (index : List ℕ) (shift mask : ℕ) → TableLists s ends marks m users u → BlankIndex index shift mask
-    → Entering s ends marks m (set index 0 32767) shift mask
-ready s ends marks m users u index shift mask r b = record {
+-- an index that is cleared, and in which slot 0 has the number by which 0 is right everywhere
+pub ready : (s ends marks users : List ℕ) (n : ℕ) → 0 < n → TableLists s ends marks users → Entering s ends marks (set (replicate n 0) 0 32767)
+ready s ends marks users n some r = record {
   end = r.end;
-  inside = listed-inside s 8 8 marks m r.marks_room r.delimitations;
+  inside = r.delimitations.inside;
   kinds = λ q l.
       let k = get_or s (16 * get_or marks q 0) 0 in
       let (x, y) = and_true (leb 8 k) (leb k 8) (r.delimitations.only q l) in
       omega (arith, leb-true 8 k x, leb-true k 8 y);
-  slots = record { small = b.slots.small; room = rw (length-set index 0 32767) b.slots.room };
-  free = λ p. eq_case (get_or (set index 0 32767) p 0 < 65536) p 0 (λ z. rw (z, get_or-set_same index 0 32767 0 (omega (arith, b.slots.room))) (omega arith))
-      (λ z. rw (get_or-set_other index 0 p 32767 0 z, b.empty p) (omega arith));
+  free = λ p. eq_case (get_or (set (replicate n 0) 0 32767) p 0 < 65536) p 0 (λ z. rw (z, get_or-set_same {A = ℕ} (replicate n 0) 0 32767 0 (rw (length-replicate {A = ℕ} n 0) some)) (omega arith))
+      (λ z. rw (get_or-set_other {A = ℕ} (replicate n 0) 0 p 32767 0 z, get_d_zeros n p) (omega arith));
 }
 
 -- Entering: the start, and a turn, by the code's numbers, in which the delimitation at place i of the list is entered in slot p as v.
-module _ (s ends marks : List ℕ) (m : ℕ) (index₀ : List ℕ) (shift mask : ℕ) (r : Entering s ends marks m index₀ shift mask) where
+module _ (s ends marks index₀ : List ℕ) (shift mask : ℕ) (r : Entering s ends marks index₀) where
   pub enter-none : Entered s ends marks 0 index₀ shift mask
   enter-none = record { only = λ p l. absurd (omega (arith, r.free p)); all = λ q l. absurd (omega arith) }
 
-  pub enter-turn : (index : List ℕ) (i p a w x v : ℕ) → i < m → p < length index → get_or index p 0 < 65536 → w ≡ get_or marks i 0 → x ≡ get_or marks i 0 → a ≡ word s (16 * w + 2) → p ≡ slot_of shift mask a
+  pub enter-turn : (index : List ℕ) (i p a w x v : ℕ) → i < length marks → p < length index → get_or index p 0 < 65536 → w ≡ get_or marks i 0 → x ≡ get_or marks i 0 → a ≡ word s (16 * w + 2) → p ≡ slot_of shift mask a
       → v ≡ 32768 + get_or marks i 0 + 65536 * (32768 - get_or ends x 0) + 4294967296 * a → Entered s ends marks i index shift mask → Entered s ends marks (i + 1) (set index p v) shift mask
   unfolding entry_of
   enter-turn index i p a w x v l n free ew ex ea ep ev e =
@@ -65,12 +60,12 @@ module _ (s ends marks : List ℕ) (m : ℕ) (index₀ : List ℕ) (shift mask :
       let same = get_or-set_same index p v 0 n in
       let entry : v ≡ entry_of s ends d = rw (ea, ew, ex) at ev in
       record {
-        only = λ q h. eq_case _ q p (λ z. (d, r.inside.place i l, r.kinds i l, rw z (same ∙ entry)))
+        only = λ q h. eq_case _ q p (λ z. (d, r.inside i l, r.kinds i l, rw z (same ∙ entry)))
             (λ z. let o = get_or-set_other index p q v 0 z in let (x, y, k, f) = e.only q (rw o at h) in (x, y, k, o ∙ f));
         all = below_more (λ q. HasEntry s ends (set index p v) shift mask (get_or marks q 0)) i
             (λ q h.
             let f = e.all q h in
-            get_or-set_other index p _ v 0 (λ z. omega (arith, ap (λ x. get_or index x 0) z, f, entry_large s ends (get_or marks q 0) r.end (r.inside.place q (omega arith)))) ∙ f)
+            get_or-set_other index p _ v 0 (λ z. omega (arith, ap (λ x. get_or index x 0) z, f, entry_large s ends (get_or marks q 0) r.end (r.inside q (omega arith)))) ∙ f)
             (let z : slot_of shift mask (word s (16 * d + 2)) ≡ p = rw (ea, ew) at (sym ep) in rw z (same ∙ entry));
       }
 

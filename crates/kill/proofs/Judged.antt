@@ -26,8 +26,8 @@ use Rattle.records.specs.Answers.{found_of}
 use Rattle.records.specs.Rewrites.{put, StandsIn, Rewritable, Done, Rewrites}
 use Rattle.records.specs.declared.Label as labels
 use Rattle.records.specs.declared.Atom.TheVariants.{Label}
-use Rattle.records.specs.declared.Found.{Found}
-use Rattle.records.specs.declared.Found.TheVariants.{At, Nothing}
+use Rattle.std.specs.Prelude.{Some, None}
+use Rattle.std.specs.Prelude as rust
 use Rattle.records.proofs.Atoms as classes
 use Rattle.records.proofs.Put.{and_then}
 use Rattle.records.proofs.StandsIn.{holds_word, holds_stands}
@@ -38,9 +38,7 @@ use Rattle.ways.specs.Known.{Table}
 use Rattle.kill.specs.Losses.{left}
 use Rattle.ways.specs.Ways.{scope_of, live_there, LiveAt}
 use Rattle.ways.proofs.KnownTables.{table_size}
-use Rattle.plans.specs.declared.Judgement.TheVariants.{Allowed}
-use Rattle.plans.specs.declared.Plan.{Plan}
-use Rattle.plans.specs.Plans.{Planned, Asks}
+use Rattle.plans.specs.Plans.{Allowed, Asks}
 use Rattle.kill.specs.Killing.{kill_scope}
 use Rattle.plans.proofs.Planning.{planned_allowed, absent}
 use Rattle.kill.proofs.Left.{is-label, has_scope, scope_place, body_placed, left_is, kill-size, kill_limits, kill-bytes}
@@ -79,22 +77,22 @@ module _ (s : List ℕ) (t : Term) (a : ℕ) (h : LiveAt s t a 1) where
 
   -- the scope that is found
   module _ (ends : List ℕ) (z : Table s ends t) (l : labels.Label) (c : class_of (word s (16 * a + 2)) ≡ Label l)
-      (f : Found) (e : f ≡ found_of (scope_of l.0 (way_to t a))) where
+      (f : rust.Option ℕ) (e : f ≡ found_of (scope_of l.0 (way_to t a))) where
     found_scope : f ≡ found_of (scope_of k (way_to t a))
     found_scope = e ∙ ap (λ d. found_of (scope_of d (way_to t a))) ((classes.is-label _ l c).0 ∙ label-word)
 
-    pub scope_there : f ≡ Nothing → ⊥
+    pub scope_there : f ≡ None → ⊥
     scope_there x =
-        let y : f ≡ At (has_scope t z.within a k kill-live).0 = found_scope ∙ ap found_of (has_scope t z.within a k kill-live).1 in
+        let y : f ≡ Some (has_scope t z.within a k kill-live).0 = found_scope ∙ ap found_of (has_scope t z.within a k kill-live).1 in
         let w : ◌≡◌ {A = ℕ} 0 1 = cc in
         omega arith
 
     -- at this place
-    module _ (from : ℕ) (at : f ≡ At from) where
+    module _ (from : ℕ) (at : f ≡ Some from) where
       scope_is : scope_of k (way_to t a) ≡ some from
       scope_is =
           let (p, x) = has_scope t z.within a k kill-live in
-          let y : At p ≡ At from = sym (found_scope ∙ ap found_of x) ∙ at in
+          let y : Some p ≡ Some from = sym (found_scope ∙ ap found_of x) ∙ at in
           let w : p ≡ from = cc in
           x ∙ ap some w
 
@@ -104,12 +102,12 @@ module _ (s : List ℕ) (t : Term) (a : ℕ) (h : LiveAt s t a 1) where
       pub few_gone : (gone : ℕ) → gone + left a (from + 1) (sub t (from + 1)) ≡ size (sub t (from + 1)) → gone ≤ length s / 16
       few_gone gone g = omega (arith, table_size s ends t z, spot_fits t (from + 1) (body_placed t z.within a k kill-live from scope_is).0)
 
-      pub kill_planned : (r : Plan) (gone : ℕ) → gone + left a (from + 1) (sub t (from + 1)) ≡ size (sub t (from + 1))
-          → r.judgement ≡ Allowed (length s / 16 - gone) → r.from ≡ from → Planned (kill_at t a) (kill_scope t a) r
-      kill_planned r gone g j q =
+      pub kill_planned : (gone : ℕ) → gone + left a (from + 1) (sub t (from + 1)) ≡ size (sub t (from + 1))
+          → Allowed (kill_at t a) (kill_scope t a) (record { records = length s / 16 - gone; from = from })
+      kill_planned gone g =
           let x : length s / 16 - gone ≡ size (after_kill k t a) = omega (arith, table_size s ends t z, kill-size t z.within a k kill-live from scope_is) in
-          planned_allowed r (after_kill k t a) (length s / 16 - gone) j fires
-          (kill_limits t z.within a k kill-live from scope_is (omega (arith, table_size s ends t z))) x (q ∙ sym (scope_place t z.within a k kill-live from scope_is))
+          planned_allowed (after_kill k t a) fires _
+          (kill_limits t z.within a k kill-live from scope_is (omega (arith, table_size s ends t z))) x (sym (scope_place t z.within a k kill-live from scope_is))
 
 -- what an allowed move had, and what writing it asks
 module _ (s ends : List ℕ) (a from : ℕ) (out : List ℕ) (q : Asks (λ t. kill_at t a) (λ t. kill_scope t a) s ends from out) where

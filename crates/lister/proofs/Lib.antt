@@ -2,4 +2,4 @@ pub mod Listing
 pub mod Opening
 pub mod Claims
 pub mod Writing
-pub mod Desks
+pub mod Arrays

@@ -5,8 +5,7 @@ use mathlib.Core.List.{List, [], ◌∷◌, ◌++◌, map, flat_map}
 use Prim.Native.Nat.{ℕ, ◌+◌, ◌*◌, ◌≤◌, ◌<◌}
 use native.Mathlib.Omega.{arith}
 use native.Mathlib.Nat.{zero-add}
-use lib.Dec.{eqb}
-use lib.ListN.{length, get_or, length-append, length-map}
+use lib.ListN.{length, length-append, length-map}
 use lib.Seq.{sets-eq}
 use borrow.Author.Tests.{lt-ltb, le-ltb}
 use Rattle.cows.specs.Basics.{place_if, ◌>>◌, forbid}
@@ -24,7 +23,9 @@ use Rattle.opening.specs.Opening.{up_from, filter, each, six_byte_form, open_mov
 use Rattle.opening.proofs.Lists.{few_pairs}
 use Rattle.opening.proofs.Parts.{filter_same}
 use Rattle.opening.proofs.SixBytes.{length_six}
-use Rattle.roles.specs.Roles.{firing, expiring, repeating, floating, sending, receiving, full, crowded, meets, kill_role, timeout_role, unfold_role, extrude_role, sender_role, receiver_role, open_role, Cast}
+use Rattle.roles.specs.declared.Role.{Role}
+use Rattle.roles.specs.declared.Role.TheVariants as role
+use Rattle.roles.specs.Roles.{firing, expiring, repeating, floating, sending, receiving, full, crowded, meets, is_role, role_at, open_role, Cast}
 use Rattle.roles.proofs.Roles.{role_kill, role_timeout, role_unfold, role_extrude, role_sender, role_receiver}
 use Rattle.entries.specs.Entries.{places_of, Entered}
 use Rattle.meetings.specs.Meetings.{meetings_at, meetings_of, MeetingsIn}
@@ -38,33 +39,33 @@ unfolding flat_map
 each_map f g [] = refl
 each_map f g (x ∷ xs) = ap (λ l. f (g x) ++ l) (each_map f g xs)
 
-module _ (t : Term) (w : Within t) (cast : List ℕ) (k : Cast t cast) where
-  abbrev of_role : ℕ → List ℕ
+module _ (t : Term) (w : Within t) (cast : List Role) (k : Cast t cast) where
+  abbrev of_role : Role → List ℕ
   of_role r = places_of cast r (size t)
 
   -- the places that a role says are those of which it is said
-  by_role : (f : ℕ → Bool) (r : ℕ) → ((i : ℕ) → i < size t → eqb (open_role t i) r ≡ f i) → filter f (up_from 0 (size t)) ≡ of_role r
-  by_role f r h = filter_same f (λ i. eqb (get_or cast i 0) r) (size t) (λ i l. sym (h i l) ∙ ap (λ x. eqb x r) (sym (k i l)))
+  by_role : (f : ℕ → Bool) (r : Role) → ((i : ℕ) → i < size t → is_role (open_role t i) r ≡ f i) → filter f (up_from 0 (size t)) ≡ of_role r
+  by_role f r h = filter_same f (λ i. is_role (role_at cast i) r) (size t) (λ i l. sym (h i l) ∙ ap (λ x. is_role x r) (sym (k i l)))
 
-  parts : open_moves t ≡ map Kill (of_role kill_role) ++ (meetings_of t ++ (map Timeout (of_role timeout_role) ++ (map Unfold (of_role unfold_role) ++ map Extrude (of_role extrude_role))))
+  parts : open_moves t ≡ map Kill (of_role role.Kill) ++ (meetings_of t ++ (map Timeout (of_role role.Timeout) ++ (map Unfold (of_role role.Unfold) ++ map Extrude (of_role role.Extrude))))
   unfolding quick_moves meetings_of meetings_at
   parts =
       quick_open t w
       ∙ rw (
-        by_role (firing t) kill_role (role_kill t),
-        by_role (expiring t) timeout_role (role_timeout t),
-        by_role (λ a. repeating t a && not (full t a)) unfold_role (role_unfold t),
-        by_role (λ a. floating t a && not (crowded t a)) extrude_role (role_extrude t),
+        by_role (firing t) role.Kill (role_kill t),
+        by_role (expiring t) role.Timeout (role_timeout t),
+        by_role (λ a. repeating t a && not (full t a)) role.Unfold (role_unfold t),
+        by_role (λ a. floating t a && not (crowded t a)) role.Extrude (role_extrude t),
       )
 
   -- how many there are
-  pub open_parts_number : length (open_moves t) ≡ length (of_role kill_role) + length (of_role timeout_role) + length (of_role unfold_role) + length (of_role extrude_role) + length (meetings_of t)
+  pub open_parts_number : length (open_moves t) ≡ length (of_role role.Kill) + length (of_role role.Timeout) + length (of_role role.Unfold) + length (of_role role.Extrude) + length (meetings_of t)
   open_parts_number =
-      let a = map Kill (of_role kill_role) in
+      let a = map Kill (of_role role.Kill) in
       let b = meetings_of t in
-      let c = map Timeout (of_role timeout_role) in
-      let d = map Unfold (of_role unfold_role) in
-      let e = map Extrude (of_role extrude_role) in
+      let c = map Timeout (of_role role.Timeout) in
+      let d = map Unfold (of_role role.Unfold) in
+      let e = map Extrude (of_role role.Extrude) in
       ap length parts
       ∙ omega (
         arith,
@@ -72,40 +73,40 @@ module _ (t : Term) (w : Within t) (cast : List ℕ) (k : Cast t cast) where
         length-append b (c ++ (d ++ e)),
         length-append c (d ++ e),
         length-append d e,
-        length-map (of_role kill_role) Kill,
-        length-map (of_role timeout_role) Timeout,
-        length-map (of_role unfold_role) Unfold,
-        length-map (of_role extrude_role) Extrude,
+        length-map (of_role role.Kill) Kill,
+        length-map (of_role role.Timeout) Timeout,
+        length-map (of_role role.Unfold) Unfold,
+        length-map (of_role role.Extrude) Extrude,
       )
 
   -- no more meetings than pairs of parties
-  pub few_meetings : length (meetings_of t) ≤ length (of_role receiver_role) * length (of_role sender_role)
+  pub few_meetings : length (meetings_of t) ≤ length (of_role role.Receiver) * length (of_role role.Sender)
   unfolding meetings_of meetings_at
   few_meetings =
-      rw (← by_role (receiving t) receiver_role (role_receiver t), ← by_role (sending t) sender_role (role_sender t))
+      rw (← by_role (receiving t) role.Receiver (role_receiver t), ← by_role (sending t) role.Sender (role_sender t))
       (few_pairs (meets t) (receiving t) (sending t) (λ a b e. (meets-receives t a b e, meets-sends t a b e)) Communicate (up_from 0 (size t)) (up_from 0 (size t)))
 
   -- their bytes
-  abbrev entries_of : (kind r : ℕ) → List ℕ
+  abbrev entries_of : (kind : ℕ) (r : Role) → List ℕ
   entries_of kind r = each (λ a. move_bytes kind a 0) (of_role r)
 
-  bytes_are : each six_byte_form (open_moves t) ≡ entries_of 0 kill_role ++ (each six_byte_form (meetings_of t) ++ (entries_of 2 timeout_role ++ (entries_of 4 unfold_role ++ entries_of 5 extrude_role)))
+  bytes_are : each six_byte_form (open_moves t) ≡ entries_of 0 role.Kill ++ (each six_byte_form (meetings_of t) ++ (entries_of 2 role.Timeout ++ (entries_of 4 role.Unfold ++ entries_of 5 role.Extrude)))
   unfolding six_byte_form
   bytes_are =
       let b = meetings_of t in
-      let c = map Timeout (of_role timeout_role) in
-      let d = map Unfold (of_role unfold_role) in
-      let e = map Extrude (of_role extrude_role) in
+      let c = map Timeout (of_role role.Timeout) in
+      let d = map Unfold (of_role role.Unfold) in
+      let e = map Extrude (of_role role.Extrude) in
       ap (each six_byte_form) parts
       ∙ rw (
-        flat_map_append six_byte_form (map Kill (of_role kill_role)) (b ++ (c ++ (d ++ e))),
+        flat_map_append six_byte_form (map Kill (of_role role.Kill)) (b ++ (c ++ (d ++ e))),
         flat_map_append six_byte_form b (c ++ (d ++ e)),
         flat_map_append six_byte_form c (d ++ e),
         flat_map_append six_byte_form d e,
-        each_map six_byte_form Kill (of_role kill_role),
-        each_map six_byte_form Timeout (of_role timeout_role),
-        each_map six_byte_form Unfold (of_role unfold_role),
-        each_map six_byte_form Extrude (of_role extrude_role),
+        each_map six_byte_form Kill (of_role role.Kill),
+        each_map six_byte_form Timeout (of_role role.Timeout),
+        each_map six_byte_form Unfold (of_role role.Unfold),
+        each_map six_byte_form Extrude (of_role role.Extrude),
       )
 
   length_entries : (kind : ℕ) (xs : List ℕ) → length (each (λ a. move_bytes kind a 0) xs) ≡ 6 * length xs
@@ -117,25 +118,25 @@ module _ (t : Term) (w : Within t) (cast : List ℕ) (k : Cast t cast) where
 
   -- the parts written one behind the other
   module _ (out : List ℕ) (n : ℕ) (e : n ≡ size t) {d₁ d₂ d₃ d₄ d₅ : List ℕ} {m₁ m₂ m₃ m₄ m₅ : ℕ} where
-    pub all_written : Entered cast kill_role 0 out 0 n d₁ m₁ → MeetingsIn t true d₁ m₁ d₂ m₂ → Entered cast timeout_role 2 d₂ m₂ n d₃ m₃ → Entered cast unfold_role 4 d₃ m₃ n d₄ m₄ → Entered cast extrude_role 5 d₄ m₄ n d₅ m₅
+    pub all_written : Entered cast role.Kill 0 out 0 n d₁ m₁ → MeetingsIn t true d₁ m₁ d₂ m₂ → Entered cast role.Timeout 2 d₂ m₂ n d₃ m₃ → Entered cast role.Unfold 4 d₃ m₃ n d₄ m₄ → Entered cast role.Extrude 5 d₄ m₄ n d₅ m₅
         → (m₅ ≡ length (open_moves t)) × (d₅ ≡ put out 0 (each six_byte_form (open_moves t)))
     all_written p₁ p₂ p₃ p₄ p₅ =
         let b = each six_byte_form (meetings_of t) in
-        let c = entries_of 2 timeout_role in
-        let d = entries_of 4 unfold_role in
-        let f = entries_of 5 extrude_role in
+        let c = entries_of 2 role.Timeout in
+        let d = entries_of 4 role.Unfold in
+        let f = entries_of 5 role.Extrude in
         let q₁ = at_size p₁ in
         let q₃ = at_size p₃ in
         let q₄ = at_size p₄ in
         let q₅ = at_size p₅ in
-        let x₄ = and_then d₃ (6 * m₃) (6 * m₄) d f (omega (arith, q₄.number, length_entries 4 (of_role unfold_role))) q₄.is q₅.is in
-        let x₃ = and_then d₂ (6 * m₂) (6 * m₃) c (d ++ f) (omega (arith, q₃.number, length_entries 2 (of_role timeout_role))) q₃.is x₄ in
+        let x₄ = and_then d₃ (6 * m₃) (6 * m₄) d f (omega (arith, q₄.number, length_entries 4 (of_role role.Unfold))) q₄.is q₅.is in
+        let x₃ = and_then d₂ (6 * m₂) (6 * m₃) c (d ++ f) (omega (arith, q₃.number, length_entries 2 (of_role role.Timeout))) q₃.is x₄ in
         let x₂ = and_then d₁ (6 * m₁) (6 * m₂) b (c ++ (d ++ f)) (omega (arith, p₂.number, length_moves (meetings_of t))) p₂.is x₃ in
-        let x₁ = and_then out 0 (6 * m₁) (entries_of 0 kill_role) (b ++ (c ++ (d ++ f))) (omega (arith, q₁.number, length_entries 0 (of_role kill_role))) q₁.is x₂ in
+        let x₁ = and_then out 0 (6 * m₁) (entries_of 0 role.Kill) (b ++ (c ++ (d ++ f))) (omega (arith, q₁.number, length_entries 0 (of_role role.Kill))) q₁.is x₂ in
         (omega (arith, open_parts_number, q₁.number, p₂.number, q₃.number, q₄.number, q₅.number), x₁ ∙ ap (put out 0) (sym bytes_are))
       where
-        at_size : {role kind m count : ℕ} {from to : List ℕ} → Entered cast role kind from m n to count → Entered cast role kind from m (size t) to count
-        at_size {role} {kind} {m} {count} {from} {to} h = subst (λ i. Entered cast role kind from m i to count) e h
+        at_size : {r : Role} {kind m count : ℕ} {from to : List ℕ} → Entered cast r kind from m n to count → Entered cast r kind from m (size t) to count
+        at_size {r} {kind} {m} {count} {from} {to} h = subst (λ i. Entered cast r kind from m i to count) e h
 
 -- What is answered, and left in the list.
 module _ (t : Term) (list after : List ℕ) (r : Reply) where

@@ -1,8 +1,8 @@
 -- Matching by four slots of which those that are not used are 0 (specs/Matching) is matching of the tuples (cows, specs/Moves).
 use mathlib.Core.Path.{◌≡◌, refl, sym, ap, ◌∙◌}
-use mathlib.Core.Bool.{Bool, true, false, cond, ◌&&◌, ◌||◌}
+use mathlib.Core.Bool.{Bool, true, false, cond, not, ◌&&◌, ◌||◌}
 use mathlib.Core.List.{List, [], ◌∷◌}
-use Prim.Native.Nat.{ℕ, zero, suc, ◌+◌, ◌*◌, ◌≤◌}
+use Prim.Native.Nat.{ℕ, zero, suc, ◌+◌, ◌*◌, ◌≤◌, ◌<◌}
 use native.Mathlib.Omega.{arith}
 use lib.Dec.{eqb}
 use lib.ListN.{length, get_or}
@@ -15,27 +15,28 @@ use Rattle.cows.specs.Moves.{Substitution, Mismatch, unset_variable, other_endpo
 use Rattle.cows.proofs.Basics.{never, and_true, and_one, or_none}
 use Rattle.records.specs.Atoms.{closed_at}
 use Rattle.matching.specs.declared.Difference.TheVariants.{Slot}
-use Rattle.matching.specs.declared.Fit.{Fit}
-use Rattle.matching.specs.declared.Fit.TheVariants.{Binds, Differs}
+use Rattle.std.specs.Prelude as rust
+use Rattle.matching.specs.declared.Difference.{Difference}
+use Rattle.std.specs.Prelude.{Some, None, Ok, Err, position}
 use Rattle.matching.specs.Matching.{difference_of, mismatch_of, fit_of, agree, first_unlike, slots_of, slots_at, ActionAt, slot_test}
 
 -- So many variables more; k slots from the n-th on, w in the pattern and v in the message.
-more : ℕ → Fit → Fit
-more i (Binds n) = Binds (i + n)
-more i (Differs d) = Differs d
+more : ℕ → rust.Result ℕ Difference → rust.Result ℕ Difference
+more i (Ok n) = Ok (i + n)
+more i (Err d) = Err d
 
-slots : ℕ → ℕ → (ℕ → ℕ) → (ℕ → ℕ) → Fit
-slots zero n w v = Binds 0
-slots (suc k) n w v = cond (agree (w 0) (v 0)) (more (one_if (variable (w 0))) (slots k (suc n) (λ i. w (suc i)) (λ i. v (suc i)))) (Differs (Slot n))
+slots : ℕ → ℕ → (ℕ → ℕ) → (ℕ → ℕ) → rust.Result ℕ Difference
+slots zero n w v = Ok 0
+slots (suc k) n w v = cond (agree (w 0) (v 0)) (more (one_if (variable (w 0))) (slots k (suc n) (λ i. w (suc i)) (λ i. v (suc i)))) (Err (Slot n))
 
-slot-fit : (n w v : ℕ) (rest : Matching) → fit_of (cond (variable w) (besides w v rest) (provided (eqb w v) (other_value n) rest)) ≡ cond (agree w v) (more (one_if (variable w)) (fit_of rest)) (Differs (Slot n))
+slot-fit : (n w v : ℕ) (rest : Matching) → fit_of (cond (variable w) (besides w v rest) (provided (eqb w v) (other_value n) rest)) ≡ cond (agree w v) (more (one_if (variable w)) (fit_of rest)) (Err (Slot n))
 unfolding provided besides more
 slot-fit n w v rest = go (variable w) (eqb w v) rest
   where
-    go : (p q : Bool) (rest : Matching) → fit_of (cond p (besides w v rest) (cond q rest (differs (other_value n)))) ≡ cond (p || q) (more (one_if p) (fit_of rest)) (Differs (Slot n))
-    go true q (binds σ) = ap Binds (omega arith)
+    go : (p q : Bool) (rest : Matching) → fit_of (cond p (besides w v rest) (cond q rest (differs (other_value n)))) ≡ cond (p || q) (more (one_if p) (fit_of rest)) (Err (Slot n))
+    go true q (binds σ) = ap Ok (omega arith)
     go true q (differs d) = refl
-    go false true (binds σ) = ap Binds (omega arith)
+    go false true (binds σ) = ap Ok (omega arith)
     go false true (differs d) = refl
     go false false rest = refl
 
@@ -48,7 +49,7 @@ match-slots zero n (w ∷ ws) vs l e = absurd (omega arith)
 match-slots (suc k) n (w ∷ ws) [] l e = absurd (omega arith)
 match-slots (suc k) n (w ∷ ws) (v ∷ vs) l e =
     slot-fit n w v (match (suc n) ws vs)
-    ∙ ap (λ r. cond (agree w v) (more (one_if (variable w)) r) (Differs (Slot n))) (match-slots k (suc n) ws vs (omega arith) (omega arith))
+    ∙ ap (λ r. cond (agree w v) (more (one_if (variable w)) r) (Err (Slot n))) (match-slots k (suc n) ws vs (omega arith) (omega arith))
 
 -- four of them
 slots_four : (w v : ℕ → ℕ) → slots_of (agree (w 0) (v 0)) (agree (w 1) (v 1)) (agree (w 2) (v 2)) (agree (w 3) (v 3)) (one_if (variable (w 0)) + one_if (variable (w 1)) + one_if (variable (w 2)) + one_if (variable (w 3))) ≡ slots 4 0 w v
@@ -56,8 +57,8 @@ unfolding slots more
 slots_four w v = go (agree (w 0) (v 0)) (agree (w 1) (v 1)) (agree (w 2) (v 2)) (agree (w 3) (v 3)) (one_if (variable (w 0))) (one_if (variable (w 1))) (one_if (variable (w 2))) (one_if (variable (w 3)))
   where
     go : (a b c d : Bool) (i j l n : ℕ) → slots_of a b c d (i + j + l + n)
-        ≡ cond a (more i (cond b (more j (cond c (more l (cond d (more n (Binds 0)) (Differs (Slot 3)))) (Differs (Slot 2)))) (Differs (Slot 1)))) (Differs (Slot 0))
-    go true true true true i j l n = ap Binds (omega arith)
+        ≡ cond a (more i (cond b (more j (cond c (more l (cond d (more n (Ok 0)) (Err (Slot 3)))) (Err (Slot 2)))) (Err (Slot 1)))) (Err (Slot 0))
+    go true true true true i j l n = ap Ok (omega arith)
     go true true true false i j l n = refl
     go true true false d i j l n = refl
     go true false c d i j l n = refl
@@ -106,7 +107,7 @@ mismatch_same (other_value n) = refl
 
 -- the tests ahead of the slots: one that fails is named, the first of them; else the slots decide
 tests_fail : (closed endpoint count : Bool) (rest : Matching) → (closed && (endpoint && count)) ≡ false
-    → Differs (first_unlike closed endpoint) ≡ fit_of (provided closed unset_variable (provided endpoint other_endpoint (provided count other_count rest)))
+    → Err (first_unlike closed endpoint) ≡ fit_of (provided closed unset_variable (provided endpoint other_endpoint (provided count other_count rest)))
 unfolding provided
 tests_fail true true true rest e = never (sym e)
 tests_fail true true false rest e = refl
@@ -140,7 +141,7 @@ module _ (s : List ℕ) (a b : ℕ) (q m : Action) (h : ActionAt s a q) (k : Act
   fit_tests = rw (h.partner, h.operation, k.partner, k.operation, h.count, k.count)
 
   module _ (closed : Bool) (c : closed ≡ closed_action m) where
-    pub unlike_so : (closed && (ends_same && count_same)) ≡ false → Differs (first_unlike closed ends_same) ≡ fit_of (fit q m)
+    pub unlike_so : (closed && (ends_same && count_same)) ≡ false → Err (first_unlike closed ends_same) ≡ fit_of (fit q m)
     unlike_so e = rw (fit_tests, ← c) (tests_fail closed ends_same count_same (match 0 q.tuple m.tuple) e)
 
     pub slots_so : (closed && (ends_same && count_same)) ≡ true → slots_at s (16 * a) (16 * b) ≡ fit_of (fit q m)
@@ -148,3 +149,18 @@ module _ (s : List ℕ) (a b : ℕ) (q m : Action) (h : ActionAt s a q) (k : Act
     slots_so e =
         let l = eqb-true _ _ (and_true ends_same count_same (and_true closed _ e).1).1 in
         slots_same (sym h.count ∙ (l ∙ k.count)) ∙ rw (fit_tests, ← c) (ap fit_of (tests_pass closed ends_same count_same (match 0 q.tuple m.tuple) e))
+
+-- the first of four slots that does not agree is told, and where all do, how many variables there are
+pub apart_told : (w x y z : Bool) (n i : ℕ) → Some i ≡ position not (w ∷ x ∷ y ∷ z ∷ []) → (i < 4) × (Err (Slot i) ≡ slots_of w x y z n)
+apart_told false x y z n i e = let k : i ≡ 0 = cc in (omega arith, rw k)
+apart_told true false y z n i e = let k : i ≡ 1 = cc in (omega arith, rw k)
+apart_told true true false z n i e = let k : i ≡ 2 = cc in (omega arith, rw k)
+apart_told true true true false n i e = let k : i ≡ 3 = cc in (omega arith, rw k)
+apart_told true true true true n i e = absurd (cc)
+
+pub none_apart : (w x y z : Bool) (n : ℕ) → None ≡ position not (w ∷ x ∷ y ∷ z ∷ []) → Ok n ≡ slots_of w x y z n
+none_apart false x y z n e = absurd (cc)
+none_apart true false y z n e = absurd (cc)
+none_apart true true false z n e = absurd (cc)
+none_apart true true true false n e = absurd (cc)
+none_apart true true true true n e = refl

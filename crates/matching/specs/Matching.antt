@@ -6,8 +6,8 @@ use Rattle.cows.specs.Format.{byte, word}
 use Rattle.cows.specs.Moves.{Mismatch, unset_variable, other_endpoint, other_count, other_value, Matching, binds, differs}
 use Rattle.matching.specs.declared.Difference.{Difference}
 use Rattle.matching.specs.declared.Difference.TheVariants.{Unset, Endpoint, Count, Slot}
-use Rattle.matching.specs.declared.Fit.{Fit}
-use Rattle.matching.specs.declared.Fit.TheVariants.{Binds, Differs}
+use Rattle.std.specs.Prelude as rust
+use Rattle.std.specs.Prelude.{Ok, Err}
 
 -- the answer of a matching, and what it says
 abbrev pub difference_of : Mismatch → Difference
@@ -22,9 +22,9 @@ mismatch_of Endpoint = other_endpoint
 mismatch_of Count = other_count
 mismatch_of (Slot n) = other_value n
 
-abbrev pub fit_of : Matching → Fit
-fit_of (binds σ) = Binds (length σ)
-fit_of (differs d) = Differs (difference_of d)
+abbrev pub fit_of : Matching → rust.Result ℕ Difference
+fit_of (binds σ) = Ok (length σ)
+fit_of (differs d) = Err (difference_of d)
 
 -- whether a slot agrees: a variable takes the value there, a value is the same
 abbrev pub agree : ℕ → ℕ → Bool
@@ -39,10 +39,10 @@ abbrev pub first_unlike : Bool → Bool → Difference
 first_unlike closed endpoint = cond closed (cond endpoint Count Endpoint) Unset
 
 -- the same of the slots of the records at bytes k and m (those that are not used are 0, and agree)
-abbrev pub slots_of : (w x y z : Bool) (variables : ℕ) → Fit
-slots_of w x y z variables = cond (w && (x && (y && z))) (Binds variables) (Differs (Slot (first_apart w x y)))
+abbrev pub slots_of : (w x y z : Bool) (variables : ℕ) → rust.Result ℕ Difference
+slots_of w x y z variables = cond (w && (x && (y && z))) (Ok variables) (Err (Slot (first_apart w x y)))
 
-unfoldable pub slots_at : List ℕ → ℕ → ℕ → Fit
+unfoldable pub slots_at : List ℕ → ℕ → ℕ → rust.Result ℕ Difference
 slots_at s k m =
     slots_of (agree (word s (k + 6)) (word s (m + 6))) (agree (word s (k + 8)) (word s (m + 8))) (agree (word s (k + 10)) (word s (m + 10))) (agree (word s (k + 12)) (word s (m + 12)))
     (one_if (variable (word s (k + 6))) + one_if (variable (word s (k + 8))) + one_if (variable (word s (k + 10))) + one_if (variable (word s (k + 12))))

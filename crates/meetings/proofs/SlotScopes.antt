@@ -68,17 +68,17 @@ reach_four : (ends : List ℕ) (n p0 p1 p2 p3 : ℕ) (x : Reach) → Reaching en
 reach_four ends n p0 p1 p2 p3 x r b q0 q1 q2 q3 =
     same_test
     (λ e.
-    let (e₅, h₃) = and_true (leb x.low b && ltb b x.end && ltb q0 x.top0 && ltb q1 x.top1 && ltb q2 x.top2) _ e in
-    let (e₄, h₂) = and_true (leb x.low b && ltb b x.end && ltb q0 x.top0 && ltb q1 x.top1) _ e₅ in
-    let (e₃, h₁) = and_true (leb x.low b && ltb b x.end && ltb q0 x.top0) _ e₄ in
+    let (e₅, h₃) = and_true (leb x.low b && ltb b x.end && ltb q0 (get_or x.top 0 0) && ltb q1 (get_or x.top 1 0) && ltb q2 (get_or x.top 2 0)) _ e in
+    let (e₄, h₂) = and_true (leb x.low b && ltb b x.end && ltb q0 (get_or x.top 0 0) && ltb q1 (get_or x.top 1 0)) _ e₅ in
+    let (e₃, h₁) = and_true (leb x.low b && ltb b x.end && ltb q0 (get_or x.top 0 0)) _ e₄ in
     let (e₂, h₀) = and_true (leb x.low b && ltb b x.end) _ e₃ in
     let (l, k) = and_true (leb x.low b) _ e₂ in
     let low = leb-true x.low b l in
     let end = ltb-true b x.end k in
-    let t₀ = ltb-true q0 x.top0 h₀ in
-    let t₁ = ltb-true q1 x.top1 h₁ in
-    let t₂ = ltb-true q2 x.top2 h₂ in
-    let t₃ = ltb-true q3 x.top3 h₃ in
+    let t₀ = ltb-true q0 (get_or x.top 0 0) h₀ in
+    let t₁ = ltb-true q1 (get_or x.top 1 0) h₁ in
+    let t₂ = ltb-true q2 (get_or x.top 2 0) h₂ in
+    let t₃ = ltb-true q3 (get_or x.top 3 0) h₃ in
     true_and (true-slot ends n b p0 q0 (omega (arith, r.low)) (omega (arith, r.end)) (omega (arith, r.top0)))
     (true_and (true-slot ends n b p1 q1 (omega (arith, r.low)) (omega (arith, r.end)) (omega (arith, r.top1)))
     (true_and (true-slot ends n b p2 q2 (omega (arith, r.low)) (omega (arith, r.end)) (omega (arith, r.top2)))
@@ -92,7 +92,7 @@ reach_four ends n p0 p1 p2 p3 x r b q0 q1 q2 q3 =
     let h₂ = slot-true ends n b p2 q2 s₂ in
     let h₃ = slot-true ends n b p3 q3 s₃ in
     true_and (true_and (true_and (true_and (true_and (le-leb x.low b (omega (arith, r.low))) (lt-ltb b x.end (omega (arith, r.end))))
-    (lt-ltb q0 x.top0 (omega (arith, r.top0)))) (lt-ltb q1 x.top1 (omega (arith, r.top1)))) (lt-ltb q2 x.top2 (omega (arith, r.top2)))) (lt-ltb q3 x.top3 (omega (arith, r.top3))))
+    (lt-ltb q0 (get_or x.top 0 0) (omega (arith, r.top0)))) (lt-ltb q1 (get_or x.top 1 0) (omega (arith, r.top1)))) (lt-ltb q2 (get_or x.top 2 0) (omega (arith, r.top2)))) (lt-ltb q3 (get_or x.top 3 0) (omega (arith, r.top3))))
 
 -- What an action uses: a slot of a tuple that is used has one of its atoms, and a variable stands only in such a slot.
 slot-member : (vs : List ℕ) (i : ℕ) → i < length vs → member (get_or vs i 0) vs ≡ true

@@ -7,22 +7,25 @@ use native.Mathlib.Omega.{arith}
 use native.Mathlib.Nat.{mod-lt, mul-le-mul}
 use native.Mathlib.Numerals.{add-one}
 use lib.ListN.{length, get_or, length-append, length-map}
-use borrow.Author.Tests.{eq-eqb}
+use Rattle.roles.specs.Played.{Fewest}
+use Rattle.roles.proofs.Same.{eq-is_role}
 use Rattle.cows.specs.Limits.{max_records}
 use Rattle.cows.specs.Terms.{Term, size}
 use Rattle.cows.specs.Moves.{Move, Communicate}
 use Rattle.cows.proofs.Basics.{clash, not_so}
 use Rattle.ways.specs.Known.{Table, Known}
 use Rattle.ways.proofs.KnownTables.{table_size, table_inside}
-use Rattle.roles.specs.Roles.{sending, receiving, meets, sender_role}
-use Rattle.chains.specs.Chains.{class_of_pair, class_at, carries, in_class}
+use Rattle.roles.specs.Roles.{sending, receiving, meets}
+use Rattle.chains.specs.Chains.{class_of_pair, class_at, sender_here, in_class}
 use Rattle.chains.proofs.Chaining.{FirstAt, first_most, steps_left, Walking, walking_start, walking_at, walking_on, walking_less, walking_end}
 use Rattle.opening.specs.Opening.{up_from, filter, each}
 use Rattle.opening.proofs.Lists.{length_up_from, length-filter, few_pairs}
 use Rattle.opening.proofs.Parts.{from, filter-next, filter-end, filter_skip}
 use Rattle.meetings.specs.declared.Reach.{Reach}
-use Rattle.meetings.specs.Meetings.{meetings_at, meetings_of, Space, Lists}
-use Rattle.meetings.specs.Reaching.{ReachOf, Facing, Along, SpaceAt}
+use Rattle.meetings.specs.declared.Survey.{Survey}
+use Rattle.meetings.specs.Meetings.{Sent, meetings_at, meetings_of, Lists}
+use Rattle.meetings.specs.Reaching.{ReachOf, Facing, Along}
+use Rattle.meetings.specs.Surveys.{Surveyed, ReceiverAt, SpaceAt, Space}
 use Rattle.meetings.proofs.Pairs.{meets-receives, meets-sends}
 use Rattle.meetings.proofs.Meets.{cast_receiver, in_sends, not_met}
 use Rattle.meetings.proofs.Listing.{Listing, listing_start, listing_on, listing_number, listing-end}
@@ -35,7 +38,7 @@ later_at t a j = map (Communicate a) (from (meets t a) j (size t))
 pub record Stepping (s ends : List ℕ) (a first : ℕ) (next : List ℕ) (writes : Bool) (out : List ℕ) (m e : ℕ) (after : List ℕ) (count : ℕ) (t : Term) : Type 0 where
   pub along : Along s ends a first next
   pub place : ℕ
-  pub walk : Walking (carries along.cast 1 sender_role) (class_at s) (length s / 16) (class_at s a) place e
+  pub walk : Walking (sender_here along.cast) (class_at s) (length s / 16) (class_at s a) place e
   pub list : Listing writes out m (meetings_at t a) (later_at t a place) after count
 
 module _ (s ends : List ℕ) (t : Term) (h : Table s ends t) (a : ℕ) where
@@ -78,23 +81,23 @@ module _ (s ends : List ℕ) (t : Term) (h : Table s ends t) (a : ℕ) where
 
       -- at a record of the chain
       module _ (l : 0 < e) where
-        here : FirstAt (in_class (carries w.along.cast 1 sender_role) (class_at s) (class_at s a)) (length s / 16) w.place (e - 1)
+        here : FirstAt (in_class (sender_here w.along.cast) (class_at s) (class_at s a)) (length s / 16) w.place (e - 1)
         here = walking_at _ _ _ _ w.along.heads next w.along.senders.chained w.place e l w.walk
 
         stepping_sends : sending t (e - 1) ≡ true
         stepping_sends = in_sends s ends w.along.cast t h (w.along.played.roles t h) (e - 1) here.inside (class_at s a) here.passes
 
         -- what a test of the pair says that holds for any term and parties
-        pub stepping_tells : (fewest sent : List ℕ) (x : Reach) → SpaceAt s ends fewest sent a writes out m → ReachOf s ends t a x
+        pub stepping_tells : (fewest sent : List ℕ) (x : Reach) → Fewest t fewest → Sent s t sent → ReachOf s ends t a x
             → (r : Bool) → ((ends : List ℕ) (t : Term) → Facing s ends fewest sent a (e - 1) x t → r ≡ meets t a (e - 1)) → meets t a (e - 1) ≡ r
-        stepping_tells fewest sent x k u r f =
+        stepping_tells fewest sent x n q u r f =
             let z = w.along in
             sym (f ends t (record {
               table = h;
               reach = u;
-              numbers = k.numbers t h;
-              scopes = k.scopes t h;
-              receiver = sym (cast_receiver s ends z.cast t h (z.played.roles t h) a z.placed) ∙ eq-eqb _ _ z.receiver;
+              numbers = n;
+              scopes = q;
+              receiver = sym (cast_receiver s ends z.cast t h (z.played.roles t h) a z.placed) ∙ eq-is_role _ _ z.receiver;
               sender = stepping_sends;
             }))
 
@@ -180,20 +183,28 @@ module _ (t : Term) where
       let y : length (filter (sending t) ps) ≤ max_records = omega (arith, length-filter (sending t) ps, length_up_from 0 (size t)) in
       omega (arith, few_pairs (meets t) (receiving t) (sending t) (λ a b e. (meets-receives t a b e, meets-sends t a b e)) Communicate ps ps, mul-le-mul x y)
 
+-- The walk of the receive at place a begins at the first of the chain of its class.
+pub along : {x : Survey} → Surveyed x → {a : ℕ} → ReceiverAt x a → {first c : ℕ} → c ≡ class_at x.table.bytes.now a → first ≡ get_or x.senders.heads.now c 0 → Along x.table.bytes.now x.table.ends.now a first x.senders.next.now
+along {x} p {a} r q f = record {
+  cast = x.cast.now;
+  heads = x.senders.heads.now;
+  played = p.played;
+  senders = p.senders;
+  placed = r.placed;
+  receiver = r.receiver;
+  at = f ∙ ap (λ i. get_or x.senders.heads.now i 0) q;
+}
+
 -- what the list of all leaves for that of the receive at place a
-pub space_at : (s ends fewest sent : List ℕ) (writes : Bool) (out : List ℕ) (m a : ℕ) (after : List ℕ) (count : ℕ) → Known s ends → Space s ends fewest sent writes out m → a < length s / 16
-    → length after ≡ length out → ((t : Term) → Table s ends t → Listing writes out m (meetings_of t) (later_of t a) after count) → SpaceAt s ends fewest sent a writes after count
-space_at s ends fewest sent writes out m a after count k z l e f = record {
-  fewest_all = z.fewest_all;
-  sent_all = z.sent_all;
-  numbers = z.numbers;
-  scopes = z.scopes;
-  few = let t = k.term in omega (arith, listing_number writes out m (meetings_of t) (later_of t a) (f t k.table), meetings_few t k.table.within.small, z.few);
+pub space_at : {x : Survey} → Surveyed x → {writes : Bool} {out : List ℕ} {m : ℕ} → Space x writes out m → {a : ℕ} → a < length x.table.bytes.now / 16 → {after : List ℕ} {count : ℕ}
+    → length after ≡ length out → ((t : Term) → Table x.table.bytes.now x.table.ends.now t → Listing writes out m (meetings_of t) (later_of t a) after count) → SpaceAt x a writes after count
+space_at {x} p {writes} {out} {m} z {a} l {after} {count} e f = record {
+  few = let t = p.played.known.term in let h = p.played.known.table in omega (arith, listing_number writes out m (meetings_of t) (later_of t a) (f t h), meetings_few t h.within.small, z.few);
   room = λ t h w.
       omega (
         arith,
         listing_number writes out m (meetings_of t) (later_of t a) (f t h),
-        ap length (later_next t a (table_inside s ends t h a l)),
+        ap length (later_next t a (table_inside x.table.bytes.now x.table.ends.now t h a l)),
         length-append (meetings_at t a) (later_of t (a + 1)),
         z.room t h w,
       );

@@ -1,2 +1,3 @@
 pub mod Meetings
 pub mod Reaching
+pub mod Surveys

@@ -1,12 +1,10 @@
 -- The meetings of a term, and what their list needs and leaves.
-use Rattle.std.specs.Prelude.{◌≡◌, Bool, true, cond, List, [], map, ℕ, ◌+◌, ◌*◌, ◌/◌, ◌≤◌, ◌<◌, length, get_or}
+use Rattle.std.specs.Prelude.{◌≡◌, Bool, true, cond, List, [], map, ℕ, ◌+◌, ◌*◌, ◌<◌, length, get_or}
 use Rattle.cows.specs.Terms.{Term, size}
 use Rattle.cows.specs.Format.{word}
 use Rattle.cows.specs.Moves.{Move, Communicate}
 use Rattle.records.specs.Rewrites.{put}
-use Rattle.ways.specs.Known.{Table}
 use Rattle.roles.specs.Roles.{behind_of, sending, meets}
-use Rattle.roles.specs.Played.{Fewest}
 use Rattle.opening.specs.Opening.{up_from, filter, each, six_byte_form}
 
 -- 13, from the side of the invokes: `sent` has for each of the four slots the place behind the delimitation of what is sent there, or 0.
@@ -19,15 +17,6 @@ meetings_at t a = map (Communicate a) (filter (meets t a) (up_from 0 (size t)))
 
 unfoldable pub meetings_of : Term → List Move
 meetings_of t = each (meetings_at t) (up_from 0 (size t))
-
--- There is a number and a place for each invoke, and room for the meetings behind m moves, if they are to be written. The list is not longer than memory.
-pub record Space (s ends fewest sent : List ℕ) (writes : Bool) (out : List ℕ) (m : ℕ) : Type 0 where
-  pub fewest_all : length s / 16 ≤ length fewest
-  pub sent_all : 4 * (length s / 16) ≤ length sent
-  pub numbers : (t : Term) → Table s ends t → Fewest t fewest
-  pub scopes : (t : Term) → Table s ends t → Sent s t sent
-  pub few : m ≤ 16384
-  pub room : (t : Term) → Table s ends t → writes ≡ true → 6 * (m + length (meetings_of t)) ≤ length out
 
 -- The moves ms are listed behind m others, written or counted, and nothing else has changed.
 pub record Lists (writes : Bool) (out : List ℕ) (m : ℕ) (ms : List Move) (after : List ℕ) (count : ℕ) : Type 0 where

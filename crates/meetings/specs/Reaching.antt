@@ -5,11 +5,13 @@ use Rattle.cows.specs.Terms.{Term, variable}
 use Rattle.cows.specs.Format.{word}
 use Rattle.records.specs.Holds.{Holds}
 use Rattle.ways.specs.Known.{Table}
-use Rattle.roles.specs.Roles.{behind_of, sending, receiving, receiver_role}
+use Rattle.roles.specs.declared.Role.{Role}
+use Rattle.roles.specs.declared.Role.TheVariants.{Receiver}
+use Rattle.roles.specs.Roles.{role_at, behind_of, sending, receiving}
 use Rattle.roles.specs.Played.{Played, Fewest}
 use Rattle.chains.specs.Chains.{class_at, BySender}
 use Rattle.meetings.specs.declared.Reach.{Reach}
-use Rattle.meetings.specs.Meetings.{Sent, meetings_at}
+use Rattle.meetings.specs.Meetings.{Sent}
 
 -- There is a term in the table; its numbers are small.
 pub record Tabled (s : List ℕ) : Type 0 where
@@ -36,10 +38,10 @@ reach_top p = cond (eqb p 0) 65536 p
 pub record Reaching (ends : List ℕ) (n p0 p1 p2 p3 : ℕ) (x : Reach) : Type 0 where
   pub low : x.low ≡ max (max p0 p1) (max p2 p3)
   pub end : x.end ≡ min (min (reach_end ends n p0) (reach_end ends n p1)) (min (reach_end ends n p2) (reach_end ends n p3))
-  pub top0 : x.top0 ≡ reach_top p0
-  pub top1 : x.top1 ≡ reach_top p1
-  pub top2 : x.top2 ≡ reach_top p2
-  pub top3 : x.top3 ≡ reach_top p3
+  pub top0 : get_or x.top 0 0 ≡ reach_top p0
+  pub top1 : get_or x.top 1 0 ≡ reach_top p1
+  pub top2 : get_or x.top 2 0 ≡ reach_top p2
+  pub top3 : get_or x.top 3 0 ≡ reach_top p3
 
 abbrev pub ReachOf : (s ends : List ℕ) (t : Term) (a : ℕ) (x : Reach) → Type 0
 ReachOf s ends t a x =
@@ -47,7 +49,7 @@ ReachOf s ends t a x =
 
 -- an invoke at place b is in reach, by the places of what it sends
 abbrev pub reach_test : (x : Reach) (b q0 q1 q2 q3 : ℕ) → Bool
-reach_test x b q0 q1 q2 q3 = leb x.low b && ltb b x.end && ltb q0 x.top0 && ltb q1 x.top1 && ltb q2 x.top2 && ltb q3 x.top3
+reach_test x b q0 q1 q2 q3 = leb x.low b && ltb b x.end && ltb q0 (get_or x.top 0 0) && ltb q1 (get_or x.top 1 0) && ltb q2 (get_or x.top 2 0) && ltb q3 (get_or x.top 3 0)
 
 -- A receive and an invoke that may be parties, and what is known for their test.
 pub record Facing (s ends fewest sent : List ℕ) (a b : ℕ) (x : Reach) (t : Term) : Type 0 where
@@ -60,19 +62,10 @@ pub record Facing (s ends fewest sent : List ℕ) (a b : ℕ) (x : Reach) (t : T
 
 -- The walk of the receive at place a: `first` is the first of the chain of its class.
 pub record Along (s ends : List ℕ) (a first : ℕ) (next : List ℕ) : Type 0 where
-  pub cast : List ℕ
+  pub cast : List Role
   pub heads : List ℕ
   pub played : Played s ends cast
   pub senders : BySender s cast heads next
   pub placed : a < length s / 16
-  pub receiver : get_or cast a 0 ≡ receiver_role
+  pub receiver : role_at cast a ≡ Receiver
   pub at : first ≡ get_or heads (class_at s a) 0
-
--- There is a number and a place for each invoke, and room for its meetings behind m moves, if they are to be written.
-pub record SpaceAt (s ends fewest sent : List ℕ) (a : ℕ) (writes : Bool) (out : List ℕ) (m : ℕ) : Type 0 where
-  pub fewest_all : length s / 16 ≤ length fewest
-  pub sent_all : 4 * (length s / 16) ≤ length sent
-  pub numbers : (t : Term) → Table s ends t → Fewest t fewest
-  pub scopes : (t : Term) → Table s ends t → Sent s t sent
-  pub few : m ≤ 16384 + max_records * max_records
-  pub room : (t : Term) → Table s ends t → writes ≡ true → 6 * (m + length (meetings_at t a)) ≤ length out

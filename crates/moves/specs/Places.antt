@@ -4,7 +4,7 @@ use Rattle.cows.specs.Terms.{Term}
 use Rattle.cows.specs.Places.{way_to}
 use Rattle.ways.specs.Ways.{start_of, parent_of}
 use Rattle.proposals.specs.declared.Move.{Move}
-use Rattle.proposals.specs.declared.Move.TheVariants.{Kill, Communicate, Timeout, Elapse, Unfold, Extrude, None}
+use Rattle.proposals.specs.declared.Move.TheVariants.{Kill, Communicate, Timeout, Elapse, Unfold, Extrude}
 use Rattle.kill.specs.Killing.{kill_scope}
 
 -- [k], the start of the whole choice, the root, the replication, the record above
@@ -15,4 +15,3 @@ plan_place (Timeout a) t = start_of a (way_to t a)
 plan_place (Elapse d) t = 0
 plan_place (Unfold a) t = a
 plan_place (Extrude a) t = parent_of (way_to t a)
-plan_place None t = 0

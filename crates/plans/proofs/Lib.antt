@@ -1,3 +1,4 @@
 pub mod Planning
 pub mod Joining
 pub mod Continuing
+pub mod Mapped

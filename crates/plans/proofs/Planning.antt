@@ -4,7 +4,6 @@ use mathlib.Core.Bool.{Bool, true, false, ◌&&◌}
 use mathlib.Core.List.{List}
 use mathlib.Core.Option.{Option, none, some}
 use Prim.Native.Nat.{ℕ, ◌≤◌}
-use native.Mathlib.Omega.{arith}
 use lib.Dec.{ltb, eqb}
 use borrow.Author.Tests.{le-ltb, eq-eqb}
 use Rattle.cows.specs.Basics.{only, place_if, Result, refuse, accept, ◌>>=◌, ◌>>◌, forbid, need}
@@ -19,30 +18,41 @@ use Rattle.records.specs.Rewrites.{put}
 use Rattle.ways.specs.Ways.{live_there}
 use Rattle.ways.proofs.KnownTables.{one_table}
 use Rattle.plans.specs.declared.Plan.{Plan}
-use Rattle.plans.specs.declared.Judgement.TheVariants.{Allowed, Large}
-use Rattle.plans.specs.Plans.{result_of, limited, Planned, Asks, Gives}
+use Rattle.plans.specs.declared.Refusal.{Refusal}
+use Rattle.plans.specs.declared.Refusal.TheVariants.{Unread, Absent, Differs, Apart, Held, Looser, Unripe, Timeless, Stuck, Large}
+use Rattle.plans.specs.Plans.{refusal_of, limited, Allowed, Asks, Gives}
 
 -- a refused move
-module _ {m : Result Term} {place : ℕ} (r : Plan) (n p : ℕ) where
-  pub planned_refused : result_of r.judgement ≡ refuse n p → m ≡ refuse n p → Planned m place r
-  unfolding limited ◌>>=◌
-  planned_refused e k = record { judged = e ∙ sym (ap limited k); place_is = λ s h. absurd (let z : ◌≡◌ {A = ℕ} 0 1 = cc in omega arith) }
+limited_refusal : (r : Refusal) → refusal_of r ≡ limited (refusal_of r)
+unfolding limited ◌>>=◌
+limited_refusal Unread = refl
+limited_refusal (Absent p) = refl
+limited_refusal (Differs p) = refl
+limited_refusal (Apart p) = refl
+limited_refusal (Held p) = refl
+limited_refusal (Looser p) = refl
+limited_refusal (Unripe p) = refl
+limited_refusal Timeless = refl
+limited_refusal (Stuck p) = refl
+limited_refusal Large = refl
+
+pub planned_refused : {m : Result Term} (r : Refusal) → m ≡ refusal_of r → refusal_of r ≡ limited m
+planned_refused r e = limited_refusal r ∙ ap limited (sym e)
 
 -- an allowed move: its successor keeps the limits, and has as many records as the plan says
 pub within_limits : (s : Term) → size s ≤ 2048 → depth s ≤ 256 → over_limits s ≡ false
 unfolding over_limits
 within_limits s h k = rw (le-ltb 2048 (size s) h, le-ltb 256 (depth s) k)
 
-module _ {m : Result Term} {place : ℕ} (r : Plan) (s : Term) (n : ℕ) where
-  pub planned_allowed : r.judgement ≡ Allowed n → m ≡ accept s → over_limits s ≡ false → n ≡ size s → r.from ≡ place → Planned m place r
+module _ {m : Result Term} (s : Term) (k : m ≡ accept s) where
+  pub planned_allowed : {place : ℕ} (p : Plan) → over_limits s ≡ false → p.records ≡ size s → p.from ≡ place → Allowed m place p
   unfolding limited ◌>>=◌ ◌>>◌ forbid place_if
-  planned_allowed j k o e f = record { judged = ap result_of j ∙ (rw (k, o, e)); place_is = λ u h. f }
+  planned_allowed p o e f = record { judged = rw (k, o, e); place_is = f }
 
--- 20: a move whose successor is over the limits
-module _ {m : Result Term} {place : ℕ} (r : Plan) (s : Term) where
-  pub planned_large : r.judgement ≡ Large → m ≡ accept s → over_limits s ≡ true → r.from ≡ place → Planned m place r
+  -- 20: a move whose successor is over the limits
+  pub planned_large : over_limits s ≡ true → refusal_of Large ≡ limited m
   unfolding limited ◌>>=◌ ◌>>◌ forbid place_if
-  planned_large j k o f = record { judged = ap result_of j ∙ (rw (k, o)); place_is = λ u h. f }
+  planned_large o = rw (k, o)
 
 -- 11: no live record of the kind
 pub absent : {A : Type 0} (look : Term → Option A) (kind : ℕ) → ((s : Term) (x : A) → look s ≡ some x → kind_of s ≡ kind)

@@ -6,23 +6,29 @@ use Rattle.cows.specs.Format.{encode}
 use Rattle.cows.specs.Step.{over_limits}
 use Rattle.records.specs.Rewrites.{put}
 use Rattle.ways.specs.Known.{Table, Known}
-use Rattle.plans.specs.declared.Judgement.{Judgement}
-use Rattle.plans.specs.declared.Judgement.TheVariants.{Allowed, Unread, Absent, Differs, Apart, Held, Looser, Unripe, Timeless, Stuck, Large}
+use Rattle.std.specs.Prelude as rust
+use Rattle.std.specs.Prelude.{Ok, Err}
+use Rattle.plans.specs.declared.Refusal.{Refusal}
+use Rattle.plans.specs.declared.Refusal.TheVariants.{Unread, Absent, Differs, Apart, Held, Looser, Unripe, Timeless, Stuck, Large}
 use Rattle.plans.specs.declared.Plan.{Plan}
 
+-- the refusal, by its number and its place
+abbrev pub refusal_of : {A : Type 0} → Refusal → Result A
+refusal_of Unread = refuse 10 0
+refusal_of (Absent p) = refuse 11 p
+refusal_of (Differs p) = refuse 12 p
+refusal_of (Apart p) = refuse 13 p
+refusal_of (Held p) = refuse 14 p
+refusal_of (Looser p) = refuse 15 p
+refusal_of (Unripe p) = refuse 16 p
+refusal_of Timeless = refuse 17 0
+refusal_of (Stuck p) = refuse 18 p
+refusal_of Large = refuse 20 0
+
 -- the number of records of the successor, or the refusal
-abbrev pub result_of : Judgement → Result ℕ
-result_of (Allowed n) = accept n
-result_of Unread = refuse 10 0
-result_of (Absent p) = refuse 11 p
-result_of (Differs p) = refuse 12 p
-result_of (Apart p) = refuse 13 p
-result_of (Held p) = refuse 14 p
-result_of (Looser p) = refuse 15 p
-result_of (Unripe p) = refuse 16 p
-result_of Timeless = refuse 17 0
-result_of (Stuck p) = refuse 18 p
-result_of Large = refuse 20 0
+abbrev pub result_of : rust.Result ℕ Refusal → Result ℕ
+result_of (Ok n) = accept n
+result_of (Err r) = refusal_of r
 
 -- 20 behind a move's own refusals; the records of what is left
 unfoldable pub limited : Result Term → Result ℕ
@@ -31,10 +37,15 @@ limited m = do
   forbid 20 (place_if (over_limits s) 0)
   accept (size s)
 
--- A plan says of a move what it gives, and, if it is allowed, where the table changes.
-pub record Planned (m : Result Term) (place : ℕ) (r : Plan) : Type 0 where
-  pub judged : result_of r.judgement ≡ limited m
-  pub place_is : (s : Term) → m ≡ accept s → r.from ≡ place
+-- The plan of an allowed move says how many records its successor has, and where the table changes.
+pub record Allowed (m : Result Term) (place : ℕ) (p : Plan) : Type 0 where
+  pub judged : accept p.records ≡ limited m
+  pub place_is : p.from ≡ place
+
+-- What judging a move gives: its plan, or the refusal.
+abbrev pub Planned : Result Term → ℕ → rust.Result Plan Refusal → Type 0
+Planned m place (Ok p) = Allowed m place p
+Planned m place (Err r) = refusal_of r ≡ limited m
 
 -- What writing asks: the move m is allowed on the table, its plan's place is at hand, and the output has room.
 pub record Asks (m : Term → Result Term) (place : Term → ℕ) (s ends : List ℕ) (from : ℕ) (out : List ℕ) : Type 0 where

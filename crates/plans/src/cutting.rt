@@ -4,15 +4,14 @@ ghost use Rattle.records.specs.Rewrites.{put};
 ghost use Rattle.plans.specs.Cutting.{Span, Room, cut_of};
 
 use records::copying::copy;
-use records::wide16;
 
 // How many of n records are left when the choice at place `from` becomes the continuation of the prefix at place a.
 pub fn left(ends: &[u16], n: usize, a: usize, from: usize) -> usize
     requires { Span ends.now n a from }
     ensures { result ≡ n - (get_or ends.now from 0 - from) + (get_or ends.now a 0 - a - 1) }
 {
-    let gone = wide16(ends[from]) - from;
-    let kept = wide16(ends[a]) - a - 1;
+    let gone = usize::from(ends[from]) - from;
+    let kept = usize::from(ends[a]) - a - 1;
     n - gone + kept
 }
 
@@ -22,8 +21,8 @@ pub fn cut(s: &[u8], ends: &[u16], a: usize, from: usize, out: &mut [u8])
     requires room { Room s.now ends.now a from out.old }
     ensures { out.new ≡ put out.old 0 (cut_of s.now ends.now a from) }
 {
-    let body = 16 * (wide16(ends[a]) - a - 1);
-    let rest = 16 * wide16(ends[from]);
+    let body = 16 * (usize::from(ends[a]) - a - 1);
+    let rest = 16 * usize::from(ends[from]);
     copy(s, 0, 16 * from, out, 0);
     copy(s, 16 * (a + 1), body, out, 16 * from);
     copy(s, rest, s.len() - rest, out, 16 * from + body);

@@ -3,12 +3,9 @@
 
 pub mod cutting;
 
-ghost use Rattle.std.specs.Prelude.{◌≡◌};
-
-// What the proposer of a move is told: the number of the successor's records, or the refusal of 10 to 18, or 20, and its place.
-#[derive(Clone, Copy)]
-pub enum Judgement {
-    Allowed(usize),
+// Why a move is refused, with the place that is told, or of `Differs` the number of what differs: the refusals 10 to 18, and 20.
+#[derive(Clone, Copy, Debug, PartialEq, Eq)]
+pub enum Refusal {
     Unread,
     Absent(usize),
     Differs(usize),
@@ -21,16 +18,9 @@ pub enum Judgement {
     Large,
 }
 
-// A judgement, and the place from which the table changes.
-#[derive(Clone, Copy)]
+// An allowed move: how many records its successor has, and from which place on the table changes.
+#[derive(Clone, Copy, Debug, PartialEq, Eq)]
 pub struct Plan {
-    pub judgement: Judgement,
+    pub records: usize,
     pub from: usize,
-}
-
-// A refusal has no place where the table changes.
-pub fn refused(judgement: Judgement) -> Plan
-    ensures { (result.judgement ≡ judgement) × (result.from ≡ 0) }
-{
-    Plan { judgement, from: 0 }
 }

@@ -1,7 +1,7 @@
 -- The successor of an allowed move (specs/Making): a time in place, with the ends as they were, a floating in place, with the ends lifted, and any
 -- other move in the other buffer, an expiry or a meeting that binds nothing with the ends cut.
 use mathlib.Core.Path.{◌≡◌, refl, sym, ap, subst, ◌∙◌}
-use mathlib.Core.Bool.{Bool, true, false, not, cond, ◌&&◌}
+use mathlib.Core.Bool.{Bool, true, not, cond}
 use mathlib.Core.List.{List, [], ◌∷◌, ◌++◌}
 use Prim.Native.Nat.{ℕ, ◌+◌, ◌*◌, ◌-◌, ◌≤◌, ◌<◌}
 use native.Mathlib.Omega.{arith}
@@ -9,6 +9,7 @@ use lib.Dec.{eqb}
 use borrow.Author.Tests.{eqb-true}
 use lib.ListN.{length, get_or, drop, take-append-drop}
 use lib.Seq.{take_at, length-take-le}
+use mathlib.Core.Option.{some}
 use Rattle.cows.specs.Basics.{accept, ◌>>=◌, need}
 use Rattle.cows.specs.Terms.{wait, Term, under, size, below, receive_of}
 use Rattle.cows.specs.Format.{encode}
@@ -17,7 +18,8 @@ use Rattle.cows.specs.Moves.{Substitution, silence, continue, bind, timeout_at, 
 use Rattle.cows.specs.Moves as meaning
 use Rattle.cows.specs.Step.{proposed}
 use Rattle.cows.proofs.Allows.{successor_allows}
-use Rattle.cows.proofs.Basics.{same_accept, and_true}
+use Rattle.std.specs.Prelude as rust
+use Rattle.cows.proofs.Basics.{same_accept, bool_case}
 use Rattle.cows.proofs.Format.{length-encode}
 use Rattle.cows.proofs.Recordwise.{time_gives}
 use Rattle.cows.proofs.Silence.{silence-size}
@@ -55,8 +57,8 @@ module _ (kept : Kept) (t ends to : List ℕ) (k : CanList kept t ends to) where
   pub list_room : (16 * kept.records ≤ length t) × (2 * kept.records ≤ length to)
   list_room = (k.inside, omega (arith, held_small kept.records t ends k.inside k.known, k.room))
 
-  pub listed_before : kept.listed ≡ true → (v : Term) → Table (held kept.records t) ends v → Lists to kept.waits (wait_places v)
-  listed_before l v h = subst (λ x. Lists to kept.waits (wait_places x)) (one_table (held kept.records t) ends k.known.term v k.known.table h) (k.lists l)
+  pub listed_before : (w : ℕ) → kept.waits ≡ rust.Some w → (v : Term) → Table (held kept.records t) ends v → Lists to w (wait_places v)
+  listed_before w l v h = subst (λ x. Lists to w (wait_places x)) (one_table (held kept.records t) ends k.known.term v k.known.table h) (k.lists w l)
 
 module _ (kept : Kept) (t ends : List ℕ) (m : Move) (from records : ℕ) (to : List ℕ) (k : CanMake kept t ends m from records to) where
   abbrev n : ℕ
@@ -82,25 +84,25 @@ module _ (kept : Kept) (t ends : List ℕ) (m : Move) (from records : ℕ) (to :
   kept_next : (x ends' : List ℕ) → held records x ≡ encode next → EndsFrom (held records x) ends' 0 → Table (held records x) ends' next
   kept_next x ends' e h = record { holds = record { is = e; right = k.within.right }; within = k.within; end = h }
 
-  same_next : (v u : Term) → Table (held n t) ends v → proposed (move_of m) v ≡ accept u → next ≡ u
-  same_next v u h e = same_accept (sym k.asks.accepted ∙ (ap (proposed (move_of m)) (one_table (held n t) ends now v k.asks.known.table h) ∙ e))
+  same_next : (v u : Term) → Table (held n t) ends v → proposed (some (move_of m)) v ≡ accept u → next ≡ u
+  same_next v u h e = same_accept (sym k.asks.accepted ∙ (ap (proposed (some (move_of m))) (one_table (held n t) ends now v k.asks.known.table h) ∙ e))
 
   makes_in : (r : Kept) (x t' to' ends' : List ℕ) → r.records ≡ records → cond r.second (cond side t' to') (cond side to' t') ≡ x → Table (held records x) ends' next
-      → (r.listed ≡ true → Lists (cond r.second (cond side to' t') (cond side t' to')) r.waits (wait_places next)) → Makes kept t ends m records t' to' ends' r
+      → ((w : ℕ) → r.waits ≡ rust.Some w → Lists (cond r.second (cond side to' t') (cond side t' to')) w (wait_places next)) → Makes kept t ends m records t' to' ends' r
   makes_in r x t' to' ends' n c h w = record {
     count = n;
     table = λ v u hv e. rw c (subst (Table (held records x) ends') (same_next v u hv e) h);
-    lists = λ l v u hv e. subst (λ x. Lists (cond r.second (cond side to' t') (cond side t' to')) r.waits (wait_places x)) (same_next v u hv e) (w l);
+    lists = λ n l v u hv e. subst (λ x. Lists (cond r.second (cond side to' t') (cond side t' to')) n (wait_places x)) (same_next v u hv e) (w n l);
   }
 
   -- written to the other buffer, its ends made anew
   abbrev there : Kept
-  there = record { second = not side; listed = false; records = records; waits = 0 }
+  there = record { second = not side; records = records; waits = rust.None }
 
-  pub makes_there : (t' to' ends' : List ℕ) → Gives (proposed (move_of m)) (held n t) ends to to' → EndsFrom (held records to') ends' 0 → Makes kept t ends m records t' to' ends' there
+  pub makes_there : (t' to' ends' : List ℕ) → Gives (proposed (some (move_of m))) (held n t) ends to to' → EndsFrom (held records to') ends' 0 → Makes kept t ends m records t' to' ends' there
   makes_there t' to' ends' g h =
       let e = g now next k.asks.known.table k.asks.accepted ∙ put-encode to next k.asks.room in
-      makes_in there to' t' to' ends' refl (other side t' to') (kept_next to' ends' (held_next to' _ e) h) unlisted
+      makes_in there to' t' to' ends' refl (other side t' to') (kept_next to' ends' (held_next to' _ e) h) (unlisted _)
 
   -- a time, in place
   table_first : t ≡ encode now ++ drop (16 * n) t
@@ -112,18 +114,18 @@ module _ (kept : Kept) (t ends : List ℕ) (m : Move) (from records : ℕ) (to :
   module _ (d : ℕ) (is : m ≡ Elapse d) where
     time-next : elapse d now ≡ next
     unfolding proposed need ◌>>=◌ successor
-    time-next = (time_gives now next d (subst (λ x. proposed (move_of x) now ≡ accept next) is k.asks.accepted)).1
+    time-next = (time_gives now next d (subst (λ x. proposed (some (move_of x)) now ≡ accept next) is k.asks.accepted)).1
 
     pub makes_time : (t' to' : List ℕ) (w : ℕ) → ((v : Term) → Table (held n t) ends v → Lists to' w (wait_places v))
         → ((v : Term) (rest : List ℕ) → t ≡ encode v ++ rest → Lists to' w (wait_places v) → t' ≡ encode (elapse d v) ++ rest)
-        → Makes kept t ends m records t' to' ends (record { second = side; listed = true; records = records; waits = w })
+        → Makes kept t ends m records t' to' ends (record { second = side; records = records; waits = rust.Some w })
     unfolding wait_places
     makes_time t' to' w l g =
         let h = k.asks.known.table in
         let e = held_next t' _ (g now (drop (16 * n) t) table_first (l now h) ∙ ap (λ x. encode x ++ drop (16 * n) t) time-next) in
-        makes_in (record { second = side; listed = true; records = records; waits = w }) t' t' to' ends refl (own side t' to')
+        makes_in (record { second = side; records = records; waits = rust.Some w }) t' t' to' ends refl (own side t' to')
         (kept_next t' ends e (ends_last (held n t) (held records t') ends now d h (record { is = e ∙ ap encode (sym time-next); right = rw time-next k.within.right })))
-        (λ _. rw (own side to' t') (subst (Lists to' w) (sym (waits-elapse d 0 now) ∙ ap wait_places time-next) (l now h)))
+        (λ o e. let i : w ≡ o = cc in rw (own side to' t', ← i) (subst (Lists to' w) (sym (waits-elapse d 0 now) ∙ ap wait_places time-next) (l now h)))
 
   -- a floating, in place
   module _ (a : ℕ) (is : m ≡ Extrude a) where
@@ -132,7 +134,7 @@ module _ (kept : Kept) (t ends : List ℕ) (m : Move) (from records : ℕ) (to :
     float_asks = record {
       known = k.asks.known;
       successor = next;
-      accepted = subst (λ x. proposed (move_of x) now ≡ accept next) is k.asks.accepted;
+      accepted = subst (λ x. proposed (some (move_of x)) now ≡ accept next) is k.asks.accepted;
       place_is = k.asks.place_is ∙ ap (λ x. plan_place x now) is;
       room = k.asks.room;
     }
@@ -145,16 +147,24 @@ module _ (kept : Kept) (t ends : List ℕ) (m : Move) (from records : ℕ) (to :
     float_ends = lifts_ends now next a from (lift_exchanged (held n t) ends a from to float_asks) (held n t) ends k.asks.known.table
 
     -- over the record right above it, the list of the live waits stays
-    float_lists : (kept.listed && eqb a (from + 1)) ≡ true → Lists to kept.waits (wait_places next)
+    abbrev still : rust.Option ℕ
+    still = cond (eqb a (from + 1)) kept.waits rust.None
+
+    still_there : (w : ℕ) → still ≡ rust.Some w → (kept.waits ≡ rust.Some w) × (eqb a (from + 1) ≡ true)
+    still_there w l =
+        bool_case _ (eqb a (from + 1)) (λ e. (rw e at l, e))
+        (λ e. let z : ◌≡◌ {A = rust.Option ℕ} rust.None (rust.Some w) = rw e at l in absurd cc)
+
+    float_lists : (w : ℕ) → still ≡ rust.Some w → Lists to w (wait_places next)
     unfolding float_asks successor
-    float_lists l =
-        let (before, right) = and_true kept.listed (eqb a (from + 1)) l in
-        subst (Lists to kept.waits)
+    float_lists w l =
+        let (before, right) = still_there w l in
+        subst (Lists to w)
         (waits_floated now next a (successor_allows now next (meaning.Extrude a) k.asks.known.table.within float_asks.accepted) (eqb-true a (from + 1) right ∙ ap (λ x. x + 1) float_asks.place_is))
-        (k.lists before)
+        (k.lists w before)
 
     pub makes_float : (t' ends' : List ℕ) → t' ≡ lifted t a from → EndsLifted ends a from ends' → length ends' ≡ length ends
-        → Makes kept t ends m records t' to ends' (record { second = side; listed = kept.listed && eqb a (from + 1); records = records; waits = kept.waits })
+        → Makes kept t ends m records t' to ends' (record { second = side; records = records; waits = still })
     unfolding float_asks
     makes_float t' ends' g h l =
         let (before, within, _) = float-inside in
@@ -163,16 +173,16 @@ module _ (kept : Kept) (t ends : List ℕ) (m : Move) (from records : ℕ) (to :
         ∙ (ap (λ x. lifted x a from) (sym (take-append-drop (16 * n) t))
         ∙ (lifted_among (held n t) (drop (16 * n) t) a from before within ∙ ap (λ x. x ++ drop (16 * n) t) (lift_asked (held n t) ends a from to float_asks).1)) in
         let e = held_next t' _ o in
-        makes_in (record { second = side; listed = kept.listed && eqb a (from + 1); records = records; waits = kept.waits }) t' t' to ends' refl (own side t' to)
+        makes_in (record { second = side; records = records; waits = still }) t' t' to ends' refl (own side t' to)
         (kept_next t' ends' e
         (floated_ends now next a from (lift_exchanged (held n t) ends a from to float_asks) (held n t) ends k.asks.known.table (held records t') ends' (record { is = e; right = k.within.right }) h l))
-        (λ z. rw (own side to t') (float_lists z))
+        (λ w z. rw (own side to t') (float_lists w z))
 
   -- an expiry, whose ends are cut
   module _ (a : ℕ) (is : m ≡ Timeout a) where
     expired : timeout_at now a ≡ accept next
     unfolding proposed need ◌>>=◌ successor
-    expired = subst (λ x. proposed (move_of x) now ≡ accept next) is k.asks.accepted
+    expired = subst (λ x. proposed (some (move_of x)) now ≡ accept next) is k.asks.accepted
 
     cut_place : from ≡ start_of a (way_to now a)
     cut_place = k.asks.place_is ∙ ap (λ x. plan_place x now) is
@@ -183,7 +193,7 @@ module _ (kept : Kept) (t ends : List ℕ) (m : Move) (from records : ℕ) (to :
         let h = k.asks.known.table in
         subst (CutsEnds ends n a) (sym cut_place) (cuts_ends ends now (ended_table (held n t) ends now h) a (wait i) l e n (held-size n t ends now k.inside h))
 
-    pub makes_cut : (t' to' ends' : List ℕ) → Gives (proposed (move_of m)) (held n t) ends to to' → EndsCut ends n a from ends' → length ends' ≡ length ends → Makes kept t ends m records t' to' ends' there
+    pub makes_cut : (t' to' ends' : List ℕ) → Gives (proposed (some (move_of m))) (held n t) ends to to' → EndsCut ends n a from ends' → length ends' ≡ length ends → Makes kept t ends m records t' to' ends' there
     makes_cut t' to' ends' g c l =
         let (i, p, e, r) = allowed_wait now a next expired in
         let h = k.asks.known.table in
@@ -196,7 +206,7 @@ module _ (kept : Kept) (t ends : List ℕ) (m : Move) (from records : ℕ) (to :
   module _ (a b : ℕ) (is : m ≡ Communicate a b) where
     parties : Met now a b next
     unfolding proposed need ◌>>=◌ successor
-    parties = accepted_met now next a b k.asks.known.table.within (subst (λ x. proposed (move_of x) now ≡ accept next) is k.asks.accepted)
+    parties = accepted_met now next a b k.asks.known.table.within (subst (λ x. proposed (some (move_of x)) now ≡ accept next) is k.asks.accepted)
 
     abbrev silent : Term
     silent = silence now b
@@ -244,7 +254,7 @@ module _ (kept : Kept) (t ends : List ℕ) (m : Move) (from records : ℕ) (to :
     unbound : records ≡ n - (get_or ends from 0 - from) + (get_or ends a 0 - a - 1) → continue silent a ≡ next
     unbound e = none-bound parties.pairs (omega (arith, e, k.count, meeting-asked.span, parties.leaves.count, ends_here)) parties.is
 
-    pub makes_met : (t' to' ends' : List ℕ) → Gives (proposed (move_of m)) (held n t) ends to to' → records ≡ n - (get_or ends from 0 - from) + (get_or ends a 0 - a - 1)
+    pub makes_met : (t' to' ends' : List ℕ) → Gives (proposed (some (move_of m))) (held n t) ends to to' → records ≡ n - (get_or ends from 0 - from) + (get_or ends a 0 - a - 1)
         → EndsCut ends n a from ends' → length ends' ≡ length ends → Makes kept t ends m records t' to' ends' there
     makes_met t' to' ends' g few h l =
         let (p, e) = silent_prefix in

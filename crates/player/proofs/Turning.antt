@@ -3,11 +3,12 @@ use mathlib.Core.Path.{◌≡◌, refl, sym, ap, subst, ◌∙◌}
 use mathlib.Core.Logic.{◌≢◌}
 use mathlib.Core.Bool.{Bool, true, false, not, cond}
 use mathlib.Core.List.{List}
-use mathlib.Core.Option.{Option, some}
+use mathlib.Core.Option.{Option, none, some}
 use Prim.Native.Nat.{ℕ, ◌+◌, ◌*◌, ◌/◌, ◌≤◌, ◌<◌}
 use native.Mathlib.Omega.{arith}
 use lib.ListN.{length, get_or}
 use lib.Seq.{length-take-le}
+use Rattle.std.specs.Prelude as rust
 use Rattle.cows.specs.Basics.{Result, refuse, accept, ◌>>=◌, need}
 use Rattle.cows.specs.Terms.{Term, under, replication, size, prefixed, replicates, below}
 use Rattle.cows.specs.Places.{sub}
@@ -27,14 +28,17 @@ use Rattle.ways.specs.Known.{Table, Known}
 use Rattle.ways.proofs.KnownTables.{one_table, table_size}
 use Rattle.tables.specs.declared.Reply.{Reply}
 use Rattle.proposals.specs.declared.Move as code
-use Rattle.proposals.specs.declared.Move.TheVariants.{Kill, Communicate, Timeout, Elapse, Unfold, Extrude, None}
-use Rattle.proposals.specs.Proposals.{move_of}
-use Rattle.stepper.specs.Replies.{reply_of, reply_in}
+use Rattle.proposals.specs.declared.Move.TheVariants.{Kill, Communicate, Timeout, Elapse, Unfold, Extrude}
+use Rattle.proposals.specs.Proposals.{move_of, read_as}
+use Rattle.stepper.specs.Replies.{reply_of, reply_in, records_of, Fitting}
 use Rattle.stepper.proofs.Stepping.{table_known}
-use Rattle.stepper.proofs.Moved.{reply_fitted, asks}
+use Rattle.stepper.proofs.Moved.{reply_allowed, reply_planned, asks}
 use Rattle.elapse.specs.Waits.{wait_places, Lists}
+use Rattle.std.specs.Prelude as rust
+use Rattle.std.specs.Prelude.{None, Ok, Err}
 use Rattle.plans.specs.declared.Plan.{Plan}
-use Rattle.plans.specs.Plans.{result_of, Planned, Asks}
+use Rattle.plans.specs.declared.Refusal.{Refusal}
+use Rattle.plans.specs.Plans.{Planned, Asks}
 use Rattle.moves.specs.Places.{plan_place}
 use Rattle.tally.specs.declared.Tally.{Tally}
 use Rattle.tally.specs.Counted.{tally_of, sum_of, Small}
@@ -43,23 +47,22 @@ use Rattle.player.specs.declared.turns.Kept.{Kept}
 use Rattle.player.specs.declared.turns.Tried.{Tried}
 use Rattle.player.specs.Loads.{load_between}
 use Rattle.player.specs.declared.turns.Next.{Next}
-use Rattle.player.specs.Turns.{held, Accepted, Copied, Judged, Judges, KeepsRun, Going, GoesOn, Turns, Turned}
+use Rattle.player.specs.Turns.{held, Accepted, Copied, Judged, Allows, Refuses, KeepsRun, Going, GoesOn, Turns, Turned}
 use Rattle.player.specs.Making.{CanMake, Makes}
 use Rattle.player.proofs.Loading.{body-load}
 
 -- only an unfolding copies anything
 pub copied_none : (s ends : List ℕ) (m : code.Move) → ((x : ℕ) → m ≡ Unfold x → ⊥) → Copied s ends m 0
 unfolding copies
-copied_none s ends m h = record { is = λ t _ v e. none m h t v e; few = omega arith }
+copied_none s ends m h = record { is = λ t _. none m h t; few = omega arith }
   where
-    none : (m : code.Move) → ((x : ℕ) → m ≡ Unfold x → ⊥) → (t : Term) (v : Move) → move_of m ≡ some v → 0 ≡ copies t v
-    none (Kill a) h t v e = ap (copies t) (same_some e)
-    none (Communicate a b) h t v e = ap (copies t) (same_some e)
-    none (Timeout a) h t v e = ap (copies t) (same_some e)
-    none (Elapse d) h t v e = ap (copies t) (same_some e)
-    none (Unfold a) h t v e = absurd (h a refl)
-    none (Extrude a) h t v e = ap (copies t) (same_some e)
-    none None h t v e = absurd (let z : ◌≡◌ {A = ℕ} 0 1 = cc in omega arith)
+    none : (m : code.Move) → ((x : ℕ) → m ≡ Unfold x → ⊥) → (t : Term) → 0 ≡ copies t (move_of m)
+    none (Kill a) h t = refl
+    none (Communicate a b) h t = refl
+    none (Timeout a) h t = refl
+    none (Elapse d) h t = refl
+    none (Unfold a) h t = absurd (h a refl)
+    none (Extrude a) h t = refl
 
 unfold_live : (t s : Term) (a : ℕ) → unfold_at t a ≡ accept s → StandsLive t a (under replication (below (sub t a)))
 unfolding unfold_at
@@ -71,8 +74,8 @@ module _ (s ends : List ℕ) {m : code.Move} (h : Accepted s ends m) {a : ℕ} (
   accepted-unfolds : StandsLive h.known.term a (under replication (below (sub h.known.term a)))
   unfolding successor
   accepted-unfolds =
-      let x = steps.step_accepted h.known.term h.successor (move_of m) 32768 h.accepted in
-      unfold_live h.known.term h.successor a (subst (λ v. successor h.known.term v ≡ accept h.successor) (same_some (sym x.reads ∙ ap move_of unfolds)) x.moves)
+      let x = steps.step_accepted h.known.term h.successor (some (move_of m)) 32768 h.accepted in
+      unfold_live h.known.term h.successor a (subst (λ v. successor h.known.term v ≡ accept h.successor) (same_some (sym x.reads) ∙ ap move_of unfolds) x.moves)
 
   pub unfold_inside : a < length s / 16
   unfold_inside = omega (arith, accepted-unfolds.at.placed, table_size s ends h.known.term h.known.table)
@@ -80,11 +83,11 @@ module _ (s ends : List ℕ) {m : code.Move} (h : Accepted s ends m) {a : ℕ} (
   pub copied_body : (r : ℕ) → r ≡ load_between s (a + 1) (get_or ends a 0) → r ≤ 2048 → Copied s ends m r
   unfolding copies
   copied_body r er few = record {
-    is = λ t ht v e.
+    is = λ t ht.
         let same = one_table s ends t h.known.term ht h.known.table in
         let is : load_between s (a + 1) (get_or ends a 0) ≡ load (below (sub t a)) =
         rw same (body-load s ends h.known.term h.known.table a accepted-unfolds.at.placed replication _ accepted-unfolds.at.stands) in
-        subst (λ w. r ≡ copies t w) (same_some (sym (ap move_of unfolds) ∙ e)) (er ∙ is);
+        subst (λ w. r ≡ copies t (move_of w)) (sym unfolds) (er ∙ is);
     few = few;
   }
 
@@ -107,19 +110,25 @@ judgement-accepted q m r e h = answer_accepted (step_term q.table m 32768) r (st
 abbrev pub run_of : {s ends : List ℕ} → Known s ends → RunState
 run_of k = record { table = k.term; tally = no_tally }
 
--- the reply to a plan is that to the run's judgement; what making the move then asks
-module _ {s ends : List ℕ} (m : code.Move) {plan : Plan} (planned : (t : Term) → Table s ends t → Planned (proposed (move_of m) t) (plan_place m t) plan) {r : Reply}
-    (e : r ≡ reply_in 32768 (result_of plan.judgement)) where
-  pub plan_replies : (q : RunState) → Table s ends q.table → r ≡ reply_of (reply_to (judgement q (move_of m)))
-  unfolding judgement step_term
-  plan_replies q h = e ∙ (ap (reply_in 32768) (planned q.table h).judged ∙ reply_fitted 32768 (proposed (move_of m) q.table))
+-- the reply to a judged move is that to the run's judgement; what making an allowed one then asks
+module _ {s ends : List ℕ} (m : code.Move) (j : rust.Result Plan Refusal) (planned : (t : Term) → Table s ends t → Planned (proposed (some (move_of m)) t) (plan_place m t) j) where
+  -- a refused one has the reply r
+  module _ {r : Reply} (e : r ≡ reply_in 32768 (records_of j)) where
+    pub refusal_replies : (q : RunState) → Table s ends q.table → r ≡ reply_of (reply_to (judgement q (some (move_of m))))
+    unfolding judgement step_term
+    refusal_replies q h = reply_planned _ _ j (planned q.table h) 32768 e
 
-  pub plan_asks : Known s ends → r.answer ≡ 0 → (out : List ℕ) → length out ≡ 32768 → Asks (proposed (move_of m)) (plan_place m) s ends plan.from out
-  plan_asks k z out l = asks k planned out r (e ∙ ap (λ n. reply_in n (result_of plan.judgement)) (sym l)) z
+  module _ (plan : Plan) (f : Fitting j 32768 (Ok plan)) where
+    pub plan_replies : (q : RunState) → Table s ends q.table → record { answer = 0; place = 0; records = plan.records } ≡ reply_of (reply_to (judgement q (some (move_of m))))
+    unfolding judgement step_term
+    plan_replies q h = reply_allowed (subst (Planned _ _) f.0 (planned q.table h)) 32768 f.1
 
-  pub plan_accepts : Known s ends → r.answer ≡ 0 → Accepted s ends m
-  unfolding judgement
-  plan_accepts k z = let (u, x) = judgement-accepted (run_of k) (move_of m) r (plan_replies (run_of k) k.table) z in record { known = k; successor = u; accepted = x }
+    pub plan_asks : Known s ends → (out : List ℕ) → length out ≡ 32768 → Asks (proposed (some (move_of m))) (plan_place m) s ends plan.from out
+    plan_asks k out l = asks k planned out plan (f.0, omega (arith, l, f.1))
+
+    pub plan_accepts : Known s ends → Accepted s ends m
+    unfolding judgement
+    plan_accepts k = let (u, x) = judgement-accepted (run_of k) (some (move_of m)) _ (plan_replies (run_of k) k.table) refl in record { known = k; successor = u; accepted = x }
 
 -- the run goes on by an accepted move only
 turn-refused : (q : RunState) (m : Option Move) (n p : ℕ) → judgement q m ≡ refuse n p → turn q m ≡ q
@@ -141,16 +150,20 @@ module _ (q : RunState) (m : Option Move) (r : Reply) (d : Tally) (a : r ≡ rep
       let (n, p, x) = answer_refused (judgement q m) r a h in
       record { replies = a; counted = ap (sum_of (tally_of q.tally)) e ∙ (rw (turn-refused q m n p x) (sum_zeros (tally_of q.tally))); few = subst (λ c. Small c 1) (sym e) (zeros_small 1) }
 
-  pub judged_accepted : (l : ℕ) → r.answer ≡ 0 → ((v : Move) → m ≡ some v → l ≡ copies q.table v) → l ≤ 2048 → ((v : Move) → m ≡ some v → d ≡ tally_of (adds l v)) → Judged q m r d
-  judged_accepted l z is few e =
+  pub judged_accepted : (l : ℕ) (v : Move) → m ≡ some v → r.answer ≡ 0 → l ≡ copies q.table v → l ≤ 2048 → d ≡ tally_of (adds l v) → Judged q m r d
+  judged_accepted l v ev z is few e =
       let (u, eu) = judgement-accepted q m r a z in
-      let (v, ev) = accepted_move q m u eu in
       record {
         replies = a;
-        counted = ap (sum_of (tally_of q.tally)) (e v ev ∙ ap (λ n. tally_of (adds n v)) (is v ev))
+        counted = ap (sum_of (tally_of q.tally)) (e ∙ ap (λ n. tally_of (adds n v)) is)
             ∙ (sum-adds q.tally (copies q.table v) v ∙ sym (ap (λ (x : RunState). tally_of x.tally) (turn-accepted q m u v eu ev)));
-        few = subst (λ c. Small c 1) (sym (e v ev)) (adds_small l v few);
+        few = subst (λ c. Small c 1) (sym e) (adds_small l v few);
       }
+
+-- 10: what is read as no move
+pub unread : (s ends : List ℕ) (r : Reply) → r ≡ reply_of (reply_to (refuse 10 0)) → Refuses s ends None r
+unfolding judgement step_term proposed need ◌>>=◌ reply_to
+unread s ends r e = let z : r.answer ≢ 0 = λ i. omega (arith, ap (λ (x : Reply). x.answer) e, i) in record { judged = λ q h. judged_refused q none r (tally_of no_tally) e z refl; no_zero = z }
 
 -- the records of a table that lies in a buffer
 pub held-size : (n : ℕ) (x ends : List ℕ) (t : Term) → 16 * n ≤ length x → Table (held n x) ends t → n ≡ size t
@@ -176,8 +189,8 @@ other true t to = refl
 other false t to = refl
 
 -- nothing is said to be listed
-pub unlisted : {A : Type 0} → false ≡ true → A
-unlisted e = absurd (let z : ◌≡◌ {A = ℕ} 0 1 = cc in omega arith)
+pub unlisted : (A : ℕ → Type 0) (w : ℕ) → ◌≡◌ {A = rust.Option ℕ} rust.None (rust.Some w) → A w
+unlisted A w e = absurd cc
 
 -- A turn of the table that is kept in t.
 module _ (k : Kept) (t ends to : List ℕ) (g : Turns k t ends to) where
@@ -205,56 +218,59 @@ module _ (k : Kept) (t ends to : List ℕ) (g : Turns k t ends to) where
   turn_inside = let few : n ≤ 2048 = omega (arith, g.keeps.count, g.keeps.table.within.small) in (few, omega (arith, few, rooms))
 
   -- the list of the live waits, if there is one
-  turn_lists : k.listed ≡ true → (v : Term) → Table (held n t) ends v → Lists to k.waits (wait_places v)
-  turn_lists l v h =
+  turn_lists : (w : ℕ) → k.waits ≡ rust.Some w → (v : Term) → Table (held n t) ends v → Lists to w (wait_places v)
+  turn_lists w l v h =
       let e = one_table (held n t) ends g.run.table v (turn_table g.run g.keeps) h in
-      subst (λ x. Lists to k.waits (wait_places x)) e (subst (λ x. Lists x k.waits (wait_places g.run.table)) (own b to t) (g.keeps.lists l))
+      subst (λ x. Lists to w (wait_places x)) e (subst (λ x. Lists x w (wait_places g.run.table)) (own b to t) (g.keeps.lists w l))
 
-  module _ (m : code.Move) (r : Tried) (j : Judges (held n t) ends m r) where
+  module _ (m : rust.Option code.Move) where
     -- a refused move: all stays as it is
-    module _ (z : r.reply.answer ≢ 0) where
+    module _ (r : Reply) (j : Refuses (held n t) ends m r) where
       abbrev refused_reply : Reply
-      refused_reply = record { answer = r.reply.answer; place = r.reply.place; records = n }
+      refused_reply = record { answer = r.answer; place = r.place; records = n }
 
-      refused_is : (q : RunState) → KeepsRun q (cond b to t) (cond b t to) ends k → (turn q (move_of m) ≡ q) × (refused_reply ≡ reply_of (kept q (judgement q (move_of m))))
+      refused_is : (q : RunState) → KeepsRun q (cond b to t) (cond b t to) ends k → (turn q (read_as m) ≡ q) × (refused_reply ≡ reply_of (kept q (judgement q (read_as m))))
       unfolding reply_to kept
       refused_is q h =
           let e = (j.judged q (turn_table q h)).replies in
-          let (a, p, x) = answer_refused (judgement q (move_of m)) r.reply e z in
-          let y : r.reply ≡ record { answer = a; place = p; records = 0 } = e ∙ ap (λ v. reply_of (reply_to v)) x in (
-            turn-refused q (move_of m) a p x,
+          let (a, p, x) = answer_refused (judgement q (read_as m)) r e j.no_zero in
+          let y : r ≡ record { answer = a; place = p; records = 0 } = e ∙ ap (λ v. reply_of (reply_to v)) x in (
+            turn-refused q (read_as m) a p x,
             ap (λ (v : Reply). record { answer = v.answer; place = v.place; records = n }) y
                 ∙ (ap (λ (c : ℕ). record { answer = a; place = p; records = c }) h.count ∙ sym (ap (λ v. reply_of (kept q v)) x)),
           )
 
-      pub turned_refused : Turned k (move_of m) t ends to t ends to (record { reply = refused_reply; kept = k; counts = r.counts })
-      turned_refused = record {
+      pub turned_refused : {d : Tally} → d ≡ tally_of no_tally → Turned k (read_as m) t ends to t ends to (record { reply = refused_reply; kept = k; counts = d })
+      turned_refused x = rw x (record {
         keeps = λ q h. subst (λ x. KeepsRun x (cond b to t) (cond b t to) ends k) (sym (refused_is q h).0) h;
         replies = λ q h. (refused_is q h).1;
         counted = λ q h. (j.judged q (turn_table q h)).counted;
         few = (j.judged g.run (turn_table g.run g.keeps)).few;
-      }
+      })
 
     -- an accepted move, and what making it asks and gives
-    module _ (z : r.reply.answer ≡ 0) where
-      accepted_is : (q : RunState) → Table (held n t) ends q.table → (u : Term) × (judgement q (move_of m) ≡ accept u)
-      accepted_is q h = judgement-accepted q (move_of m) r.reply (j.judged q h).replies z
+    module _ (r : Tried) (j : Allows (held n t) ends m r) where
+      abbrev reply : Reply
+      reply = record { answer = 0; place = 0; records = r.plan.records }
 
-      reply_is : (q : RunState) (h : Table (held n t) ends q.table) → r.reply ≡ record { answer = 0; place = 0; records = size (accepted_is q h).0 }
+      accepted_is : (q : RunState) → Table (held n t) ends q.table → (u : Term) × (judgement q (some (move_of r.m)) ≡ accept u)
+      accepted_is q h = judgement-accepted q (some (move_of r.m)) reply (j.judged q h).replies refl
+
+      reply_is : (q : RunState) (h : Table (held n t) ends q.table) → reply ≡ record { answer = 0; place = 0; records = size (accepted_is q h).0 }
       unfolding reply_to
       reply_is q h = rw (accepted_is q h).1 at (j.judged q h).replies
 
-      proposed_is : (q : RunState) (h : Table (held n t) ends q.table) → proposed (move_of m) q.table ≡ accept (accepted_is q h).0
+      proposed_is : (q : RunState) (h : Table (held n t) ends q.table) → proposed (some (move_of r.m)) q.table ≡ accept (accepted_is q h).0
       unfolding judgement proposed need ◌>>=◌
-      proposed_is q h = let a = steps.step_accepted q.table (accepted_is q h).0 (move_of m) 32768 (accepted_is q h).1 in rw a.reads a.moves
+      proposed_is q h = let a = steps.step_accepted q.table (accepted_is q h).0 (some (move_of r.m)) 32768 (accepted_is q h).1 in ap (successor q.table) (same_some a.reads) ∙ a.moves
 
       next-within : (q : RunState) (h : Table (held n t) ends q.table) → Within (accepted_is q h).0
       unfolding judgement
-      next-within q h = step_within q.table (accepted_is q h).0 (move_of m) 32768 h.within (accepted_is q h).1
+      next-within q h = step_within q.table (accepted_is q h).0 (some (move_of r.m)) 32768 h.within (accepted_is q h).1
 
-      pub can_make : CanMake k t ends m r.from r.reply.records to
+      pub can_make : CanMake k t ends r.m r.plan.from r.plan.records to
       can_make =
-          let a = j.asks z to rooms.1 in
+          let a = j.asks to rooms.1 in
           let q = run_of a.known in
           let h = a.known.table in
           let e : a.successor ≡ (accepted_is q h).0 = same_accept (sym a.accepted ∙ proposed_is q h) in
@@ -262,24 +278,24 @@ module _ (k : Kept) (t ends to : List ℕ) (g : Turns k t ends to) where
             asks = a;
             within = subst Within (sym e) (next-within q h);
             count = ap (λ (x : Reply). x.records) (reply_is q h) ∙ ap size (sym e);
-            lists = λ l. turn_lists l _ h;
+            lists = λ w l. turn_lists w l _ h;
             inside = turn_inside.1;
             room = rooms.1;
             ends_room = g.keeps.ends_room;
           }
 
-      pub turned_made : (t' ends' to' : List ℕ) (then : Kept) → length t' ≡ length t → length ends' ≡ length ends → length to' ≡ length to → Makes k t ends m r.reply.records t' to' ends' then
-          → Turned k (move_of m) t ends to t' ends' to' (record { reply = r.reply; kept = then; counts = r.counts })
+      pub turned_made : (t' ends' to' : List ℕ) (then : Kept) → length t' ≡ length t → length ends' ≡ length ends → length to' ≡ length to → Makes k t ends r.m r.plan.records t' to' ends' then
+          → Turned k (some (move_of r.m)) t ends to t' ends' to' (record { reply = reply; kept = then; counts = r.counts })
       unfolding kept
       turned_made t' ends' to' then lt le lo made = record {
         keeps = λ q h.
             let i = turn_table q h in
-            let (v, ev) = accepted_move q (move_of m) (accepted_is q i).0 (accepted_is q i).1 in
-            let o = turn-accepted q (move_of m) (accepted_is q i).0 v (accepted_is q i).1 ev in
+            let (v, ev) = accepted_move q (some (move_of r.m)) (accepted_is q i).0 (accepted_is q i).1 in
+            let o = turn-accepted q (some (move_of r.m)) (accepted_is q i).0 v (accepted_is q i).1 ev in
             record {
               table = rw (o, made.count) (made.table q.table (accepted_is q i).0 i (proposed_is q i));
               count = made.count ∙ (ap (λ (x : Reply). x.records) (reply_is q i) ∙ (rw o));
-              lists = λ l. rw o (made.lists l q.table (accepted_is q i).0 i (proposed_is q i));
+              lists = λ w l. rw o (made.lists w l q.table (accepted_is q i).0 i (proposed_is q i));
               first_room = cond_room b t' to' (omega (arith, lt, rooms)) (omega (arith, lo, rooms));
               second_room = cond_room b to' t' (omega (arith, lo, rooms)) (omega (arith, lt, rooms));
               ends_room = omega (arith, le, g.keeps.ends_room);

@@ -29,6 +29,7 @@ use Rattle.player.specs.declared.nights.Moved.{Moved}
 use Rattle.player.specs.declared.Played.{Played}
 use Rattle.player.specs.Turns.{held, KeepsRun}
 use Rattle.player.specs.Nights.{CanPlay, NightOver, Clear, refused_with, PlayGives, Plays, PlaysTerm}
+use Rattle.std.specs.Prelude as rust
 use Rattle.player.proofs.Turning.{unlisted}
 use Rattle.player.proofs.Writing.{put_eq}
 
@@ -58,14 +59,14 @@ module _ (table ends moves out slots whole : List ℕ) (o : Clear table ends mov
       ∙ (ap (take (16 * (length table / 16))) whole_is ∙ take_at table (drop (0 + length table) out) (16 * (length table / 16)) o.known.whole))
 
   abbrev first : Kept
-  first = record { second = false; listed = false; records = length table / 16; waits = 0 }
+  first = record { second = false; records = length table / 16; waits = rust.None }
 
   pub keeps-first : (t : Term) → Table table ends t → KeepsRun (start t) (take 32768 whole) zeros ends first
   unfolding start
   keeps-first t h = record {
     table = subst (λ s. Table s ends t) held_is h;
     count = table_size table ends t h;
-    lists = unlisted;
+    lists = unlisted _;
     first_room = part_whole;
     second_room = zeros_long;
     ends_room = o.ends_room;

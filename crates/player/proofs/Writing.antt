@@ -1,24 +1,28 @@
 -- What play writes (src/buffers): a reply's six bytes, and the last table with zeros behind it.
-use mathlib.Core.Path.{◌≡◌, refl, ap, subst, ◌∙◌}
+use mathlib.Core.Path.{◌≡◌, refl, sym, ap, ◌∙◌}
 use mathlib.Core.Bool.{Bool, cond}
-use mathlib.Core.List.{List, ◌++◌}
-use Prim.Native.Nat.{ℕ, ◌+◌, ◌*◌, ◌-◌, ◌≤◌, ◌<◌}
+use mathlib.Core.List.{List, ◌++◌, append_assoc}
+use Prim.Native.Nat.{ℕ, ◌+◌, ◌*◌, ◌-◌, ◌≤◌}
 use native.Mathlib.Omega.{arith}
-use lib.ListN.{length, take, drop, set, replicate, length-append, length-replicate, get_or-replicate}
-use lib.Seq.{sets-eq, length-take-le}
+use lib.ListN.{length, take, drop, replicate, length-append, length-replicate}
+use lib.Seq.{sets-eq, length-take-le, drop-drop}
+use borrow.Rule.Slice.PartMut.{put_mid}
 use Rattle.cows.specs.Format.{bytes2}
 use Rattle.records.specs.Rewrites.{put}
-use Rattle.records.proofs.Put.{and_then, put_more}
+use Rattle.records.proofs.Put.{and_then}
 use Rattle.player.specs.Nights.{six_bytes}
 
 pub reply_put : (d : List ℕ) (at a p n : ℕ) {d₁ d₂ d₃ : List ℕ} → d₁ ≡ put d at (bytes2 a) → d₂ ≡ put d₁ (at + 2) (bytes2 p) → d₃ ≡ put d₂ (at + 4) (bytes2 n) → d₃ ≡ put d at (six_bytes a p n)
 unfolding bytes2
 reply_put d at a p n {d₁} e₁ e₂ e₃ = and_then d at (at + 2) (bytes2 a) (bytes2 p ++ bytes2 n) refl e₁ (and_then d₁ (at + 2) (at + 4) (bytes2 p) (bytes2 n) (omega arith) e₂ e₃)
 
-pub zeros_more : (d : List ℕ) (to len i : ℕ) → i < len → set (put d to (take i (replicate len 0))) (to + i) 0 ≡ put d to (take (i + 1) (replicate len 0))
-zeros_more d to len i h =
-    subst (λ (v : ℕ). set (put d to (take i (replicate len 0))) (to + i) v ≡ put d to (take (i + 1) (replicate len 0))) (get_or-replicate {A = ℕ} len i 0 0 h)
-    (put_more d to (replicate len 0) i (omega (arith, length-replicate {A = ℕ} len 0)))
+-- a part of the output that holds zeros only
+pub zeros_filled : (d : List ℕ) (to len : ℕ) {part : List ℕ} → to + len ≤ length d → part ≡ replicate len 0 → put_mid to (to + len - to) d part ≡ put d to (replicate len 0)
+unfolding put
+zeros_filled d to len h e =
+    let l = length-replicate {A = ℕ} len 0 in
+    let i : to + (to + len - to) ≡ to + length (replicate {A = ℕ} len 0) = omega (arith, l) in
+    rw (e, drop-drop (to + len - to) to d, i) (sym (sets-eq (replicate len 0) d to (omega (arith, l)) ∙ append_assoc (take to d) _ _))
 
 pub put_eq : (d bs : List ℕ) → length bs ≤ length d → put d 0 bs ≡ bs ++ drop (0 + length bs) d
 unfolding put

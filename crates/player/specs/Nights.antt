@@ -12,7 +12,8 @@ use Rattle.cows.specs.Run as meaning
 use Rattle.cows.specs.Cut.{pieces}
 use Rattle.records.specs.Rewrites.{put}
 use Rattle.ways.specs.Known.{Known}
-use Rattle.tables.specs.Verdict.{refusal}
+use Rattle.tables.specs.declared.Reply as code
+use Rattle.tables.specs.Verdict.{refusal, accepted}
 use Rattle.stepper.specs.Replies.{reply_of}
 use Rattle.tally.specs.declared.Tally.{Tally}
 use Rattle.tally.specs.Counted.{tally_of, sum_of, Small}
@@ -96,6 +97,10 @@ pub record Clear (table ends moves out slots : List ℕ) : Type 0 where
 -- A play refused whole.
 abbrev pub refused_with : ℕ → ℕ → Played
 refused_with n p = record { reply = refusal n p; tally = tally_of no_tally }
+
+-- what is accepted, and its tally
+abbrev pub accepted_with : ℕ → Tally → Played
+accepted_with n c = record { reply = accepted n; tally = c }
 
 -- The reply, the tally, and every byte of both buffers are those of a result.
 pub record PlayGives (r : Result meaning.PlayEnd) (out after slots after' : List ℕ) (p : Played) : Type 0 where

@@ -13,7 +13,7 @@ pub fn put_reply(r: Reply, replies: &mut [u8], at: usize)
     requires { (at + 5 < length replies.old) × (r.place < 65536) × (r.records < 65536) }
     ensures { replies.new ≡ put replies.old at (six_bytes r.answer r.place r.records) }
 {
-    put_word(r.answer as u16, replies, at);
+    put_word(u16::from(r.answer), replies, at);
     put_word(r.place as u16, replies, at + 2);
     put_word(r.records as u16, replies, at + 4);
 }
@@ -23,11 +23,7 @@ fn put_zeros(out: &mut [u8], to: usize, len: usize)
     requires { to + len ≤ length out.old }
     ensures { out.new ≡ put out.old to (replicate len 0) }
 {
-    let mut i = 0;
-    while i < len {
-        out[to + i] = 0;
-        i += 1;
-    }
+    out[to..to + len].fill(0);
 }
 
 // The table of n records that lies in a buffer, and zeros up to byte 32,768.

@@ -2,8 +2,6 @@
 ghost use Rattle.std.specs.Prelude.{◌≡◌, cond, ◌-◌, ◌≤◌, ◌<◌, ltb};
 ghost use Rattle.player.specs.Cutting.{Around, LoweredAround, Lowers, Lowered, CutsEnds, EndsCut};
 
-use records::wide16;
-
 // An end, d lower if it lies behind the place `start`.
 fn lower_behind(e: u16, start: u16, d: u16) -> u16
     requires { start < e → d ≤ e }
@@ -22,10 +20,8 @@ fn lower_around(ends: &mut [u16], from: usize, by: usize)
 {
     let start = from as u16;
     let d = by as u16;
-    let mut i = 0;
-    while i < from {
+    for i in 0..from {
         ends[i] = lower_behind(ends[i], start, d);
-        i += 1;
     }
 }
 
@@ -35,10 +31,8 @@ fn lower_ends(ends: &mut [u16], low: usize, high: usize, by: usize)
     ensures { Lowered ends.old low high by ends.new }
 {
     let d = by as u16;
-    let mut i = low;
-    while i < high {
+    for i in low..high {
         ends[i] = ends[i + by] - d;
-        i += 1;
     }
 }
 
@@ -47,9 +41,9 @@ pub fn cut_ends(ends: &mut [u16], n: usize, a: usize, from: usize)
     requires { CutsEnds ends.old n a from }
     ensures { EndsCut ends.old n a from ends.new }
 {
-    let body = wide16(ends[a]);
+    let body = usize::from(ends[a]);
     let inner = a + 1 - from;
-    let outer = inner + (wide16(ends[from]) - body);
+    let outer = inner + (usize::from(ends[from]) - body);
     let middle = body - inner;
     lower_around(ends, from, outer);
     lower_ends(ends, from, middle, inner);

@@ -14,7 +14,7 @@ ghost use Rattle.cows.specs.Terms.{Term};
 ghost use Rattle.cows.specs.Tables.{judge};
 ghost use Rattle.ways.specs.Known.{Table};
 ghost use Rattle.player.specs.Loads.{load_reply};
-ghost use Rattle.player.specs.Nights.{Clear, refused_with, Plays, PlaysTerm};
+ghost use Rattle.player.specs.Nights.{Clear, refused_with, accepted_with, Plays, PlaysTerm};
 ghost use Rattle.player.specs.Demand.{Demand3};
 
 use crate::turns::Kept;
@@ -35,7 +35,17 @@ pub fn refused(answer: u8, place: usize) -> Played
 {
     Played {
         reply: tables::refusal(answer, place),
-        tally: tally::zeros(),
+        tally: Tally::default(),
+    }
+}
+
+// A play or a joint step that is accepted: the records then kept, and the tally.
+pub fn accepted(records: usize, tally: Tally) -> Played
+    ensures { result ≡ accepted_with records tally }
+{
+    Played {
+        reply: tables::accepted(records),
+        tally,
     }
 }
 
@@ -56,9 +66,8 @@ fn play_known(
     let night = nights::night(
         Kept {
             second: false,
-            listed: false,
             records: table.len() / 16,
-            waits: 0,
+            waits: None,
         },
         moves,
         &mut out[..size],
@@ -68,17 +77,8 @@ fn play_known(
         moves.len() / 6,
     );
     let kept = night.kept;
-    let records = kept.records;
-    let tally = night.tally;
-    buffers::put_last(kept.second, &other, records, out);
-    Played {
-        reply: Reply {
-            answer: 0,
-            place: 0,
-            records,
-        },
-        tally,
-    }
+    buffers::put_last(kept.second, &other, kept.records, out);
+    accepted(kept.records, night.tally)
 }
 
 // A list of moves on a table, any bytes for both: 0, 0 and the records of the last table, which the output then begins with, zeros behind it up to byte
@@ -111,9 +111,5 @@ pub fn load(table: &[u8]) -> Reply
         return checked;
     }
     let load = loads::load_between(table, 0, table.len() / 16);
-    Reply {
-        answer: 0,
-        place: 0,
-        records: load as usize,
-    }
+    tables::accepted(load as usize)
 }

@@ -19,10 +19,8 @@ pub fn load_between(s: &[u8], i: usize, j: usize) -> u32
     ensures { (result ≡ load_between s.now i j) × (result ≤ max_records) }
 {
     let mut load: u32 = 0;
-    let mut p = i;
-    while p < j {
+    for p in i..j {
         load += weight(s[16 * p]);
-        p += 1;
     }
     load
 }

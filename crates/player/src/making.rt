@@ -11,14 +11,15 @@ use crate::turns::Kept;
 use elapse::waits;
 use plans::cutting::left;
 use proposals::Move;
+use ways::KnownTable;
 
 // How many live waits the table that is kept in t has: `to` lists them, from before or from now on.
 fn count_waits(kept: Kept, t: &[u8], ends: &[u16], to: &mut [u8]) -> usize
     requires { CanList kept t.now ends.now to.old }
     ensures { (v : Term) → Table (held kept.records t.now) ends.now v → Lists to.new result (wait_places v) }
 {
-    if kept.listed {
-        return kept.waits;
+    if let Some(listed) = kept.waits {
+        return listed;
     }
     waits::list_waits(t, ends, kept.records, to)
 }
@@ -44,31 +45,33 @@ pub fn make(
         waits::lower_listed(t, to, w, d);
         return Kept {
             second,
-            listed: true,
             records,
-            waits: w,
+            waits: Some(w),
         };
     }
     if let Move::Extrude(a) = m {
         extrude::lift_in(t, a, from);
         extrude::lift_ends(ends, a, from);
+        let right_above = a == from + 1;
         return Kept {
             second,
-            listed: kept.listed & (a == from + 1),
             records,
-            waits: kept.waits,
+            waits: kept.waits.filter(|_| right_above),
         };
     }
     let there = Kept {
         second: !second,
-        listed: false,
         records,
-        waits: 0,
+        waits: None,
     };
     let n = kept.records;
     let size = 16 * n;
     let after = 16 * records;
-    moves::write(&t[..size], ends, m, from, to);
+    let table = KnownTable {
+        bytes: &t[..size],
+        ends,
+    };
+    moves::write(table, m, from, to);
     if let Move::Timeout(a) = m {
         cut_ends(ends, n, a, from);
         return there;

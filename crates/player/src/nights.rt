@@ -17,6 +17,7 @@ pub struct Moved {
     pub tally: Tally,
 }
 
+// The buffers x and y and the ends are lent one by one: a struct of three `&mut` would be lent by `&mut` again, and `move_on` exchanges x and y.
 // Move i of a list, all but the counting: made on the table that is kept, and its reply written.
 fn move_at(
     kept: Kept,
@@ -33,16 +34,11 @@ fn move_at(
     let at = 6 * i;
     let to = at + 6;
     let next = turns::move_on(kept, x, y, ends, &moves[at..to]);
-    let reply = next.reply;
-    let after = Kept {
-        second: next.kept.second,
-        listed: next.kept.listed,
-        records: next.kept.records,
-        waits: next.kept.waits,
-    };
-    let tally = next.counts;
-    buffers::put_reply(reply, replies, at);
-    Moved { kept: after, tally }
+    buffers::put_reply(next.reply, replies, at);
+    Moved {
+        kept: next.kept,
+        tally: next.counts,
+    }
 }
 
 // Move i, and the tally that is lent, lent on.
@@ -77,10 +73,9 @@ pub fn night(
     requires { CanPlay moves.now n first x.old y.old ends.old replies.old }
     ensures { (t : Term) → KeepsRun (start t) x.old y.old ends.old first → NightOver t moves.now x.new y.new ends.new replies.old replies.new result }
 {
-    let mut t = tally::zeros();
+    let mut t = Tally::default();
     let mut kept = first;
-    let mut i: usize = 0;
-    while i < n {
+    for i in 0..n {
         kept = record_move(
             &mut t,
             kept,
@@ -91,7 +86,6 @@ pub fn night(
             &mut *replies,
             i,
         );
-        i += 1;
     }
     Moved { kept, tally: t }
 }

@@ -1,30 +1,31 @@
 // One move of a list: judged on the table that is kept, and its successor kept if it is accepted. Two buffers take the tables by turns.
-ghost use Rattle.ways.specs.Known.{Known};
 ghost use Rattle.cows.specs.Step.{read_move};
-ghost use Rattle.player.specs.Turns.{Accepted, Copied, Judges, kept_of, Turns, Turned, Going, GoesOn};
+ghost use Rattle.player.specs.Turns.{Accepted, Copied, Judges, Turns, Turned, Going, GoesOn};
 
 use crate::loads;
 use crate::making::make;
+use plans::{Plan, Refusal};
 use proposals::Move;
-use records::{limits, wide16};
-use stepper::answering::answer;
-use tables::Reply;
+use records::limits;
+use stepper::answering::{fitting, refused};
+use tables::{Reply, accepted};
 use tally::Tally;
+use ways::KnownTable;
 
-// What is kept from move to move: which buffer the table is in, and its records; whether the other buffer lists its live waits, and how many.
+// What is kept from move to move: whether the table is in the second of the two buffers, and its records; and how many live waits the other buffer lists, if it
+// lists them. `second` is a plain yes or no, which `!` turns.
 #[derive(Clone, Copy)]
 pub struct Kept {
     pub second: bool,
-    pub listed: bool,
     pub records: usize,
-    pub waits: usize,
+    pub waits: Option<usize>,
 }
 
-// A judged move: the reply to it, the place of its plan, and what it counts.
+// An accepted move: the move, its plan, and what it counts.
 #[derive(Clone, Copy)]
 pub struct Tried {
-    pub reply: Reply,
-    pub from: usize,
+    pub m: Move,
+    pub plan: Plan,
     pub counts: Tally,
 }
 
@@ -37,80 +38,61 @@ pub struct Next {
 }
 
 // The load that an accepted move copies: of a body, by an unfolding.
-fn copied(s: &[u8], ends: &[u16], m: Move) -> u32
-    requires { Accepted s.now ends.now m }
-    ensures { Copied s.now ends.now m result }
+fn copied(table: KnownTable, m: Move) -> u32
+    requires { Accepted table.bytes.now table.ends.now m }
+    ensures { Copied table.entry.bytes.now table.entry.ends.now m result }
 {
     let Move::Unfold(a) = m else {
         return 0;
     };
-    loads::load_between(s, a + 1, wide16(ends[a]))
+    loads::load_between(table.bytes, a + 1, usize::from(table.ends[a]))
 }
 
-// A move on a known table, judged, and what it counts: nothing, if it is refused.
-fn judged(s: &[u8], ends: &[u16], m: Move) -> Tried
-    requires { Known s.now ends.now }
-    ensures { Judges s.now ends.now m result }
+// A move, as it was read, on a known table, judged: its plan and what it counts, or the reply to its refusal.
+fn judged(table: KnownTable, m: Option<Move>) -> Result<Tried, Reply>
+    ensures { Judges table.entry.bytes.now table.entry.ends.now m result }
 {
-    let plan = moves::judge(s, ends, m);
-    let judgement = plan.judgement;
-    let step = answer(judgement, limits::MAX_BYTES);
-    if step.answer != 0 {
-        return Tried {
-            reply: step,
-            from: 0,
-            counts: tally::zeros(),
-        };
-    }
-    Tried {
-        reply: step,
-        from: plan.from,
-        counts: tally::counts(m, copied(s, ends, m)),
-    }
+    let Some(m) = m else {
+        return Err(refused(Refusal::Unread));
+    };
+    let plan = fitting(moves::judge(table, m), limits::MAX_BYTES)?;
+    Ok(Tried {
+        m,
+        plan,
+        counts: tally::counts(m, copied(table, m)),
+    })
 }
 
-// A move on the table of n records that is kept in t, the second buffer or the first; `to` is the other one. What is kept is given part by part, and the move by
-// its bytes (docs/DECISIONS.md, A list of moves).
-fn turn(
-    second: bool,
-    listed: bool,
-    n: usize,
-    waits: usize,
-    t: &mut [u8],
-    ends: &mut [u16],
-    bytes: &[u8],
-    to: &mut [u8],
-) -> Next
-    requires { Turns (kept_of second listed n waits) t.old ends.old to.old }
-    ensures { Turned (kept_of second listed n waits) (read_move bytes.now) t.old ends.old to.old t.new ends.new to.new result }
+// A move, by its bytes, on the table that is kept in t; `to` is the other buffer.
+fn turn(kept: Kept, t: &mut [u8], ends: &mut [u16], bytes: &[u8], to: &mut [u8]) -> Next
+    requires { Turns kept t.old ends.old to.old }
+    ensures { Turned kept (read_move bytes.now) t.old ends.old to.old t.new ends.new to.new result }
 {
     let m = proposals::read_move(bytes);
-    let kept = Kept {
-        second,
-        listed,
-        records: n,
-        waits,
-    };
+    let n = kept.records;
     let size = 16 * n;
-    let tried = judged(&t[..size], ends, m);
-    let reply = tried.reply;
-    let counts = tried.counts;
-    if reply.answer != 0 {
-        return Next {
+    let table = KnownTable {
+        bytes: &t[..size],
+        ends,
+    };
+    match judged(table, m) {
+        Err(reply) => Next {
             reply: Reply {
-                answer: reply.answer,
-                place: reply.place,
                 records: n,
+                ..reply
             },
             kept,
-            counts,
-        };
-    }
-    let then = make(kept, t, ends, m, tried.from, reply.records, to);
-    Next {
-        reply,
-        kept: then,
-        counts,
+            counts: Tally::default(),
+        },
+        Ok(tried) => {
+            let plan = tried.plan;
+            let then = make(kept, t, ends, tried.m, plan.from, plan.records, to);
+            Next {
+                reply: accepted(plan.records),
+                kept: then,
+                counts: tried.counts,
+            }
+        }
     }
 }
 
@@ -119,12 +101,8 @@ pub fn move_on(kept: Kept, x: &mut [u8], y: &mut [u8], ends: &mut [u16], bytes: 
     requires { Going x.old y.old ends.old kept }
     ensures { GoesOn (read_move bytes.now) kept x.old y.old ends.old x.new y.new ends.new result }
 {
-    let second = kept.second;
-    let listed = kept.listed;
-    let n = kept.records;
-    let waits = kept.waits;
-    if second {
-        return turn(second, listed, n, waits, y, ends, bytes, x);
+    if kept.second {
+        return turn(kept, y, ends, bytes, x);
     }
-    turn(second, listed, n, waits, x, ends, bytes, y)
+    turn(kept, x, ends, bytes, y)
 }

@@ -6,7 +6,7 @@ ghost use Rattle.std.specs.Counts.{IsPrefixLen};
 ghost use Rattle.cows.specs.Tables.{judge};
 ghost use Rattle.player.specs.Loads.{load_reply};
 
-use records::{limits, wide16, word_at};
+use records::{limits, word_at};
 use std::fs::File;
 use std::io::{BufWriter, Read, Write};
 use std::rt::Files;
@@ -14,38 +14,22 @@ use std::{io, str};
 use tables::Reply;
 use tally::Tally;
 
-fn print(lines: &mut impl Write, text: &[u8]) -> io::Result<()> {
-    lines.write_all(text)
-}
-
-// A blank and a number.
-fn print_number(lines: &mut impl Write, n: usize) -> io::Result<()> {
-    write!(lines, " {n}")
-}
-
-fn wide(x: u8) -> usize {
-    x as usize
-}
-
-// Move i: its number from 1, its kind byte, and the answer, place and records of its reply.
-fn print_move(lines: &mut impl Write, moves: &[u8], replies: &[u8], i: usize) -> io::Result<()>
-    requires { (6 * i + 5 < length moves.now) × (6 * i + 5 < length replies.now) }
+// A move: its number, its kind byte, and the answer, place and records of its reply.
+fn print_move(lines: &mut impl Write, number: usize, m: &[u8], reply: &[u8]) -> io::Result<()>
+    requires { (0 < length m.now) × (5 < length reply.now) }
 {
-    let at = 6 * i;
-    write!(lines, "{}", i + 1)?;
-    print_number(lines, wide(moves[at]))?;
-    print_number(lines, wide16(word_at(replies, at)))?;
-    print_number(lines, wide16(word_at(replies, at + 2)))?;
-    print_number(lines, wide16(word_at(replies, at + 4)))?;
-    print(lines, b"\n")
+    let kind = m[0];
+    let answer = word_at(reply, 0);
+    let place = word_at(reply, 2);
+    let records = word_at(reply, 4);
+    writeln!(lines, "{number} {kind} {answer} {place} {records}")
 }
 
-// Every move of the list.
-fn print_moves(lines: &mut impl Write, moves: &[u8], replies: &[u8]) -> io::Result<()>
-    requires { 6 * (length moves.now / 6) ≤ length replies.now }
-{
-    for i in 0..moves.len() / 6 {
-        print_move(lines, moves, replies, i)?;
+// Every move of the list, each with its reply, numbered from 1.
+fn print_moves(lines: &mut impl Write, moves: &[u8], replies: &[u8]) -> io::Result<()> {
+    let both = moves.chunks_exact(6).zip(replies.chunks_exact(6));
+    for (i, (m, reply)) in both.enumerate() {
+        print_move(lines, i + 1, m, reply)?;
     }
     Ok(())
 }
@@ -55,30 +39,21 @@ fn print_tail(lines: &mut impl Write, n: usize) -> io::Result<()> {
     if n == 0 {
         return Ok(());
     }
-    print(lines, b"tail")?;
-    print_number(lines, n)?;
-    print(lines, b"\n")
+    writeln!(lines, "tail {n}")
 }
 
 fn print_total(lines: &mut impl Write, t: Tally, left: usize) -> io::Result<()> {
-    print(lines, b"total")?;
-    print_number(lines, t.communications as usize)?;
-    print_number(lines, t.kills as usize)?;
-    print_number(lines, t.timeouts as usize)?;
-    print_number(lines, left)?;
-    print(lines, b"\n")
+    writeln!(
+        lines,
+        "total {} {} {} {left}",
+        t.communications, t.kills, t.timeouts
+    )
 }
 
 // The refusal of a whole night: of its list, or of its table.
 fn print_refusal(lines: &mut impl Write, r: Reply) -> io::Result<()> {
-    if r.answer == 19 {
-        print(lines, b"moves")?;
-    } else {
-        print(lines, b"table")?;
-    }
-    print_number(lines, wide(r.answer))?;
-    print_number(lines, r.place)?;
-    print(lines, b"\n")
+    let what = if r.answer == 19 { "moves" } else { "table" };
+    writeln!(lines, "{what} {} {}", r.answer, r.place)
 }
 
 // The load of the table of n records that an output begins with.
@@ -113,6 +88,7 @@ fn read_full<R: Read>(input: &mut R, buffer: &mut [u8]) -> usize
     ensures bytes { IfSome (R.remaining input.old) (λ all. take result buffer.new ≡ take result all) }
 {
     let mut done = 0;
+    // Each read says how far the next begins.
     while done < buffer.len() {
         let Ok(n) = input.read(&mut buffer[done..]) else {
             return done;

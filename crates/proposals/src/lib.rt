@@ -3,12 +3,12 @@
 
 ghost use Rattle.std.specs.Prelude.{◌≡◌};
 ghost use Rattle.cows.specs.Step.{right_move, read_move};
-ghost use Rattle.proposals.specs.Proposals.{move_of};
+ghost use Rattle.proposals.specs.Proposals.{read_as};
 
-use records::{wide16, word_at};
+use records::word_at;
 
-// A move as it is read off its six bytes, or none.
-#[derive(Clone, Copy)]
+// One of the six moves.
+#[derive(Clone, Copy, Debug, PartialEq, Eq)]
 pub enum Move {
     Kill(usize),
     Communicate(usize, usize),
@@ -16,7 +16,6 @@ pub enum Move {
     Elapse(u16),
     Unfold(usize),
     Extrude(usize),
-    None,
 }
 
 // Whether the bytes have the form of a move, whatever its kind.
@@ -30,22 +29,22 @@ fn right_move(m: &[u8]) -> bool
 }
 
 // The move that the bytes are, or none: refusal 10.
-pub fn read_move(m: &[u8]) -> Move
-    ensures { move_of result ≡ read_move m.now }
+pub fn read_move(m: &[u8]) -> Option<Move>
+    ensures { read_as result ≡ read_move m.now }
 {
     if !right_move(m) {
-        return Move::None;
+        return None;
     }
     let kind = m[0];
     let d = word_at(m, 2);
-    let a = wide16(d);
+    let a = usize::from(d);
     match kind {
-        0 => Move::Kill(a),
-        1 => Move::Communicate(a, wide16(word_at(m, 4))),
-        2 => Move::Timeout(a),
-        3 => Move::Elapse(d),
-        4 => Move::Unfold(a),
-        5 => Move::Extrude(a),
-        _ => Move::None,
+        0 => Some(Move::Kill(a)),
+        1 => Some(Move::Communicate(a, usize::from(word_at(m, 4)))),
+        2 => Some(Move::Timeout(a)),
+        3 => Some(Move::Elapse(d)),
+        4 => Some(Move::Unfold(a)),
+        5 => Some(Move::Extrude(a)),
+        _ => None,
     }
 }

@@ -1,5 +1,5 @@
 -- Laws of what the quick test gathers: by how far fields lie outside their ranges, in eight numbers, with the code's tables of rows.
-use Rattle.std.proofs.Common.{◌≡◌, ℕ, zero, suc, ◌+◌, ◌*◌, ◌%◌, ◌<◌, ◌≤◌, Bool, true, ◌&&◌, eqb, ltb, leb, List, [], ◌∷◌, map, length, get_or, set, sym, refl, ◌∙◌, arith, get_or-set_other, get_or-set_same, ltb-true, lt-ltb, eqb-true, le-leb, leb-true}
+use Rattle.std.proofs.Common.{◌≡◌, ℕ, zero, suc, ◌+◌, ◌*◌, ◌%◌, ◌<◌, ◌≤◌, Bool, true, ◌&&◌, eqb, ltb, leb, List, [], ◌∷◌, map, length, get_or, set, sym, refl, ◌∙◌, arith, get_or-set_other, get_or-set_same, ltb-true, lt-ltb, eqb-true, leb-true}
 use lib.Bits.{bit_or, and_le_l, and_le_r, or_add_and}
 use lib.ListN.{get_or-map}
 use Rattle.cows.specs.Basics.{any, every}
@@ -7,10 +7,6 @@ use Rattle.cows.specs.Format.{word}
 use Rattle.cows.proofs.Basics.{and_true, true_and, or_right, eq_case}
 use Rattle.ranges.specs.Ranges.{zero_only, field_rows, within, fields_within, ranged, Met, Gathers}
 use Rattle.ranges.proofs.FieldRanges.{bounds, first_word}
-
--- a number that lies x above the lowest, counted round, is within the range if x is within its span
-pub round_within : (w low span x : ℕ) → (x + low) % 65536 ≡ w → x ≤ span → Met w low span
-round_within w low span x e l h = true_and (le-leb low w (omega arith)) (lt-ltb w _ (omega arith))
 
 -- nothing comes of two numbers only if neither is anything
 pub or_nothing : (a b : ℕ) → bit_or a b ≡ 0 → (a ≡ 0) × (b ≡ 0)
@@ -62,15 +58,23 @@ row_sound : (e : ℕ) → Sound (get_or field_rows e [])
 unfolding every field_rows sound
 row_sound e = sound_tells _ (every_read sound field_rows [] refl refl e)
 
--- the code's tables: the rows, where the rows of a kind start, and how far on that of a count stands
-pub record Tables (lowest spans : List (List ℕ)) (row on : List ℕ) : Type 0 where
-  pub same_lowest : lowest ≡ map (map (λ p. p.0)) field_rows
-  pub same_spans : spans ≡ map (map (λ p. p.1)) field_rows
-  pub starts : every (λ a. leb a 9) row ≡ true
-  pub steps : every (λ a. leb a 8) on ≡ true
+-- the code's tables of where the rows of a kind start, and of how far on that of a count stands
+abbrev row : List ℕ
+row = 0 ∷ 1 ∷ 8 ∷ 9 ∷ 2 ∷ 3 ∷ 4 ∷ 5 ∷ 6 ∷ 7 ∷ 0 ∷ 0 ∷ 0 ∷ 0 ∷ 0 ∷ 0 ∷ []
 
-cell : (f : ℕ × ℕ → ℕ) (rows : List (List (ℕ × ℕ))) (e j : ℕ) → get_or (get_or (map (map f) rows) e []) j (f zero_only) ≡ f (get_or (get_or rows e []) j zero_only)
-cell f rows e j = rw (get_or-map (map f) rows e []) (get_or-map f (get_or rows e []) j zero_only)
+abbrev rows_on : List ℕ
+rows_on = 0 ∷ 2 ∷ 4 ∷ 6 ∷ 8 ∷ 0 ∷ 0 ∷ 0 ∷ []
+
+pub row_below : (kind count a b : ℕ) → a ≡ get_or row kind 0 → b ≡ get_or rows_on count 0 → a + b < 18
+unfolding every
+row_below kind count a b e f =
+    let u = leb-true (get_or row kind 0) 9 (every_read (λ n. leb n 9) row 0 refl refl kind) in
+    let v = leb-true (get_or rows_on count 0) 8 (every_read (λ n. leb n 8) rows_on 0 refl refl count) in
+    omega arith
+
+-- a row as the code's table has it: the lowest numbers, and how far above them the fields may lie
+unfoldable pub split : List (ℕ × ℕ) → List ℕ × List ℕ
+split r = (map (λ p. p.0) r, map (λ p. p.1) r)
 
 -- fields that are within their ranges one by one
 within-row : (s : List ℕ) (k : ℕ) (r : List (ℕ × ℕ)) (n : ℕ) → ((j : ℕ) → j < n → within (word s (k + 2 * j)) (get_or r j zero_only) ≡ true) → fields_within s k r n ≡ true
@@ -78,24 +82,18 @@ unfolding fields_within
 within-row s k r zero f = refl
 within-row s k r (suc n) f = true_and (within-row s k r n (λ j l. f j (omega arith))) (f n (omega arith))
 
-module _ {lowest spans : List (List ℕ)} {row on : List ℕ} (t : Tables lowest spans row on) where
-  pub row_below : (x y : ℕ) → get_or row x 0 + get_or on y 0 < 18
-  row_below x y =
-      let u = leb-true (get_or row x 0) 9 (every_read (λ a. leb a 9) row 0 refl t.starts x) in
-      let v = leb-true (get_or on y 0) 8 (every_read (λ a. leb a 8) on 0 refl t.steps y) in
-      omega arith
-
-  -- what is gathered by row e tells that the record is ranged
-  pub gathered-ranged : (s : List ℕ) (k e : ℕ) → e < 18 → get_or s k 0 < 256
-      → ((j : ℕ) → j < 8 → Met (word s (k + 2 * j)) (get_or (get_or lowest e []) j 0) (get_or (get_or spans e []) j 0)) → ranged s k ≡ true
-  unfolding ranged
-  gathered-ranged s k e l small h =
-      let r = get_or field_rows e [] in
-      let sound = row_sound e in
-      let low : (j : ℕ) → get_or (get_or lowest e []) j 0 ≡ (get_or r j zero_only).0 = λ j. rw t.same_lowest (cell (λ p. p.0) field_rows e j) in
-      let span : (j : ℕ) → get_or (get_or spans e []) j 0 ≡ (get_or r j zero_only).1 = λ j. rw t.same_spans (cell (λ p. p.1) field_rows e j) in
-      let fits : (j : ℕ) → j < 8 → within (word s (k + 2 * j)) (get_or r j zero_only) ≡ true =
-      λ j m. rw (low j, span j) at (h j m (rw (low j, span j) (sound.ends j))) in
-      let b = bounds (word s (k + 0)) (get_or r 0 zero_only) (fits 0 (omega arith)) in
-      true_and (lt-ltb (get_or s k 0) 10 (omega (arith, first_word s k, sound.kind, sound.one)))
-      (any_at (λ q. fields_within s k q 8) field_rows [] e (unfold field_rows in l) (within-row s k r 8 fits))
+-- what is gathered by row e of the code's table tells that the record is ranged
+pub gathered-ranged : (rows : List (List ℕ × List ℕ)) (s : List ℕ) (k e : ℕ) → e < 18 → get_or s k 0 < 256
+    → ((j : ℕ) → j < 8 → Met (word s (k + 2 * j)) (get_or (get_or rows e ([], [])).0 j 0) (get_or (get_or rows e ([], [])).1 j 0)) → rows ≡ map split field_rows → ranged s k ≡ true
+unfolding ranged split
+gathered-ranged rows s k e l small h same =
+    let r = get_or field_rows e [] in
+    let sound = row_sound e in
+    let here : get_or rows e ([], []) ≡ split r = rw same (get_or-map split field_rows e []) in
+    let low : (j : ℕ) → get_or (get_or rows e ([], [])).0 j 0 ≡ (get_or r j zero_only).0 = λ j. rw here (get_or-map (λ p. p.0) r j zero_only) in
+    let span : (j : ℕ) → get_or (get_or rows e ([], [])).1 j 0 ≡ (get_or r j zero_only).1 = λ j. rw here (get_or-map (λ p. p.1) r j zero_only) in
+    let fits : (j : ℕ) → j < 8 → within (word s (k + 2 * j)) (get_or r j zero_only) ≡ true =
+    λ j m. rw (low j, span j) at (h j m (rw (low j, span j) (sound.ends j))) in
+    let b = bounds (word s (k + 0)) (get_or r 0 zero_only) (fits 0 (omega arith)) in
+    true_and (lt-ltb (get_or s k 0) 10 (omega (arith, first_word s k, sound.kind, sound.one)))
+    (any_at (λ q. fields_within s k q 8) field_rows [] e (unfold field_rows in l) (within-row s k r 8 fits))

@@ -1,5 +1,4 @@
 pub mod Lists
 pub mod FieldRanges
 pub mod Gathering
-pub mod Wrong
 pub mod Gaps

@@ -8,7 +8,6 @@ pub record Listed (s : List ℕ) (x y : ℕ) (list : List ℕ) (n m : ℕ) : Typ
   pub only : (q : ℕ) → q < m → (nat_le x (slice_index s (16 * slice_index list q)) && nat_le (slice_index s (16 * slice_index list q)) y) ≡ true
   pub all : (j : ℕ) → j < n → (nat_le x (slice_index s (16 * j)) && nat_le (slice_index s (16 * j)) y) ≡ true → (q : ℕ) × (q < m) × (slice_index list q ≡ j)
 
--- the first m numbers of the list are places of the table
-pub record Inside (s list : List ℕ) (m : ℕ) : Type 0 where
-  pub room : m ≤ length list
-  pub place : (q : ℕ) → q < m → slice_index list q < length s / 16
+-- the numbers of the list are places of the table
+abbrev pub Inside : (s list : List ℕ) → Type 0
+Inside s list = (q : ℕ) → q < length list → slice_index list q < length s / 16

@@ -1,19 +1,26 @@
 -- Laws of fault_from (specs/Reads): the first fault of places by the first of them, and of two stretches of places one behind the other.
-use mathlib.Core.Path.{◌≡◌, ◌∙◌}
-use mathlib.Core.Logic.{◌≢◌}
+use mathlib.Core.Path.{◌≡◌, refl, sym, ◌∙◌}
 use mathlib.Core.Bool.{true, false}
-use mathlib.Core.List.{List}
-use mathlib.Core.Option.{none, some}
-use Prim.Native.Nat.{ℕ, ◌+◌, ◌-◌, ◌/◌, ◌≤◌, ◌<◌}
+use mathlib.Core.Option.{Option, none, some}
+use Rattle.std.specs.Prelude as rust
+use Rattle.std.specs.Prelude.{Ok, Err}
+use Prim.Native.Nat.{ℕ, ◌+◌, ◌-◌, ◌≤◌, ◌<◌}
 use native.Mathlib.Omega.{arith}
-use lib.ListN.{length}
 use Rattle.cows.specs.Basics.{place_if, or_else}
 use Rattle.cows.specs.Terms.{Term}
 use Rattle.cows.specs.Places.{spot_at}
 use Rattle.cows.specs.Tables.{no_guard}
-use Rattle.cows.proofs.Basics.{first_from_append, first_from-below, from_next, from_end}
-use Rattle.records.proofs.Laws.{place_tells}
-use Rattle.readers.specs.Reads.{fault_from, Names}
+use Rattle.cows.proofs.Basics.{first_from_append, from_next, from_end}
+use Rattle.readers.specs.Reads.{fault_from, faults, Names}
+
+-- what an answer says of the first fault
+pub ok_is : (o : Option ℕ) → Ok tt ≡ faults o → o ≡ none
+ok_is none e = refl
+ok_is (some p) e = cc
+
+pub err_is : (o : Option ℕ) (p : ℕ) → Err p ≡ faults o → o ≡ some p
+err_is none p e = cc
+err_is (some q) p e = cc
 
 module _ (t : Term) where
   pub fault_end : (i j : ℕ) → j ≤ i → fault_from t i j ≡ none
@@ -35,20 +42,12 @@ module _ (t : Term) where
       let z : i + (j - i) ≡ j = omega arith in
       rw e (first_from_append _ i (j - i) (k - j) ∙ rw z)
 
-  fault_below : (i j p : ℕ) → i ≤ j → fault_from t i j ≡ some p → p < j
-  unfolding fault_from
-  fault_below i j p l e = omega (arith, first_from-below _ i (j - i) p e)
-
-  pub names_tells : (s : List ℕ) (i j r : ℕ) → i ≤ j → j ≤ length s / 16 → Names s t i j r
-      → (r ≡ length s / 16 → fault_from t i j ≡ none) × (r ≢ length s / 16 → (fault_from t i j ≡ some r) × (r < length s / 16))
-  names_tells s i j r a b h = place_tells (length s / 16) r (fault_from t i j) (λ p e. omega (arith, fault_below i j p a e)) h
-
-  -- places from i up to j, of which r names the fault, and on to k
-  module _ (s : List ℕ) (i j k r : ℕ) (a : i ≤ j) (b : j ≤ k) (c : k ≤ length s / 16) (h : Names s t i j r) where
-    pub found_first : r ≢ length s / 16 → Names s t i k r
+  -- places from i up to j, and on to k: a fault in the first stretch is the first, and without one the second stretch decides
+  module _ (i j k : ℕ) (a : i ≤ j) (b : j ≤ k) (r : rust.Result Unit ℕ) (h : Names t i j r) where
+    pub found_first : (p : ℕ) → r ≡ Err p → Names t i k (Err p)
     unfolding or_else
-    found_first f = rw (fault_split i j k a b, ((names_tells s i j r a (omega arith) h).1 f).0)
+    found_first p e = rw (fault_split i j k a b, err_is (fault_from t i j) p (sym e ∙ h))
 
-    pub none_first : r ≡ length s / 16 → fault_from t i k ≡ fault_from t j k
+    pub none_first : r ≡ Ok tt → fault_from t i k ≡ fault_from t j k
     unfolding or_else
-    none_first f = rw (fault_split i j k a b, (names_tells s i j r a (omega arith) h).0 f)
+    none_first e = rw (fault_split i j k a b, ok_is (fault_from t i j) (sym e ∙ h))

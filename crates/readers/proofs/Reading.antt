@@ -4,6 +4,8 @@ use mathlib.Core.Logic.{◌≢◌}
 use mathlib.Core.Bool.{true, false, not, ◌||◌}
 use mathlib.Core.List.{List}
 use mathlib.Core.Option.{some}
+use Rattle.std.specs.Prelude as rust
+use Rattle.std.specs.Prelude.{Ok, Err}
 use Prim.Native.Nat.{ℕ, ◌+◌, ◌*◌, ◌/◌, ◌≤◌, ◌<◌}
 use native.Mathlib.Omega.{arith}
 use lib.Dec.{eqb}
@@ -83,29 +85,30 @@ module _ {s ends : List ℕ} {at : ℕ} (r : Readable s ends at) where
     unfolding guard
     stopped g = fault_here t at end after.0 (own ∙ ap not (ap guard_kind (sym kind) ∙ g))
 
-  pub guard-first : (f : ℕ) → k ≡ 5 → ReadGuard s (at + 1) (get_or ends (at + 1) 0) f → f ≢ n → ReadGuard s at end f
+  pub guard-first : (f : rust.Result Unit ℕ) (p : ℕ) → k ≡ 5 → ReadGuard s (at + 1) (get_or ends (at + 1) 0) f → f ≡ Err p → ReadGuard s at end (Err p)
   unfolding open_kinds
-  guard-first f e x d t h own =
+  guard-first f p e x d t h own =
       let g = choice_at h r.end at r.inside e in
-      rw (passed t h own (rw e refl)) (found_first t s (at + 1) (get_or ends (at + 1) 0) end f (omega arith) (omega arith) (after t h own).1 (x t h g.left) d)
+      rw (passed t h own (rw e refl)) (found_first t (at + 1) (get_or ends (at + 1) 0) end (omega arith) (omega arith) f (x t h g.left) p d)
 
-  pub guard_second : (f w v : ℕ) → w ≡ get_or ends (at + 1) 0 → k ≡ 5 → ReadGuard s (at + 1) (get_or ends (at + 1) 0) f → f ≡ n → ReadGuard s w (get_or ends w 0) v → ReadGuard s at end v
+  pub guard_second : (f : rust.Result Unit ℕ) (w : ℕ) (v : rust.Result Unit ℕ) → w ≡ get_or ends (at + 1) 0 → k ≡ 5 → ReadGuard s (at + 1) (get_or ends (at + 1) 0) f → f ≡ Ok tt
+      → ReadGuard s w (get_or ends w 0) v → ReadGuard s at end v
   unfolding open_kinds
   guard_second f w v q e x d y t h own =
       let g = choice_at h r.end at r.inside e in
-      rw (passed t h own (rw e refl), none_first t s (at + 1) (get_or ends (at + 1) 0) end f (omega arith) (omega arith) (after t h own).1 (x t h g.left) d)
+      rw (passed t h own (rw e refl), none_first t (at + 1) (get_or ends (at + 1) 0) end (omega arith) (omega arith) f (x t h g.left) d)
       (rw g.last at ((rw q at y) t h g.right))
 
-  pub guard-nil : k ≡ 0 → ReadGuard s at end n
+  pub guard-nil : k ≡ 0 → ReadGuard s at end (Ok tt)
   unfolding open_kinds
   guard-nil e t h own = rw (passed t h own (rw e refl), fault_end t (at + 1) end (omega (arith, leaf_at h r.end at r.inside (rw e refl))))
 
-  pub guard-prefix : (w v : ℕ) → w ≡ end → (eqb k 3 || eqb k 4) ≡ true → ReadService s (at + 1) w v → ReadGuard s at end v
+  pub guard-prefix : (w : ℕ) (v : rust.Result Unit ℕ) → w ≡ end → (eqb k 3 || eqb k 4) ≡ true → ReadService s (at + 1) w v → ReadGuard s at end v
   guard-prefix w v q e x t h own =
       let (c, g) = prefix-kind k e in
       rw (passed t h own g) ((rw q at x) t h (prefix_at h r.end at r.inside c).plain)
 
-  pub guard_fault : k ≢ 5 → k ≢ 0 → (eqb k 3 || eqb k 4) ≡ false → ReadGuard s at end at
+  pub guard_fault : k ≢ 5 → k ≢ 0 → (eqb k 3 || eqb k 4) ≡ false → ReadGuard s at end (Err at)
   guard_fault a b c t h own = rw (stopped t h own (no-guard k a b c))
 
 -- The service at a place, read up to i: no choice in it reaches over i, and its first fault is among what is left.
@@ -120,7 +123,7 @@ pub going_first : {s ends : List ℕ} {at end : ℕ} → Readable s ends at → 
 going_first r e = record { from = r; is = e; onward = omega arith; free = λ t h m x y q. absurd (omega arith); left = λ t h q. refl }
 
 module _ {s ends : List ℕ} {at end i : ℕ} (g : Going s ends at end i) where
-  pub going_all : end ≤ i → ReadService s at end (length s / 16)
+  pub going_all : end ≤ i → ReadService s at end (Ok tt)
   going_all l t h e = rw (g.left t h e, fault_end t i end l)
 
   module _ (l : i < end) where
@@ -153,14 +156,14 @@ module _ {s ends : List ℕ} {at end i : ℕ} (g : Going s ends at end i) where
       left = λ t h e. g.left t h e ∙ fault_next t i end l (no_fault t h e);
     }
 
-    module _ (f : ℕ) (c : kind_at s i ≡ 5) (x : ReadGuard s i next f) where
-      pub going_found : f ≢ length s / 16 → ReadService s at end f
-      going_found d t h e =
+    module _ (f : rust.Result Unit ℕ) (c : kind_at s i ≡ 5) (x : ReadGuard s i next f) where
+      pub going_found : (p : ℕ) → f ≡ Err p → ReadService s at end (Err p)
+      going_found p d t h e =
           let j = inside_in in
           let z = g.is in
-          rw (g.left t h e) (found_first t s i next end f (omega arith) (omega arith) (omega arith) (x t h (guards c t h e)) d)
+          rw (g.left t h e) (found_first t i next end (omega arith) (omega arith) f (x t h (guards c t h e)) p d)
 
-      pub going_over : (w : ℕ) → w ≡ next → f ≡ length s / 16 → Going s ends at end w
+      pub going_over : (w : ℕ) → w ≡ next → f ≡ Ok tt → Going s ends at end w
       going_over w v d =
           let j = inside_in in
           let z = g.is in
@@ -169,5 +172,5 @@ module _ {s ends : List ℕ} {at end i : ℕ} (g : Going s ends at end i) where
             is = g.is;
             onward = omega (arith, g.onward);
             free = λ t h. free_over h g.from.end at i g.from.inside g.onward short (g.free t h);
-            left = λ t h e. g.left t h e ∙ none_first t s i next end f (omega arith) (omega arith) (omega arith) (x t h (guards c t h e)) d;
+            left = λ t h e. g.left t h e ∙ none_first t i next end (omega arith) (omega arith) f (x t h (guards c t h e)) d;
           }

@@ -1,10 +1,11 @@
 -- What the table reader finds (specs/Terms): the place by what the service reader answers, and, of a whole table, refusal 5.
 use mathlib.Core.Path.{◌≡◌, refl, sym, ap, ◌∙◌}
-use mathlib.Core.Logic.{◌≢◌}
 use mathlib.Core.Bool.{false}
 use mathlib.Core.List.{List, []}
 use mathlib.Core.Option.{Option, none, some}
-use Prim.Native.Nat.{ℕ, ◌+◌, ◌-◌, ◌/◌, ◌<◌}
+use Rattle.std.specs.Prelude as rust
+use Rattle.std.specs.Prelude.{Ok, Err}
+use Prim.Native.Nat.{ℕ, ◌-◌, ◌/◌}
 use native.Mathlib.Omega.{arith}
 use native.Mathlib.Nat.{zero-add}
 use lib.ListN.{length, get_or}
@@ -15,30 +16,26 @@ use Rattle.cows.proofs.Places.{size_pos, descend-first}
 use Rattle.records.specs.Holds.{Holds}
 use Rattle.records.specs.Ends.{EndsFrom}
 use Rattle.records.proofs.StandsIn.{holds_size}
-use Rattle.readers.specs.Reads.{Readable, fault_from, ReadService}
+use Rattle.readers.specs.Reads.{fault_from, ReadService}
 use Rattle.readers.specs.Terms.{reached_place, ReadTo}
-use Rattle.readers.proofs.Faults.{names_tells}
-use Rattle.readers.proofs.Choices.{end_is, end_after}
+use Rattle.readers.proofs.Faults.{ok_is, err_is}
+use Rattle.readers.proofs.Choices.{end_is}
 
-module _ {s ends : List ℕ} {at : ℕ} (r : Readable s ends at) (end f : ℕ) (is : end ≡ get_or ends at 0) (x : ReadService s at end f) where
-  tells : (t : Term) → Holds s t → in_choice (way_to t at) ≡ false
-      → (f ≡ length s / 16 → fault_from t at (get_or ends at 0) ≡ none) × (f ≢ length s / 16 → (fault_from t at (get_or ends at 0) ≡ some f) × (f < length s / 16))
-  tells t h e = let (a, b) = end_after h r.end at r.inside in names_tells t s at (get_or ends at 0) f (omega arith) b ((rw is at x) t h e)
+module _ (s ends : List ℕ) (at end : ℕ) (f : rust.Result Unit ℕ) (is : end ≡ get_or ends at 0) (x : ReadService s at end f) where
+  pub read_behind : f ≡ Ok tt → ReadTo s ends at (Ok end)
+  read_behind q t h e = rw (ok_is _ (sym q ∙ (rw is at x) t h e)) (ap Ok is)
 
-  pub read_behind : f ≡ length s / 16 → ReadTo s ends at end
-  read_behind q t h e = rw ((tells t h e).0 q) is
+  pub read_fault : (p : ℕ) → f ≡ Err p → ReadTo s ends at (Err p)
+  read_fault p q t h e = rw (err_is _ p (sym q ∙ (rw is at x) t h e))
 
-  pub read_fault : f ≢ length s / 16 → ReadTo s ends at (length s / 16 + 1 + f)
-  read_fault q t h e = rw ((tells t h e).1 q).0
+-- The reader that was at the first record of a table is behind the last one, or names the place of refusal 5.
+pub record Tells (s : List ℕ) (t : Term) (r : rust.Result ℕ ℕ) : Type 0 where
+  pub guarded : (n : ℕ) → r ≡ Ok n → (n ≡ length s / 16) × (first no_guard t ≡ none)
+  pub unguarded : (p : ℕ) → r ≡ Err p → first no_guard t ≡ some p
 
--- The reader that was at the first record of a table is at r: behind the last record, or past it by the place of refusal 5.
-pub record Tells (s : List ℕ) (t : Term) (r : ℕ) : Type 0 where
-  pub guarded : r ≡ length s / 16 → first no_guard t ≡ none
-  pub unguarded : r ≢ length s / 16 → (length s / 16 < r) × (first no_guard t ≡ some (r - length s / 16 - 1))
-
-reached_tells : (n r : ℕ) (o : Option ℕ) → r ≡ reached_place n n o → (r ≡ n → o ≡ none) × (r ≢ n → (n < r) × (o ≡ some (r - n - 1)))
-reached_tells n r none e = (λ q. refl, λ q. absurd (q e))
-reached_tells n r (some p) e = (λ q. absurd (omega arith), λ q. (omega arith, ap some (omega arith)))
+reached_tells : (n : ℕ) (r : rust.Result ℕ ℕ) (o : Option ℕ) → r ≡ reached_place n o → ((m : ℕ) → r ≡ Ok m → (m ≡ n) × (o ≡ none)) × ((p : ℕ) → r ≡ Err p → o ≡ some p)
+reached_tells n r none e = (λ m q. (cc, refl), λ p q. cc)
+reached_tells n r (some p) e = (λ m q. (cc, cc), λ x q. cc)
 
 root_here : (t : Term) → sub t 0 ≡ t
 unfolding sub spot_at
@@ -48,8 +45,8 @@ root_free : (t : Term) → in_choice (way_to t 0) ≡ false
 unfolding way_to spot_at in_choice
 root_free t = ap (λ (z : Spot). in_choice z.way) (descend-first [] t)
 
-module _ {s ends : List ℕ} {t : Term} (r : ℕ) (h : Holds s t) (e : EndsFrom s ends 0) where
-  pub read_whole : ReadTo s ends 0 r → r ≡ reached_place (length s / 16) (length s / 16) (first no_guard t)
+module _ {s ends : List ℕ} {t : Term} (r : rust.Result ℕ ℕ) (h : Holds s t) (e : EndsFrom s ends 0) where
+  pub read_whole : ReadTo s ends 0 r → r ≡ reached_place (length s / 16) (first no_guard t)
   unfolding first fault_from
   read_whole x =
       let n = holds_size s t h in

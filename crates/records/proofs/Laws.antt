@@ -6,8 +6,8 @@ use Prim.Native.Nat.{ℕ, ◌+◌, ◌≤◌, ◌<◌}
 use native.Mathlib.Omega.{arith}
 use mir.Val.{bool_byte}
 use mathlib.Core.Option.{Option, none, some}
+use Rattle.std.specs.Prelude.{Some, None}
 use Rattle.cows.specs.Basics.{one_if}
-use Rattle.records.specs.declared.Found.TheVariants.{At, Nothing}
 use Rattle.records.specs.Answers.{found_of, place_or}
 
 pub test_sum : (a b : Bool) → (bool_byte a + bool_byte b ≡ one_if a + one_if b) × (bool_byte a + bool_byte b ≤ 2)
@@ -21,11 +21,11 @@ test_small true = omega arith
 test_small false = omega arith
 
 -- a place that the code found, or none
-pub found_at : (o : Option ℕ) (p : ℕ) → At p ≡ found_of o → o ≡ some p
+pub found_at : (o : Option ℕ) (p : ℕ) → Some p ≡ found_of o → o ≡ some p
 found_at none p e = cc
 found_at (some q) p e = cc
 
-pub found_nothing : (o : Option ℕ) → Nothing ≡ found_of o → o ≡ none
+pub found_nothing : (o : Option ℕ) → None ≡ found_of o → o ≡ none
 found_nothing none e = refl
 found_nothing (some q) e = cc
 

@@ -1,7 +1,8 @@
 -- Laws of writing and of standing bytes (specs/Rewrites: put, Has).
 use mathlib.Core.Path.{◌≡◌, refl, sym, ap, ◌∙◌}
 use mathlib.Core.List.{List, [], ◌∷◌, ◌++◌, append_assoc}
-use Prim.Native.Nat.{ℕ, suc, ◌+◌, ◌≤◌, ◌<◌}
+use Prim.Native.Nat.{ℕ, suc, ◌+◌, ◌-◌, ◌≤◌, ◌<◌}
+use borrow.Rule.Slice.PartMut.{put_mid}
 use native.Mathlib.Omega.{arith}
 use native.Mathlib.Nat.{add-zero}
 use native.Mathlib.Numerals.{add-one}
@@ -29,6 +30,17 @@ put-put d i j (x ∷ a) b e = put-put (set d i x) (suc i) j a b (omega arith)
 -- the same of what two writes left
 pub and_then : (d : List ℕ) (i j : ℕ) (a b : List ℕ) {e e' : List ℕ} → j ≡ i + length a → e ≡ put d i a → e' ≡ put e j b → e' ≡ put d i (a ++ b)
 and_then d i j a b h p q = q ∙ (ap (λ l. put l j b) p ∙ put-put d i j a b h)
+
+-- what a write to d[i..i + k] leaves: ys, which are the bytes bs
+pub put_range : (d : List ℕ) (i k : ℕ) (ys bs : List ℕ) → i + k ≤ length d → length bs ≡ k → ys ≡ bs → put_mid i (i + k - i) d ys ≡ put d i bs
+unfolding put
+put_range d i k ys bs h e q =
+    let z : i + k - i ≡ length bs = omega arith in
+    rw (q, z, drop-drop (length bs) i d, sets-eq bs d i (omega arith), append_assoc (take i d) bs (drop (i + length bs) d))
+
+-- so many bytes of a slice from byte i on, as a range gives them
+pub range_bytes : (s : List ℕ) (i k : ℕ) → i + k ≤ length s → (take (i + k - i) (drop i s) ≡ take k (drop i s)) × (length (take k (drop i s)) ≡ k)
+range_bytes s i k h = let z : i + k - i ≡ k = omega arith in (rw z, length-take-le k (drop i s) (omega (arith, length-drop i s)))
 
 -- one byte more of a run
 pub put_more : (d : List ℕ) (j : ℕ) (xs : List ℕ) (i : ℕ) → i < length xs → set (put d j (take i xs)) (j + i) (get_or xs i 0) ≡ put d j (take (i + 1) xs)

@@ -7,8 +7,9 @@ use Rattle.cows.specs.Format.{word}
 use Rattle.records.specs.declared.Variable as variables
 use Rattle.records.specs.declared.Atom.{Atom}
 use Rattle.records.specs.declared.Atom.TheVariants.{None, Value, Variable, Label}
-use Rattle.records.specs.declared.Takes.{Takes}
-use Rattle.records.specs.declared.Takes.TheVariants.{Pair, Nothing}
+use Rattle.records.specs.declared.Binding.{Binding}
+use Rattle.std.specs.Prelude as rust
+use Rattle.std.specs.Prelude.{Some}
 
 unfoldable pub class_of : ℕ → Atom
 class_of n =
@@ -36,10 +37,10 @@ closed_at s k =
     (variable (word s (k + 2)) || (variable (word s (k + 4)) || (variable (word s (k + 6)) || (variable (word s (k + 8)) || (variable (word s (k + 10)) || variable (word s (k + 12)))))))
 
 -- A variable takes a value, or nothing is taken: whether x is the variable; what stands for x, or else another atom.
-abbrev pub takes_variable : Takes → variables.Variable → Bool
-takes_variable (Pair y v) x = eqb x.0 y.0
-takes_variable Nothing x = false
+abbrev pub takes_variable : rust.Option Binding → variables.Variable → Bool
+takes_variable (Some b) x = eqb x.0 b.variable.0
+takes_variable rust.None x = false
 
-abbrev pub image_of : Takes → variables.Variable → Atom → Atom
-image_of (Pair y v) x a = cond (eqb x.0 y.0) (Value v) a
-image_of Nothing x a = a
+abbrev pub image_of : rust.Option Binding → variables.Variable → Atom → Atom
+image_of (Some b) x a = cond (eqb x.0 b.variable.0) (Value b.value) a
+image_of rust.None x a = a

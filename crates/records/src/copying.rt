@@ -14,11 +14,7 @@ pub fn copy(src: &[u8], from: usize, len: usize, dst: &mut [u8], to: usize)
     requires { (from + len ≤ length src.now) × (to + len ≤ length dst.old) }
     ensures { dst.new ≡ put dst.old to (take len (drop from src.now)) }
 {
-    let mut i = 0;
-    while i < len {
-        dst[to + i] = src[from + i];
-        i += 1;
-    }
+    dst[to..to + len].copy_from_slice(&src[from..from + len]);
 }
 
 // Copies the record at byte `from` of src to byte `to` of dst. It is read whole before it is written, and so moved at once.
@@ -27,8 +23,8 @@ pub fn copy_record(src: &[u8], from: usize, dst: &mut [u8], to: usize)
     ensures { dst.new ≡ put dst.old to (take 16 (drop from src.now)) }
 {
     let mut record = [0u8; 16];
-    copy(src, from, 16, &mut record, 0);
-    copy(&record, 0, 16, dst, to);
+    record.copy_from_slice(&src[from..from + 16]);
+    dst[to..to + 16].copy_from_slice(&record);
 }
 
 // Writes the 16-bit number w at byte `to`.
@@ -36,8 +32,7 @@ pub fn put_word(w: u16, dst: &mut [u8], to: usize)
     requires { to + 1 < length dst.old }
     ensures { dst.new ≡ put dst.old to (bytes2 w) }
 {
-    dst[to] = (w % 256) as u8;
-    dst[to + 1] = (w / 256) as u8;
+    dst[to..to + 2].copy_from_slice(&w.to_le_bytes());
 }
 
 // Writes the record of a nil at byte `to`.
@@ -45,8 +40,7 @@ pub fn put_nil(dst: &mut [u8], to: usize)
     requires { to + 15 < length dst.old }
     ensures { dst.new ≡ put dst.old to (record16 (basic nil)) }
 {
-    let zeros = [0u8; 16];
-    copy(&zeros, 0, 16, dst, to);
+    dst[to..to + 16].fill(0);
 }
 
 // Copies the term at byte `at`, which ends at byte `end`.

@@ -3,7 +3,7 @@ ghost use Rattle.std.specs.Prelude.{◌≡◌, ◌+◌, ◌*◌, ◌/◌, ◌<�
 ghost use Rattle.cows.specs.Limits.{max_records};
 ghost use Rattle.records.specs.Ends.{pick_end, EndsFrom};
 
-use crate::{children, wide16};
+use crate::children;
 
 // Where a term ends: at x without children, at a with one, at b with two, by flags of which one is 1. No branch, and no lookup in memory: either would hold up
 // a pass that needs the end for the next record.
@@ -19,10 +19,10 @@ fn end_by(c: usize, x: u16, a: u16, b: u16) -> u16
     requires { c ≤ 2 }
     ensures { result ≡ pick_end c x a b }
 {
-    let none = (c == 0) as u32;
-    let one = (c == 1) as u32;
-    let two = (c == 2) as u32;
-    pick_end(none, one, two, x as u32, a as u32, b as u32) as u16
+    let none = u32::from(c == 0);
+    let one = u32::from(c == 1);
+    let two = u32::from(c == 2);
+    pick_end(none, one, two, u32::from(x), u32::from(a), u32::from(b)) as u16
 }
 
 // The place after the term at each place, from the last to the first; one more than the number of records where the records run out.
@@ -35,12 +35,10 @@ pub fn ends(s: &[u8], out: &mut [u16])
     out[n + 1] = over;
     out[n] = over;
     let mut top = over;
-    let mut i = n;
-    while 0 < i {
-        let b = out[wide16(top)];
-        let x = i as u16;
-        top = end_by(children(s[16 * (i - 1)]), x, top, b);
-        out[i - 1] = top;
-        i -= 1;
+    for i in (0..n).rev() {
+        let b = out[usize::from(top)];
+        let next = (i + 1) as u16;
+        top = end_by(children(s[16 * i]), next, top, b);
+        out[i] = top;
     }
 }

@@ -1,4 +1,5 @@
-// The kinds of record by their numbers (document 01, Records; cows, specs/Kinds).
+// The kinds of record by their numbers (document 01, Records; cows, specs/Kinds). The bytes of the format: constants and no enum, since the byte of a record that
+// nobody has checked yet may be none of them.
 pub const NIL: u8 = 0;
 
 pub const KILL: u8 = 1;

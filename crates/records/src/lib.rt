@@ -6,20 +6,23 @@ pub mod ends;
 pub mod kinds;
 pub mod limits;
 
-ghost use Rattle.std.specs.Prelude.{◌≡◌, ◌+◌, ◌-◌, ◌<◌, ◌≤◌, eqb, length};
+ghost use Rattle.std.specs.Prelude.{◌≡◌, ◌==◌, ◌+◌, ◌-◌, ◌<◌, ◌≤◌, eqb, length};
+ghost use Rattle.std.specs.Cmp.Rules.{comparing};
+ghost use Rattle.std.specs.Ordering.{on};
+ghost use Rattle.std.proofs.Common.{rules};
 ghost use Rattle.cows.specs.Limits.{first_label};
 ghost use Rattle.cows.specs.Kinds.{children_of};
 ghost use Rattle.cows.specs.Format.{word};
 ghost use Rattle.records.specs.Atoms.{class_of, number_of, is_variable, closed_at, takes_variable, image_of};
 
 // The three disjoint sets of atoms, each with a type of its own. Atoms are made only by the classifying read.
-#[derive(Clone, Copy)]
+#[derive(Clone, Copy, PartialEq, Eq)]
 pub struct Value(u16);
 
-#[derive(Clone, Copy)]
+#[derive(Clone, Copy, PartialEq, Eq)]
 pub struct Variable(u16);
 
-#[derive(Clone, Copy)]
+#[derive(Clone, Copy, PartialEq, Eq)]
 pub struct Label(u16);
 
 #[derive(Clone, Copy)]
@@ -30,53 +33,31 @@ pub enum Atom {
     Label(Label),
 }
 
-// A place, or none.
-#[derive(Clone, Copy)]
-pub enum Found {
-    At(usize),
-    Nothing,
-}
-
-fn wide(x: u8) -> u16
-    ensures { (result ≡ x) × (result < 256) }
-{
-    x as u16
-}
-
-pub fn wide8(x: u8) -> usize
-    ensures { (result ≡ x) × (result < 256) }
-{
-    x as usize
-}
-
-pub fn wide16(x: u16) -> usize
-    ensures { (result ≡ x) × (result < 65536) }
-{
-    x as usize
-}
-
 // The 16-bit number at byte k.
 pub fn word_at(s: &[u8], k: usize) -> u16
     requires { k + 1 < length s.now }
     ensures { result ≡ word s.now k }
 {
-    wide(s[k]) + 256 * wide(s[k + 1])
+    u16::from_le_bytes([s[k], s[k + 1]])
 }
 
 // The class of a number: the one place where atoms are made.
-pub fn classify(n: u16) -> Atom
-    ensures { result ≡ class_of n }
-{
-    if n == 0 {
-        return Atom::None;
+impl From<u16> for Atom {
+    ghost from_gives = { λ n a. a ≡ class_of n };
+
+    #[tactic(auto, unfolding(crate::specs::Atoms::class_of))]
+    fn from(n: u16) -> Atom {
+        if n == 0 {
+            return Atom::None;
+        }
+        if n < limits::FIRST_VARIABLE {
+            return Atom::Value(Value(n));
+        }
+        if n < limits::FIRST_LABEL {
+            return Atom::Variable(Variable(n));
+        }
+        Atom::Label(Label(n))
     }
-    if n < limits::FIRST_VARIABLE {
-        return Atom::Value(Value(n));
-    }
-    if n < limits::FIRST_LABEL {
-        return Atom::Variable(Variable(n));
-    }
-    Atom::Label(Label(n))
 }
 
 // The classifying read of two bytes.
@@ -84,36 +65,42 @@ pub fn atom_at(s: &[u8], k: usize) -> Atom
     requires { k + 1 < length s.now }
     ensures { result ≡ class_of (word s.now k) }
 {
-    classify(word_at(s, k))
+    Atom::from(word_at(s, k))
 }
 
 // The number of an atom, for where it is written out.
-pub fn number(a: Atom) -> u16
-    ensures { result ≡ number_of a }
-{
-    match a {
-        Atom::None => 0,
-        Atom::Value(v) => v.0,
-        Atom::Variable(x) => x.0,
-        Atom::Label(k) => k.0,
+impl From<Atom> for u16 {
+    ghost from_gives = { λ a n. n ≡ number_of a };
+
+    fn from(a: Atom) -> u16 {
+        match a {
+            Atom::None => 0,
+            Atom::Value(v) => v.0,
+            Atom::Variable(x) => x.0,
+            Atom::Label(k) => k.0,
+        }
     }
 }
 
-pub fn equal(a: Atom, b: Atom) -> bool
-    ensures { result ≡ eqb (number_of a) (number_of b) }
-{
-    number(a) == number(b)
+// Atoms are equal by their numbers.
+impl PartialEq for Atom {
+    ghost eq = { on number_of ◌==◌ };
+
+    ghost laws = { Prim.search (comparing, rules) };
+
+    fn eq(&self, other: &Atom) -> bool {
+        u16::from(*self) == u16::from(*other)
+    }
+}
+
+impl Eq for Atom {
+    ghost laws = { Prim.search (comparing, rules) };
 }
 
 pub fn is_variable(a: Atom) -> bool
     ensures { result ≡ is_variable a }
 {
-    match a {
-        Atom::None => false,
-        Atom::Value(v) => false,
-        Atom::Variable(x) => true,
-        Atom::Label(k) => false,
-    }
+    matches!(a, Atom::Variable(_))
 }
 
 // Whether the record at byte k holds no variable.
@@ -131,37 +118,31 @@ pub fn label_index(k: Label) -> usize
     requires { first_label ≤ k.0 }
     ensures { (result ≡ k.0 - first_label) × (result < 16384) }
 {
-    wide16(k.0) - 49152
+    usize::from(k.0) - 49152
 }
 
-// What is taken in a communication: by a variable a value, or nothing.
+// What a slot of a communication binds: a variable, and the value that it takes.
 #[derive(Clone, Copy)]
-pub enum Takes {
-    Pair(Variable, Value),
-    Nothing,
+pub struct Binding {
+    pub variable: Variable,
+    pub value: Value,
 }
 
 // Whether the variable x takes a value.
-pub fn takes_variable(t: Takes, x: Variable) -> bool
+pub fn takes_variable(t: Option<Binding>, x: Variable) -> bool
     ensures { result ≡ takes_variable t x }
 {
-    let Takes::Pair(y, v) = t else {
-        return false;
-    };
-    x.0 == y.0
+    t.is_some_and(|b| x == b.variable)
 }
 
 // What stands for the variable x: the value that it takes, or else the other atom.
-pub fn image(t: Takes, x: Variable, other: Atom) -> Atom
+pub fn image(t: Option<Binding>, x: Variable, other: Atom) -> Atom
     ensures { result ≡ image_of t x other }
 {
-    let Takes::Pair(y, v) = t else {
-        return other;
-    };
-    if x.0 == y.0 {
-        return Atom::Value(v);
+    match t {
+        Some(b) if x == b.variable => Atom::Value(b.value),
+        _ => other,
     }
-    other
 }
 
 // How many children a kind has: one case for each, in the order of document 01's table (Records). Beside it stands its form in source document 001's syntax

@@ -1,9 +1,9 @@
 -- A copy of a body (specs/Names, Body): what is made of its records, with the names that were chosen, is the copy; and where bodies come from.
 use mathlib.Core.Path.{◌≡◌, refl, ap, ap₂, subst, ◌∙◌, sym}
 use mathlib.Core.List.{List, [], ◌++◌, append-nil, map-id}
-use Prim.Native.Nat.{ℕ, ◌+◌, ◌-◌, ◌*◌, ◌/◌, ◌≤◌, ◌<◌}
+use Prim.Native.Nat.{ℕ, ◌+◌, ◌-◌, ◌*◌, ◌/◌, ◌<◌}
 use native.Mathlib.Omega.{arith}
-use lib.ListN.{length, take, drop, replicate, length-replicate}
+use lib.ListN.{length, take, drop}
 use Rattle.cows.specs.Basics.{member, any}
 use Rattle.cows.specs.Terms.{Basic, nil, kill, invoke, Prefix, receive, wait, protection, delimitation, replication, Term, leaf, under, both, size, binders, atoms}
 use Rattle.cows.specs.Places.{sub, way_to}
@@ -58,10 +58,7 @@ own_copy : (taken : List ℕ) (body : Term) → binders body ≡ [] → fresh_co
 unfolding fresh_copy renaming image
 own_copy taken body e = rw e (map_same body)
 
--- names just cleared; they mark nothing
-pub blank_new : (n m : ℕ) → m ≤ 65536 → 28 * n + 8 < m → Blank n (replicate m 0)
-blank_new n m r e = let l = length-replicate {A = ℕ} m 0 in record { clear = rw l; room = rw l r; enough = rw l e }
-
+-- names just cleared mark nothing
 pub blank_marks : (n : ℕ) (names : List ℕ) → Blank n names → Marks names []
 unfolding member any
 blank_marks n names b = record { room = b.room; entry = λ a. rw b.clear (get_d_zeros (length names) (slot_of a)) }

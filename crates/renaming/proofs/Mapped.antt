@@ -2,7 +2,7 @@
 use mathlib.Core.Path.{◌≡◌, refl, sym, ap, ap₂, ◌∙◌}
 use mathlib.Core.Bool.{true}
 use mathlib.Core.List.{List, [], ◌∷◌, ◌++◌, map, flat_map, append_assoc}
-use Prim.Native.Nat.{ℕ, suc, ◌+◌, ◌*◌, ◌/◌, ◌%◌, ◌<◌}
+use Prim.Native.Nat.{ℕ, zero, suc, ◌+◌, ◌*◌, ◌/◌, ◌%◌, ◌≤◌, ◌<◌}
 use native.Mathlib.Omega.{arith}
 use lib.Dec.{eqb}
 use lib.ListN.{length, get_or, take, drop, length-append, length-drop, length-map, get_or-map, take-append-drop}
@@ -124,28 +124,68 @@ piece_back s k h =
 pub length_piece : (s : List ℕ) (k : ℕ) → k + 15 < length s → length (piece s k) ≡ 16
 length_piece s k h = length-take-le 16 (drop k s) (omega (arith, length-drop k s))
 
-pub tuple-written : (at w x y z : ℕ) (d₀ : List ℕ) {d₁ d₂ d₃ d₄ : List ℕ} → d₁ ≡ put d₀ at (bytes2 w) → d₂ ≡ put d₁ (at + 2) (bytes2 x)
-    → d₃ ≡ put d₂ (at + 4) (bytes2 y) → d₄ ≡ put d₃ (at + 6) (bytes2 z) → d₄ ≡ put d₀ at (tuple_bytes w x y z)
-unfolding tuple_bytes bytes2
-tuple-written at w x y z d₀ p q r e =
-    and_then d₀ at (at + 2) _ _ (omega arith) p (and_then _ (at + 2) (at + 4) _ _ (omega arith) q (and_then _ (at + 4) (at + 6) _ _ (omega arith) r e))
-
-pub record_written : (s : List ℕ) (k at p o w x y z : ℕ) (d₀ : List ℕ) {d₁ d₂ d₃ d₄ d₅ : List ℕ} → k + 15 < length s → d₁ ≡ put d₀ at (take 2 (drop k s))
-    → d₂ ≡ put d₁ (at + 2) (bytes2 p) → d₃ ≡ put d₂ (at + 4) (bytes2 o) → d₄ ≡ put d₃ (at + 6) (tuple_bytes w x y z)
-    → d₅ ≡ put d₄ (at + 14) (take 2 (drop (k + 14) s)) → d₅ ≡ put d₀ at (with_atoms (take 16 (drop k s)) p o w x y z)
-unfolding with_atoms
-record_written s k at p o w x y z d₀ h a b c d e =
+pub length-map_record : (f : ℕ → ℕ) (s : List ℕ) (k : ℕ) → k + 15 < length s → length (map_record f (take 16 (drop k s))) ≡ 16
+unfolding map_record with_atoms tuple_bytes bytes2
+length-map_record f s k h =
     rw (← piece_front s k, ← piece_back s k h)
-    (unfold tuple_bytes bytes2 in
-    and_then d₀ at (at + 2) _ _ (omega (arith, length-take-le 2 (drop k s) (omega (arith, length-drop k s)))) a
-    (and_then _ (at + 2) (at + 4) _ _ (omega arith) b (and_then _ (at + 4) (at + 6) _ _ (omega arith) c (and_then _ (at + 6) (at + 14) _ _ (omega arith) d e))))
+    (length-append (take 2 (drop k s)) _ ∙ omega (arith, length-take-le 2 (drop k s) (omega (arith, length-drop k s)), length-take-le 2 (drop (k + 14) s) (omega (arith, length-drop (k + 14) s))))
 
--- a record read field by field
-pub record_read : (f : ℕ → ℕ) (s : List ℕ) (k : ℕ) {p o w x y z : ℕ} → p ≡ f (word s (k + 2)) → o ≡ f (word s (k + 4)) → w ≡ f (word s (k + 6)) → x ≡ f (word s (k + 8))
-    → y ≡ f (word s (k + 10)) → z ≡ f (word s (k + 12)) → with_atoms (take 16 (drop k s)) p o w x y z ≡ map_record f (take 16 (drop k s))
-unfolding map_record
-record_read f s k p o w x y z =
-    rw (word_piece s k 2 (omega arith), word_piece s k 4 (omega arith), word_piece s k 6 (omega arith), word_piece s k 8 (omega arith), word_piece s k 10 (omega arith), word_piece s k 12 (omega arith), p, o, w, x, y, z)
+-- A record written field by field: the first two bytes, six fields of two bytes each, and the last two.
+abbrev six : (ℕ → ℕ) → (b l m : List ℕ) → List ℕ
+six f b l m = l ++ (bytes2 (f (word b 2)) ++ (bytes2 (f (word b 4)) ++ (tuple_bytes (f (word b 6)) (f (word b 8)) (f (word b 10)) (f (word b 12)) ++ m)))
+
+six-start : (f : ℕ → ℕ) (b l m : List ℕ) → length l ≡ 2 → take 2 (six f b l m) ≡ l
+unfolding tuple_bytes bytes2
+six-start f b [] m e = absurd (omega arith)
+six-start f b (x ∷ []) m e = absurd (omega arith)
+six-start f b (x ∷ y ∷ []) m e = refl
+six-start f b (x ∷ y ∷ z ∷ l) m e = absurd (omega arith)
+
+six-turn : (f : ℕ → ℕ) (b l m : List ℕ) → length l ≡ 2 → (j : ℕ) → 1 ≤ j → j < 7 → take (2 * j) (six f b l m) ++ bytes2 (f (word b (2 * j))) ≡ take (2 * (j + 1)) (six f b l m)
+unfolding tuple_bytes bytes2
+six-turn f b [] m e j h k = absurd (omega arith)
+six-turn f b (x ∷ []) m e j h k = absurd (omega arith)
+six-turn f b (x ∷ y ∷ []) m e zero h k = absurd (omega arith)
+six-turn f b (x ∷ y ∷ []) m e (suc zero) h k = refl
+six-turn f b (x ∷ y ∷ []) m e (suc (suc zero)) h k = refl
+six-turn f b (x ∷ y ∷ []) m e (suc (suc (suc zero))) h k = refl
+six-turn f b (x ∷ y ∷ []) m e (suc (suc (suc (suc zero)))) h k = refl
+six-turn f b (x ∷ y ∷ []) m e (suc (suc (suc (suc (suc zero))))) h k = refl
+six-turn f b (x ∷ y ∷ []) m e (suc (suc (suc (suc (suc (suc zero)))))) h k = refl
+six-turn f b (x ∷ y ∷ []) m e (suc (suc (suc (suc (suc (suc (suc j))))))) h k = absurd (omega arith)
+six-turn f b (x ∷ y ∷ z ∷ l) m e j h k = absurd (omega arith)
+
+six-end : (f : ℕ → ℕ) (b l m : List ℕ) → length l ≡ 2 → take 14 (six f b l m) ++ m ≡ six f b l m
+unfolding tuple_bytes bytes2
+six-end f b [] m e = absurd (omega arith)
+six-end f b (x ∷ []) m e = absurd (omega arith)
+six-end f b (x ∷ y ∷ []) m e = refl
+six-end f b (x ∷ y ∷ z ∷ l) m e = absurd (omega arith)
+
+module _ (f : ℕ → ℕ) (s : List ℕ) (k at : ℕ) (d₀ : List ℕ) (h : k + 15 < length s) where
+  abbrev r : List ℕ
+  r = map_record f (piece s k)
+
+  length-front : length (take 2 (piece s k)) ≡ 2
+  length-front = length-take-le 2 (piece s k) (omega (arith, length_piece s k h))
+
+  pub fields_start : {d : List ℕ} → d ≡ put d₀ at (take 2 (drop k s)) → d ≡ put d₀ at (take 2 r)
+  unfolding map_record with_atoms
+  fields_start p = p ∙ ap (put d₀ at) (piece_front s k ∙ sym (six-start f (piece s k) _ _ length-front))
+
+  pub fields_turn : (j : ℕ) → 1 ≤ j → j < 7 → {d e : List ℕ} → d ≡ put d₀ at (take (2 * j) r) → {v : ℕ} → v ≡ f (word s (k + 2 * j)) → e ≡ put d (at + 2 * j) (bytes2 v) → e ≡ put d₀ at (take (2 * (j + 1)) r)
+  unfolding map_record with_atoms
+  fields_turn j a b p {v} w q =
+      let n = length-map_record f s k h in
+      and_then d₀ at (at + 2 * j) _ _ (omega (arith, length-take-le (2 * j) r (omega arith))) p q
+      ∙ ap (put d₀ at) (rw (w, ← word_piece s k (2 * j) (omega arith)) (six-turn f (piece s k) _ _ length-front j a b))
+
+  pub fields_end : (j : ℕ) → j ≡ 7 → {d e : List ℕ} → d ≡ put d₀ at (take (2 * j) r) → e ≡ put d (at + 14) (take 2 (drop (k + 14) s)) → e ≡ put d₀ at r
+  unfolding map_record with_atoms
+  fields_end j z p q =
+      let n = length-map_record f s k h in
+      and_then d₀ at (at + 14) _ _ (omega (arith, length-take-le 14 r (omega arith))) (rw z at p) q
+      ∙ ap (put d₀ at) (rw (piece_back s k h) (six-end f (piece s k) _ _ length-front))
 
 -- two bytes are those of the number that they are
 pair-word : (b : List ℕ) (i : ℕ) → suc i < length b → get_or b i 0 < 256 → bytes2 (word b i) ++ drop (suc (suc i)) b ≡ drop i b
@@ -164,9 +204,3 @@ record_same s k l h =
     let w : (i : ℕ) → i < 15 → bytes2 (word b i) ++ drop (suc (suc i)) b ≡ drop i b = λ i q. pair-word b i (omega arith) (unfold byte in rw (byte_piece s k i (omega arith)) (h (k + i))) in
     rw (take_all 2 (drop 14 b) (omega (arith, length-drop 14 b)))
     (simp append_assoc (rw (w 12 (omega arith), w 10 (omega arith), w 8 (omega arith), w 6 (omega arith), w 4 (omega arith), w 2 (omega arith)) (take-append-drop 2 b)))
-
-pub length-map_record : (f : ℕ → ℕ) (s : List ℕ) (k : ℕ) → k + 15 < length s → length (map_record f (take 16 (drop k s))) ≡ 16
-unfolding map_record with_atoms tuple_bytes bytes2
-length-map_record f s k h =
-    rw (← piece_front s k, ← piece_back s k h)
-    (length-append (take 2 (drop k s)) _ ∙ omega (arith, length-take-le 2 (drop k s) (omega (arith, length-drop k s)), length-take-le 2 (drop (k + 14) s) (omega (arith, length-drop (k + 14) s))))

@@ -7,9 +7,11 @@ use Prim.Native.Nat.{ℕ, ◌+◌, ◌-◌, ◌*◌, ◌/◌, ◌%◌, ◌≤◌
 use native.Mathlib.Omega.{arith}
 use native.Mathlib.Nat.{sub-zero}
 use lib.Dec.{eqb}
-use lib.ListN.{length, get_or, set, length-set, get_or-eq_default}
-use lib.Seq.{get_or-set_same, get_or-set_other}
+use native.Mathlib.Numerals.{add-one}
+use lib.ListN.{length, get_or, set, drop, length-set, get_or-eq_default, drop_of_length-le}
+use lib.Seq.{drop-cons, get_or-set_same, get_or-set_other}
 use borrow.Author.Tests.{eqb-true, eq-eqb, ne_eqb, ltb-true, lt-ltb}
+use Rattle.std.specs.List.{list_all}
 use Rattle.cows.specs.Basics.{any, every, member}
 use Rattle.cows.specs.Terms.{Basic, nil, kill, invoke, Prefix, receive, wait, protection, delimitation, replication, Join, choice, parallel, Term, leaf, under, both, value, variable, label, datum, atom, size, delimits, uses_basic, uses_prefix, optional, atoms}
 use Rattle.cows.specs.Kinds.{basic, prefix, join}
@@ -96,32 +98,24 @@ entered_at l (w ∷ ws) h a =
     go false true e = sym (eqb-true a w e)
     go false false e = refl
 
--- five atoms that all have places
-pub five_fit : (n a b c d e : ℕ) → every (fits_in n) (a ∷ b ∷ c ∷ d ∷ e ∷ []) ≡ true → (slot_of a < n) × (slot_of b < n) × (slot_of c < n) × (slot_of d < n) × (slot_of e < n)
+-- `all` of an iterator, as the definitions have it
+pub every_all : (f : ℕ → Bool) (l : List ℕ) → list_all f l ≡ every f l
 unfolding every
-five_fit n a b c d e h =
-    let (p, h₁) = and_true (fits_in n a) _ h in
-    let (q, h₂) = and_true (fits_in n b) _ h₁ in
-    let (r, h₃) = and_true (fits_in n c) _ h₂ in
-    let (u, h₄) = and_true (fits_in n d) _ h₃ in
-    let (v, h₅) = and_true (fits_in n e) _ h₄ in
-    (ltb-true _ _ p, ltb-true _ _ q, ltb-true _ _ r, ltb-true _ _ u, ltb-true _ _ v)
+every_all f [] = refl
+every_all f (x ∷ l) = ap (λ b. f x && b) (every_all f l)
 
-pub five_entered : (a b c d e : ℕ) (l : List ℕ) {l₁ l₂ l₃ l₄ l₅ : List ℕ} → l₁ ≡ store l a a → l₂ ≡ store l₁ b b → l₃ ≡ store l₂ c c → l₄ ≡ store l₃ d d → l₅ ≡ store l₄ e e → l₅ ≡ entered l (a ∷ b ∷ c ∷ d ∷ e ∷ [])
+-- one turn of entering atoms that all have places: what is left of them, from the i-th on
+pub every-drop : (f : ℕ → Bool) (l : List ℕ) (i : ℕ) → i < length l → every f (drop i l) ≡ (f (get_or l i 0) && every f (drop (i + 1) l))
+unfolding every
+every-drop f l i h = rw (add-one i, drop-cons l i 0 h)
+
+pub entered-drop : (names l : List ℕ) (i : ℕ) → i < length l → entered names (drop i l) ≡ entered (store names (get_or l i 0) (get_or l i 0)) (drop (i + 1) l)
 unfolding entered
-five_entered a b c d e l p q r u v = v ∙ ap (λ k. store k e e) (u ∙ ap (λ k. store k d d) (r ∙ ap (λ k. store k c c) (q ∙ ap (λ k. store k b b) p)))
+entered-drop names l i h = rw (add-one i, drop-cons l i 0 h)
 
-pub five_tests : (f : ℕ → Bool) (a b c d e : ℕ) → ((((f a && f b) && f c) && f d) && f e) ≡ every f (a ∷ b ∷ c ∷ d ∷ e ∷ [])
-unfolding every
-five_tests f a b c d e = go (f a) (f b) (f c) (f d) (f e)
-  where
-    go : (p q r u v : Bool) → ((((p && q) && r) && u) && v) ≡ (p && (q && (r && (u && (v && true)))))
-    go false q r u v = refl
-    go true false r u v = refl
-    go true true false u v = refl
-    go true true true false v = refl
-    go true true true true false = refl
-    go true true true true true = refl
+pub entered-none : (names l : List ℕ) (i : ℕ) → length l ≤ i → entered names (drop i l) ≡ names
+unfolding entered
+entered-none names l i h = rw (drop_of_length-le l h)
 
 -- The fields of the record at byte k, as code reads them.
 module _ (s : List ℕ) (k : ℕ) (l : List ℕ) where

@@ -1,26 +1,34 @@
 -- The records of a table after a communication: up to four variables become the values that they take, their delimitations go, and the invoke becomes nil.
-use Rattle.std.specs.Prelude.{◌≡◌, Bool, false, cond, ◌&&◌, ◌||◌, List, [], ℕ, ◌+◌, ◌*◌, ◌≤◌, ◌<◌, eqb, length, take, drop}
+use Rattle.std.specs.Prelude.{◌≡◌, Bool, false, cond, ◌&&◌, List, [], ◌∷◌, ℕ, ◌+◌, ◌*◌, ◌≤◌, ◌<◌, eqb, length, take, drop}
 use Rattle.cows.specs.Terms.{nil}
 use Rattle.cows.specs.Kinds.{basic}
 use Rattle.cows.specs.Format.{byte, word, record16}
+use Rattle.records.specs.declared.Variable as variables
 use Rattle.records.specs.declared.Atom.{Atom}
 use Rattle.records.specs.declared.Atom.TheVariants.{None, Value, Variable, Label}
-use Rattle.records.specs.declared.Takes.{Takes}
+use Rattle.records.specs.declared.Binding.{Binding}
+use Rattle.std.specs.Prelude as rust
+use Rattle.std.specs.List.{list_any}
 use Rattle.records.specs.Atoms.{class_of, number_of, takes_variable, image_of}
 use Rattle.renaming.specs.Mapped.{map_record, along}
 
--- whether one of the four takes an atom; what stands for it: the value that it takes by the first that takes it
-module _ (t₀ t₁ t₂ t₃ : Takes) where
+-- the value that the variable x takes by the first slot that takes it, or else another atom
+abbrev pub first_image : List (rust.Option Binding) → variables.Variable → Atom → Atom
+first_image [] x a = a
+first_image (t ∷ ts) x a = image_of t x (first_image ts x a)
+
+-- whether one of the slots takes an atom; what stands for it: the value that it takes by the first that takes it
+module _ (ts : List (rust.Option Binding)) where
   abbrev pub takes_atom : Atom → Bool
   takes_atom None = false
   takes_atom (Value v) = false
-  takes_atom (Variable x) = takes_variable t₀ x || takes_variable t₁ x || takes_variable t₂ x || takes_variable t₃ x
+  takes_atom (Variable x) = list_any (λ t. takes_variable t x) ts
   takes_atom (Label k) = false
 
   abbrev pub image_atom : Atom → Atom
   image_atom None = None
   image_atom (Value v) = Value v
-  image_atom (Variable x) = image_of t₀ x (image_of t₁ x (image_of t₂ x (image_of t₃ x (Variable x))))
+  image_atom (Variable x) = first_image ts x (Variable x)
   image_atom (Label k) = Label k
 
   -- the same of the numbers that are read and written

@@ -1,77 +1,42 @@
 // Records whose atoms change: kind, tuple count and interval are copied, the six fields for atoms are written anew.
-ghost use Rattle.std.specs.Prelude.{◌≡◌, ◌+◌, ◌-◌, ◌*◌, ◌<◌, ◌≤◌, length, take, drop};
-ghost use Rattle.cows.specs.Format.{bytes2, word};
-ghost use Rattle.records.specs.Atoms.{class_of, number_of};
+ghost use Rattle.std.specs.Prelude.{◌≡◌, ℕ, ◌+◌, ◌-◌, ◌*◌, ◌<◌, ◌≤◌, length, take, drop};
 ghost use Rattle.records.specs.Rewrites.{put};
-ghost use Rattle.renaming.specs.Mapped.{tuple_bytes, with_atoms, map_record, mapped, named};
+ghost use Rattle.renaming.specs.Mapped.{map_record, mapped, named};
 
 use crate::names::name_of;
 use records::copying::{copy, put_word};
-use records::{Atom, classify, number, word_at};
+use records::word_at;
 
-// Writes an atom at byte `at`, as its number.
-fn put_atom(a: Atom, dst: &mut [u8], at: usize)
-    requires { at + 1 < length dst.old }
-    ensures { dst.new ≡ put dst.old at (bytes2 (number_of a)) }
-{
-    put_word(number(a), dst, at);
+// What stands for an atom, of which both are told by their numbers.
+pub trait AtomMap {
+    ghost map: { Self → ℕ → ℕ };
+
+    fn map(&self, a: u16) -> u16
+        ensures { result ≡ map self.now a };
 }
 
-// Writes the four atoms of a tuple at byte `at`.
-fn put_tuple(w: Atom, x: Atom, y: Atom, z: Atom, dst: &mut [u8], at: usize)
-    requires { at + 7 < length dst.old }
-    ensures { dst.new ≡ put dst.old at (tuple_bytes (number_of w) (number_of x) (number_of y) (number_of z)) }
-{
-    put_atom(w, dst, at);
-    put_atom(x, dst, at + 2);
-    put_atom(y, dst, at + 4);
-    put_atom(z, dst, at + 6);
+// The names that were chosen.
+#[derive(Clone, Copy)]
+struct Names<'a>(&'a [u16]);
+
+impl<'a> AtomMap for Names<'a> {
+    ghost map = { λ n. named n.0.now };
+
+    fn map(&self, a: u16) -> u16 {
+        name_of(self.0, a)
+    }
 }
 
-// Writes the record at place i with the atoms p, o of an endpoint and w, x, y, z of a tuple.
-pub fn put_record(
-    s: &[u8],
-    i: usize,
-    p: Atom,
-    o: Atom,
-    w: Atom,
-    x: Atom,
-    y: Atom,
-    z: Atom,
-    dst: &mut [u8],
-    at: usize,
-)
+// Writes the record at place i with what stands for its atoms: the six fields at bytes 2, 4, 6, 8, 10 and 12, in use or not.
+pub fn put_mapped<M: AtomMap>(s: &[u8], i: usize, m: &M, dst: &mut [u8], at: usize)
     requires { (16 * i + 15 < length s.now) × (at + 15 < length dst.old) }
-    ensures { dst.new ≡ put dst.old at (with_atoms (take 16 (drop (16 * i) s.now)) (number_of p) (number_of o) (number_of w) (number_of x) (number_of y) (number_of z)) }
+    ensures { dst.new ≡ put dst.old at (map_record (M.map m.now) (take 16 (drop (16 * i) s.now))) }
 {
     copy(s, 16 * i, 2, dst, at);
-    put_atom(p, dst, at + 2);
-    put_atom(o, dst, at + 4);
-    put_tuple(w, x, y, z, dst, at + 6);
+    for k in 1..7 {
+        put_word(m.map(word_at(s, 16 * i + 2 * k)), dst, at + 2 * k);
+    }
     copy(s, 16 * i + 14, 2, dst, at + 14);
-}
-
-// The atom that stands for the one at byte k.
-fn named_at(s: &[u8], k: usize, names: &[u16]) -> Atom
-    requires { k + 1 < length s.now }
-    ensures { result ≡ class_of (named names.now (word s.now k)) }
-{
-    classify(name_of(names, word_at(s, k)))
-}
-
-// Writes the record at place i with the names of its atoms.
-fn put_named(s: &[u8], i: usize, names: &[u16], dst: &mut [u8], at: usize)
-    requires { (16 * i + 15 < length s.now) × (at + 15 < length dst.old) }
-    ensures { dst.new ≡ put dst.old at (map_record (named names.now) (take 16 (drop (16 * i) s.now))) }
-{
-    let k = 16 * i;
-    let p = named_at(s, k + 2, names);
-    let o = named_at(s, k + 4, names);
-    let w = named_at(s, k + 6, names);
-    let x = named_at(s, k + 8, names);
-    let y = named_at(s, k + 10, names);
-    let z = named_at(s, k + 12, names);
-    put_record(s, i, p, o, w, x, y, z, dst, at);
 }
 
 // Writes the records at places `from` to `to` (not included) from byte `at` on, with the names of their atoms.
@@ -79,9 +44,7 @@ pub fn copy_named(s: &[u8], from: usize, to: usize, names: &[u16], dst: &mut [u8
     requires { (from ≤ to) × (16 * to ≤ length s.now) × (at + 16 * (to - from) ≤ length dst.old) }
     ensures { dst.new ≡ put dst.old at (mapped (named names.now) s.now from (to - from)) }
 {
-    let mut i = from;
-    while i < to {
-        put_named(s, i, names, dst, at + 16 * (i - from));
-        i += 1;
+    for i in from..to {
+        put_mapped(s, i, &Names(names), dst, at + 16 * (i - from));
     }
 }

@@ -5,7 +5,7 @@ pub mod binding;
 pub mod fields;
 pub mod names;
 
-ghost use Rattle.std.specs.Prelude.{◌≡◌, true, ◌+◌, ◌-◌, ◌*◌, ◌/◌, ◌≤◌, length};
+ghost use Rattle.std.specs.Prelude.{◌≡◌, true, ◌+◌, ◌-◌, ◌*◌, ◌/◌, ◌<◌, ◌≤◌, length};
 ghost use Rattle.cows.specs.Terms.{Term};
 ghost use Rattle.cows.specs.Places.{sub};
 ghost use Rattle.cows.specs.Format.{encode};
@@ -29,66 +29,33 @@ fn copy_by(s: &[u8], from: usize, to: usize, names: &mut [u16], dst: &mut [u8], 
     true
 }
 
-// The same by 2,048 names, by 8,192, by 32,768 and by one for every atom.
-fn copy_small(s: &[u8], from: usize, to: usize, dst: &mut [u8], at: usize) -> bool
-    requires { Body s.now from to × (at + 16 * (to - from) ≤ length dst.old) × (length s.now / 16 ≤ 72) }
-    ensures { Copied s.now from dst.old at dst.new result }
+// The same by N names of its own, which stay out of the frames of the functions that call it.
+#[inline(never)]
+fn copy_with<const N: usize>(s: &[u8], from: usize, to: usize, dst: &mut [u8], at: usize) -> bool
+    requires body { Body s.now from to × (at + 16 * (to - from) ≤ length dst.old) }
+    requires enough { (28 * (length s.now / 16) + 8 < N) × (N ≤ 65536) }
+    ensures { (65536 ≤ N → result ≡ true) × Copied s.now from dst.old at dst.new result }
 {
-    let mut names = [0u16; 2048];
+    let mut names = [0u16; N];
     copy_by(s, from, to, &mut names, dst, at)
 }
 
-fn copy_middle(s: &[u8], from: usize, to: usize, dst: &mut [u8], at: usize) -> bool
-    requires { Body s.now from to × (at + 16 * (to - from) ≤ length dst.old) × (length s.now / 16 ≤ 292) }
-    ensures { Copied s.now from dst.old at dst.new result }
-{
-    let mut names = [0u16; 8192];
-    copy_by(s, from, to, &mut names, dst, at)
-}
-
-fn copy_large(s: &[u8], from: usize, to: usize, dst: &mut [u8], at: usize) -> bool
-    requires { Body s.now from to × (at + 16 * (to - from) ≤ length dst.old) × (length s.now / 16 ≤ 1169) }
-    ensures { Copied s.now from dst.old at dst.new result }
-{
-    let mut names = [0u16; 32768];
-    copy_by(s, from, to, &mut names, dst, at)
-}
-
-fn copy_wide(s: &[u8], from: usize, to: usize, dst: &mut [u8], at: usize)
+// Writes the copy by the fewest names that there are enough of, and by more where an atom has no place among them: by 2,048, 8,192 or 32,768, and at last by one for every atom.
+fn copy_renamed(s: &[u8], from: usize, to: usize, dst: &mut [u8], at: usize)
     requires { Body s.now from to × (at + 16 * (to - from) ≤ length dst.old) }
     ensures { (t : Term) → Holds s.now t → dst.new ≡ put dst.old at (encode (copy t (sub t from))) }
 {
-    let mut names = [0u16; 65536];
-    copy_by(s, from, to, &mut names, dst, at);
-}
-
-// Writes the copy by the fewest names that there are enough of, and by more where an atom has no place among them. (It calls itself, so that no array comes into another function's frame.)
-fn copy_renamed(s: &[u8], from: usize, to: usize, records: usize, dst: &mut [u8], at: usize)
-    requires { Body s.now from to × (at + 16 * (to - from) ≤ length dst.old) × (length s.now / 16 ≤ records) }
-    ensures { (t : Term) → Holds s.now t → dst.new ≡ put dst.old at (encode (copy t (sub t from))) }
-{
-    if records <= 72 {
-        if copy_small(s, from, to, dst, at) {
-            return;
-        }
-        copy_renamed(s, from, to, 292, dst, at);
+    let records = s.len() / 16;
+    if records <= 72 && copy_with::<2048>(s, from, to, dst, at) {
         return;
     }
-    if records <= 292 {
-        if copy_middle(s, from, to, dst, at) {
-            return;
-        }
-        copy_renamed(s, from, to, 1170, dst, at);
+    if records <= 292 && copy_with::<8192>(s, from, to, dst, at) {
         return;
     }
-    if records <= 1169 {
-        if copy_large(s, from, to, dst, at) {
-            return;
-        }
-        copy_renamed(s, from, to, 1170, dst, at);
+    if 292 < records && records <= 1169 && copy_with::<32768>(s, from, to, dst, at) {
         return;
     }
-    copy_wide(s, from, to, dst, at);
+    copy_with::<65536>(s, from, to, dst, at);
 }
 
 // Writes a copy of the body at places `from` to `to` (not included) of the table, from byte `at` on: the atoms that it delimits are new ones. One that delimits none is its own copy.
@@ -100,5 +67,5 @@ pub fn write_copy(s: &[u8], from: usize, to: usize, dst: &mut [u8], at: usize)
         copy(s, 16 * from, 16 * (to - from), dst, at);
         return;
     }
-    copy_renamed(s, from, to, s.len() / 16, dst, at);
+    copy_renamed(s, from, to, dst, at);
 }

@@ -22,13 +22,11 @@ pub fn halt_at(s: &[u8], ends: &[u16], at: usize, dst: &mut [u8], to: usize) -> 
         return copy_term(s, at, end_at(ends, at), dst, to);
     }
     copy_record(s, at, dst, to);
-    let first = halt_at(s, ends, at + 16, dst, to + 16);
+    let Places(next, then) = halt_at(s, ends, at + 16, dst, to + 16);
     if children(kind) == 2 {
-        let next = first.0;
-        let then = first.1;
         return halt_at(s, ends, next, dst, then);
     }
-    Places(first.0, first.1)
+    Places(next, then)
 }
 
 // Writes the term at byte `at` as a kill leaves it that fires at byte `a` of it: nil for the kill, and what stands beside the way down to it halted.
@@ -42,16 +40,12 @@ pub fn aside_at(s: &[u8], ends: &[u16], at: usize, a: usize, dst: &mut [u8], to:
     }
     copy_record(s, at, dst, to);
     if a < end_at(ends, at + 16) {
-        let first = aside_at(s, ends, at + 16, a, dst, to + 16);
+        let Places(next, then) = aside_at(s, ends, at + 16, a, dst, to + 16);
         if children(s[at]) == 2 {
-            let next = first.0;
-            let then = first.1;
             return halt_at(s, ends, next, dst, then);
         }
-        return Places(first.0, first.1);
+        return Places(next, then);
     }
-    let first = halt_at(s, ends, at + 16, dst, to + 16);
-    let next = first.0;
-    let then = first.1;
+    let Places(next, then) = halt_at(s, ends, at + 16, dst, to + 16);
     aside_at(s, ends, next, a, dst, then)
 }

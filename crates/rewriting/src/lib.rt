@@ -5,12 +5,10 @@ pub mod halting;
 
 ghost use Rattle.std.specs.Prelude.{◌≡◌, ◌*◌, ◌/◌, ◌<◌, length, get_or};
 
-use records::wide16;
-
 // The byte behind the term at byte `at`, by the ends of terms.
 pub fn end_at(ends: &[u16], at: usize) -> usize
     requires { at / 16 < length ends.now }
     ensures { result ≡ 16 * get_or ends.now (at / 16) 0 }
 {
-    16 * wide16(ends[at / 16])
+    16 * usize::from(ends[at / 16])
 }

@@ -4,7 +4,7 @@ use mathlib.Core.Logic.{◌≢◌}
 use mathlib.Core.Bool.{Bool, true, false, cond, ◌&&◌, ◌||◌}
 use mathlib.Core.List.{List}
 use mathlib.Core.Option.{Option, none, some}
-use Prim.Native.Nat.{ℕ, ◌*◌, ◌-◌, ◌/◌, ◌≤◌, ◌<◌, min}
+use Prim.Native.Nat.{ℕ, ◌-◌, ◌/◌, ◌≤◌, ◌<◌, min}
 use native.Mathlib.Omega.{arith}
 use lib.Dec.{eqb}
 use lib.ListN.{length, get_or}
@@ -19,23 +19,28 @@ use Rattle.cows.proofs.Stands.{invokes_is, looks, prefixed_is}
 use Rattle.records.specs.Holds.{Holds}
 use Rattle.records.proofs.StandsIn.{holds_size}
 use Rattle.matching.specs.declared.Difference.{Difference}
-use Rattle.matching.specs.declared.Fit.{Fit}
-use Rattle.matching.specs.declared.Fit.TheVariants.{Binds, Differs}
+use Rattle.std.specs.Prelude as rust
+use Rattle.std.specs.Prelude.{Ok, Err}
 use Rattle.matching.specs.Matching.{fit_of, ActionAt}
 use Rattle.matching.proofs.Parties.{receive_ends, invoke_ends}
-use Rattle.roles.specs.Roles.{seen, unfit, bound_by, bound_at, ready_bound, sending, rivalling, sender_role, receiver_role, rival_role, Cast}
+use Rattle.roles.specs.declared.Role.{Role}
+use Rattle.roles.specs.declared.Role.TheVariants.{Receiver, Rival}
+use Rattle.roles.specs.Roles.{is_role, role_at, seen, unfit, bound_by, bound_at, ready_bound, sending, rivalling, Cast}
+use denote.Enum.Bare.{sameb}
+use Rattle.roles.specs.contracts.Role.{the_type}
+use Rattle.roles.proofs.Same.{by_test}
 use Rattle.roles.proofs.Roles.{role_sender, role_rival}
-use Rattle.chains.specs.Chains.{class_at, carries, in_class}
+use Rattle.chains.specs.Chains.{class_at, sender_here, in_class}
 use Rattle.chains.proofs.Chaining.{FirstAt, first_most, Walking, walking_start, walking_at, walking_on, walking_less, walking_end, steps_left}
 use Rattle.rivals.specs.Rivals.{LoweredAt, Rivals, LoweredAll}
 
 -- what an answer of matching says of the number
-bound_fits : (x : Matching) (l : ℕ) → Binds l ≡ fit_of x → bound_by x ≡ l
+bound_fits : (x : Matching) (l : ℕ) → Ok l ≡ fit_of x → bound_by x ≡ l
 unfolding bound_by
 bound_fits (binds σ) l e = cc
 bound_fits (differs d) l e = cc
 
-bound_apart : (x : Matching) (d : Difference) → Differs d ≡ fit_of x → bound_by x ≡ unfit
+bound_apart : (x : Matching) (d : Difference) → Err d ≡ fit_of x → bound_by x ≡ unfit
 unfolding bound_by
 bound_apart (binds σ) d e = cc
 bound_apart (differs f) d e = refl
@@ -65,9 +70,9 @@ sends-closed t b m e i =
     let z : a ≡ m = same_some (sym (only-some _ _ a p).1 ∙ i) in
     ap closed_action (sym z) ∙ q
 
-sends_marked : (t : Term) (cast : List ℕ) (b : ℕ) → Cast t cast → b < size t → sending t b ≡ true → carries cast 1 sender_role b ≡ true
-unfolding carries
-sends_marked t cast b k l e = let z : 1 * b ≡ b = omega arith in rw (z, k b l, role_sender t b l) e
+sends_marked : (t : Term) (cast : List Role) (b : ℕ) → Cast t cast → b < size t → sending t b ≡ true → sender_here cast b ≡ true
+unfolding sender_here
+sends_marked t cast b k l e = rw (k b l, role_sender t b l) e
 
 -- The record at place r: no ready receive, or one with its endpoint and tuple.
 no_rival : (t : Term) (r : ℕ) (m : Action) → rivalling t r ≡ false → ready_bound m (spot_at t r) ≡ unfit
@@ -79,7 +84,7 @@ no_rival t r m e = go (ready (way_to t r)) (prefixed receives (sub t r)) e
     go true (some q) e = never (sym e)
     go false o e = refl
 
-record Rival (s : List ℕ) (t : Term) (r : ℕ) : Type 0 where
+record Receives (s : List ℕ) (t : Term) (r : ℕ) : Type 0 where
   action : Action
   at : ActionAt s r action
   bound : (m : Action) → ready_bound m (spot_at t r) ≡ bound_by (fit action m)
@@ -88,7 +93,7 @@ ready-bound : (t : Term) (r : ℕ) (q m : Action) → ready (way_to t r) ≡ tru
 unfolding ready_bound bound_at only way_to sub
 ready-bound t r q m p z = rw (p, z)
 
-rival_is : (s : List ℕ) (t : Term) (r : ℕ) → Holds s t → r < size t → rivalling t r ≡ true → Rival s t r
+rival_is : (s : List ℕ) (t : Term) (r : ℕ) → Holds s t → r < size t → rivalling t r ≡ true → Receives s t r
 unfolding rivalling
 rival_is s t r h l e =
     let (p, f) = and_true (ready (way_to t r)) _ e in
@@ -96,7 +101,10 @@ rival_is s t r h l e =
     record { action = q; at = receive_ends s t r h l q (below (sub t r)) (prefixed_is receives receive_of (λ u. (looks u).receiving) (sub t r) q z); bound = λ m. ready-bound t r q m p z }
 
 -- by its role
-ready_role_lem : (t : Term) (cast : List ℕ) (r : ℕ) (v : Bool) → Cast t cast → r < size t → (eqb (get_or cast r 0) receiver_role || eqb (get_or cast r 0) rival_role) ≡ v → rivalling t r ≡ v
+pub by_tests : (r : Role) (a b v : Bool) → a ≡ sameb the_type r Receiver → b ≡ sameb the_type r Rival → (a || b) ≡ v → (is_role r Receiver || is_role r Rival) ≡ v
+by_tests r a b v p q e = rw (by_test r Receiver p refl, by_test r Rival q refl) e
+
+ready_role_lem : (t : Term) (cast : List Role) (r : ℕ) (v : Bool) → Cast t cast → r < size t → (is_role (role_at cast r) Receiver || is_role (role_at cast r) Rival) ≡ v → rivalling t r ≡ v
 ready_role_lem t cast r v k l e = sym (role_rival t r l) ∙ (rw (k r l) at e)
 
 -- The walk of the receive at place r stands at e: of the invokes before the place, the numbers are lowered, and the others are as they were.
@@ -105,16 +113,16 @@ LowerTurn t r old new place =
     (b : ℕ) (m : Action) → b < size t → sending t b ≡ true → invokes (sub t b) ≡ some m → get_or old b 0 ≤ unfit
     → (b < place → get_or new b 0 ≡ min (get_or old b 0) (ready_bound m (spot_at t r))) × (place ≤ b → get_or new b 0 ≡ get_or old b 0)
 
-pub record Lowering (s cast : List ℕ) (r : ℕ) (old new : List ℕ) (e : ℕ) : Type 0 where
+pub record Lowering (s : List ℕ) (cast : List Role) (r : ℕ) (old new : List ℕ) (e : ℕ) : Type 0 where
   pub place : ℕ
-  pub walk : Walking (carries cast 1 sender_role) (class_at s) (length s / 16) (class_at s r) place e
+  pub walk : Walking (sender_here cast) (class_at s) (length s / 16) (class_at s r) place e
   pub turn : (t : Term) → Holds s t → Cast t cast → LowerTurn t r old new place
 
-module _ (s cast heads next : List ℕ) (r : ℕ) (old : List ℕ) (k : Rivals s cast heads next r old) where
+module _ (s : List ℕ) (cast : List Role) (heads next : List ℕ) (r : ℕ) (old : List ℕ) (k : Rivals s cast heads next r old) where
   placed : (t : Term) → Holds s t → r < size t
   placed t h = omega (arith, holds_size s t h, k.inside)
 
-  pub lowered_none : (eqb (get_or cast r 0) receiver_role || eqb (get_or cast r 0) rival_role) ≡ false → (t : Term) → Holds s t → Cast t cast → LoweredAll t r old old
+  pub lowered_none : (is_role (role_at cast r) Receiver || is_role (role_at cast r) Rival) ≡ false → (t : Term) → Holds s t → Cast t cast → LoweredAll t r old old
   lowered_none v t h c b m l e i f = rw (no_rival t r m (ready_role_lem t cast r false c (placed t h) v)) (omega arith)
 
   pub lowering_start : class_at s r < 256 → Lowering s cast r old old (get_or heads (class_at s r) 0)
@@ -127,13 +135,13 @@ module _ (s cast heads next : List ℕ) (r : ℕ) (old : List ℕ) (k : Rivals s
   lowering_less new e p w = walking_less _ _ _ _ heads next k.senders.chained w.place e p w.walk
 
   -- a ready receive
-  module _ (v : (eqb (get_or cast r 0) receiver_role || eqb (get_or cast r 0) rival_role) ≡ true) where
-    rival : (t : Term) → Holds s t → Cast t cast → Rival s t r
+  module _ (v : (is_role (role_at cast r) Receiver || is_role (role_at cast r) Rival) ≡ true) where
+    rival : (t : Term) → Holds s t → Cast t cast → Receives s t r
     rival t h c = rival_is s t r h (placed t h) (ready_role_lem t cast r true c (placed t h) v)
 
     -- an invoke that is not of its class
     passed_by : (t : Term) (h : Holds s t) (c : Cast t cast) (b : ℕ) (m : Action) → b < size t → sending t b ≡ true → invokes (sub t b) ≡ some m
-        → in_class (carries cast 1 sender_role) (class_at s) (class_at s r) b ≡ false → ready_bound m (spot_at t r) ≡ unfit
+        → in_class (sender_here cast) (class_at s) (class_at s r) b ≡ false → ready_bound m (spot_at t r) ≡ unfit
     unfolding in_class
     passed_by t h c b m l e i n =
         let x = rival t h c in
@@ -146,7 +154,7 @@ module _ (s cast heads next : List ℕ) (r : ℕ) (old : List ℕ) (k : Rivals s
         (λ y. x.1 y ∙ rw (passed_by t h c b m l e i (walking_end _ _ _ _ heads next k.senders.chained w.place w.walk b y (omega (arith, holds_size s t h)))) (omega arith))
 
     module _ (new : List ℕ) (e : ℕ) (p : 0 < e) (w : Lowering s cast r old new e) where
-      at : FirstAt (in_class (carries cast 1 sender_role) (class_at s) (class_at s r)) (length s / 16) w.place (e - 1)
+      at : FirstAt (in_class (sender_here cast) (class_at s) (class_at s r)) (length s / 16) w.place (e - 1)
       at = walking_at _ _ _ _ heads next k.senders.chained w.place e p w.walk
 
       -- one invoke more
@@ -171,14 +179,14 @@ module _ (s cast heads next : List ℕ) (r : ℕ) (old : List ℕ) (k : Rivals s
                 λ y. others b (λ n. omega arith) ∙ x.1 (omega (arith, at.behind)),
               )
 
-      module _ (f : Fit) (tells : (q m : Action) → ActionAt s r q → ActionAt s (e - 1) m → closed_action m ≡ true → f ≡ fit_of (fit q m)) where
+      module _ (f : rust.Result ℕ Difference) (tells : (q m : Action) → ActionAt s r q → ActionAt s (e - 1) m → closed_action m ≡ true → f ≡ fit_of (fit q m)) where
         told : (t : Term) (h : Holds s t) (c : Cast t cast) (m : Action) → e - 1 < size t → sending t (e - 1) ≡ true → (i : invokes (sub t (e - 1)) ≡ some m) → f ≡ fit_of (fit (rival t h c).action m)
         told t h c m l g i = tells _ m (rival t h c).at (invoke_ends s t (e - 1) h l m (invokes_is _ m i)) (sends-closed t (e - 1) m g i)
 
-        pub lowering_past : (d : Difference) → Differs d ≡ f → Lowering s cast r old new (get_or next (e - 1) 0)
+        pub lowering_past : (d : Difference) → Err d ≡ f → Lowering s cast r old new (get_or next (e - 1) 0)
         lowering_past d z =
             lowering_on new (λ b n. refl) (λ t h m l g i c y. rw ((rival t h c).bound m ∙ bound_apart _ d (z ∙ told t h c m l g i)) (omega arith))
 
-        pub lowering_put : (n : ℕ) (to : List ℕ) → Binds n ≡ f → LoweredAt (e - 1) n new to → Lowering s cast r old to (get_or next (e - 1) 0)
+        pub lowering_put : (n : ℕ) (to : List ℕ) → Ok n ≡ f → LoweredAt (e - 1) n new to → Lowering s cast r old to (get_or next (e - 1) 0)
         lowering_put n to z q =
             lowering_on to q.others (λ t h m l g i c y. q.here ∙ ap (min (get_or new (e - 1) 0)) (sym ((rival t h c).bound m ∙ bound_fits _ n (z ∙ told t h c m l g i))))

@@ -3,6 +3,7 @@ use Rattle.std.specs.Prelude.{◌≡◌, ◌≢◌, true, List, ℕ, ◌/◌, �
 use mathlib.Core.Option.{some}
 use Rattle.cows.specs.Terms.{Term, Action, size, invokes}
 use Rattle.cows.specs.Places.{spot_at, sub}
+use Rattle.roles.specs.declared.Role.{Role}
 use Rattle.roles.specs.Roles.{unfit, ready_bound, sending}
 use Rattle.chains.specs.Chains.{BySender}
 
@@ -12,7 +13,7 @@ pub record LoweredAt (b l : ℕ) (old new : List ℕ) : Type 0 where
   pub others : (j : ℕ) → j ≢ b → get_or new j 0 ≡ get_or old j 0
 
 -- The invokes that may be a party are chained, r is a place, and there is a role and a number for each place.
-pub record Rivals (s cast heads next : List ℕ) (r : ℕ) (fewest : List ℕ) : Type 0 where
+pub record Rivals (s : List ℕ) (cast : List Role) (heads next : List ℕ) (r : ℕ) (fewest : List ℕ) : Type 0 where
   pub senders : BySender s cast heads next
   pub inside : r < length s / 16
   pub roles : length s / 16 ≤ length cast

@@ -4,10 +4,11 @@ use mathlib.Core.Option.{some}
 use Rattle.cows.specs.Terms.{Term, Action, size, invokes}
 use Rattle.cows.specs.Places.{sub}
 use Rattle.ways.specs.Known.{Table, Known}
+use Rattle.roles.specs.declared.Role.{Role}
 use Rattle.roles.specs.Roles.{sending, fewest_bound, Cast}
 
 -- The table is known, and `cast` has the roles of its term.
-pub record Played (s ends cast : List ℕ) : Type 0 where
+pub record Played (s ends : List ℕ) (cast : List Role) : Type 0 where
   pub known : Known s ends
   pub roles : (t : Term) → Table s ends t → Cast t cast
   pub room : length s / 16 ≤ length cast

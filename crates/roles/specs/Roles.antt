@@ -1,4 +1,4 @@
--- Roles: what a record says by itself of the moves that are open (request 2026-01), as one number for each place.
+-- Roles: what a record says by itself of the moves that are open (request 2026-01), as one role for each place.
 use Rattle.std.specs.Prelude.{not, ◌≡◌, Bool, false, cond, ◌&&◌, ◌||◌, List, [], ◌∷◌, ℕ, zero, suc, ◌+◌, ◌-◌, ◌<◌, min, max, leb, ltb, eqb, length, get_or}
 use mathlib.Core.Option.{Option, none, some}
 use Rattle.cows.specs.Limits.{max_records, max_depth, max_slots}
@@ -7,6 +7,8 @@ use Rattle.cows.specs.Terms.{nil, kill, invoke, receive, wait, protection, delim
 use Rattle.cows.specs.Kinds.{Node, basic, prefix, join, root}
 use Rattle.cows.specs.Places.{inside, left_of, right_of, Way, Spot, spot_at, way_to, sub, first}
 use Rattle.cows.specs.Active.{live, ready}
+use Rattle.roles.specs.declared.Role.{Role}
+use Rattle.roles.specs.declared.Role.TheVariants.{Idle, Kill, Timeout, Unfold, Extrude, Sender, Receiver, Rival, Holder}
 use Rattle.cows.specs.Moves.{Matching, binds, differs, closed_action, fit, in_scope, ready_kill, held_back}
 
 -- What the live record at place n says, if it is of the kind.
@@ -113,63 +115,58 @@ meets_as t a b (some r) (some m) = meets_by t a b m (fit r m)
 unfoldable pub meets : Term → ℕ → ℕ → Bool
 meets t a b = meets_as t a b (seen (prefixed receives) t a) (seen invokes t b)
 
--- The roles' numbers.
-abbrev pub no_role : ℕ
-no_role = 0
+-- a number for each role
+abbrev pub number_of_role : Role → ℕ
+number_of_role Idle = 0
+number_of_role Kill = 1
+number_of_role Timeout = 2
+number_of_role Unfold = 3
+number_of_role Extrude = 4
+number_of_role Sender = 5
+number_of_role Receiver = 6
+number_of_role Rival = 7
+number_of_role Holder = 8
 
-abbrev pub kill_role : ℕ
-kill_role = 1
+-- a and b are one role
+abbrev pub is_role : Role → Role → Bool
+is_role a b = eqb (number_of_role a) (number_of_role b)
 
-abbrev pub timeout_role : ℕ
-timeout_role = 2
+-- the role at a place; no place has one yet
+abbrev pub role_at : List Role → ℕ → Role
+role_at roles n = get_or roles n Idle
 
-abbrev pub unfold_role : ℕ
-unfold_role = 3
+abbrev pub Unassigned : List Role → Type 0
+Unassigned roles = (n : ℕ) → role_at roles n ≡ Idle
 
-abbrev pub extrude_role : ℕ
-extrude_role = 4
-
-abbrev pub sender_role : ℕ
-sender_role = 5
-
-abbrev pub receiver_role : ℕ
-receiver_role = 6
-
-abbrev pub rival_role : ℕ
-rival_role = 7
-
-abbrev pub holder_role : ℕ
-holder_role = 8
-
-abbrev pub role_if : Bool → ℕ → ℕ
-role_if b r = cond b r no_role
+abbrev pub role_if : Bool → Role → Role
+role_if b r = cond b r Idle
 
 -- What is known after the ready records: which delimitations hold back, and which receives are rivals.
-unfoldable pub ready_role : Term → ℕ → ℕ
-ready_role t n = cond (holding t n) holder_role (role_if (rivalling t n) rival_role)
+unfoldable pub ready_role : Term → ℕ → Role
+ready_role t n = cond (holding t n) Holder (role_if (rivalling t n) Rival)
 
 -- The role of a live record, by what stands there.
-unfoldable pub live_role : Term → ℕ → Node → ℕ
-live_role t n (basic nil) = no_role
-live_role t n (basic (kill k)) = kill_role
-live_role t n (basic (invoke p o ws)) = role_if (unheld t n && closed_action (record { partner = p; operation = o; tuple = ws })) sender_role
-live_role t n (prefix (receive p o ws)) = cond (unheld t n) receiver_role rival_role
-live_role t n (prefix (wait i)) = role_if (eqb i 0) timeout_role
-live_role t n (prefix protection) = no_role
-live_role t n (prefix (delimitation d)) = cond (label d) (ready_role t n) (role_if (ltb 0 n) extrude_role)
-live_role t n (prefix replication) = role_if (leb (size t + size (sub t n)) max_records) unfold_role
-live_role t n (join j) = no_role
+unfoldable pub live_role : Term → ℕ → Node → Role
+live_role t n (basic nil) = Idle
+live_role t n (basic (kill k)) = Kill
+live_role t n (basic (invoke p o ws)) = role_if (unheld t n && closed_action (record { partner = p; operation = o; tuple = ws })) Sender
+live_role t n (prefix (receive p o ws)) = cond (unheld t n) Receiver Rival
+live_role t n (prefix (wait i)) = role_if (eqb i 0) Timeout
+live_role t n (prefix protection) = Idle
+live_role t n (prefix (delimitation d)) = cond (label d) (ready_role t n) (role_if (ltb 0 n) Extrude)
+live_role t n (prefix replication) = role_if (leb (size t + size (sub t n)) max_records) Unfold
+live_role t n (join j) = Idle
 
-unfoldable pub role_of : Term → ℕ → ℕ
+unfoldable pub role_of : Term → ℕ → Role
 role_of t n = cond (live (way_to t n)) (live_role t n (root (sub t n))) (ready_role t n)
 
 -- An unfolding or a floating that would be too deep has no role.
-unfoldable pub deepens : Term → ℕ → ℕ → Bool
-deepens t n r = (eqb r unfold_role && full t n) || (eqb r extrude_role && crowded t n)
+unfoldable pub deepens : Term → ℕ → Role → Bool
+deepens t n r = (is_role r Unfold && full t n) || (is_role r Extrude && crowded t n)
 
-unfoldable pub open_role : Term → ℕ → ℕ
-open_role t n = cond (deepens t n (role_of t n)) no_role (role_of t n)
+unfoldable pub open_role : Term → ℕ → Role
+open_role t n = cond (deepens t n (role_of t n)) Idle (role_of t n)
 
--- `roles` has these numbers for every place of t.
-abbrev pub Cast : Term → List ℕ → Type 0
-Cast t roles = (n : ℕ) → n < size t → get_or roles n 0 ≡ open_role t n
+-- `roles` has these for every place of t.
+abbrev pub Cast : Term → List Role → Type 0
+Cast t roles = (n : ℕ) → n < size t → role_at roles n ≡ open_role t n

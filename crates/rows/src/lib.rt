@@ -9,28 +9,15 @@ ghost use Rattle.rows.specs.Rows.{quad, slot_right, tuple_contents, plain_right}
 
 use records::{kinds, limits, word_at};
 
-fn wide8(x: u8) -> u64
-    ensures { (result ≡ x) × (result < 256) }
-{
-    x as u64
-}
-
-// The 16-bit number at byte k, and the 64-bit number there.
-fn wide_word(s: &[u8], k: usize) -> u64
-    requires { k + 1 < length s.now }
-    ensures { (result ≡ word s.now k) × (result < 65536) }
-{
-    wide8(s[k]) + 256 * wide8(s[k + 1])
-}
-
+// The 64-bit number at byte k.
 fn quad_at(s: &[u8], k: usize) -> u64
     requires { k + 7 < length s.now }
     ensures { result ≡ quad s.now k }
 {
-    wide_word(s, k)
-        + 65536 * wide_word(s, k + 2)
-        + 4294967296 * wide_word(s, k + 4)
-        + 281474976710656 * wide_word(s, k + 6)
+    u64::from(word_at(s, k))
+        + 65536 * u64::from(word_at(s, k + 2))
+        + 4294967296 * u64::from(word_at(s, k + 4))
+        + 281474976710656 * u64::from(word_at(s, k + 6))
 }
 
 // Slot j of a tuple of n: a value or a variable below the count, 0 from it on.
@@ -77,16 +64,12 @@ fn plain_right(kind: u8, low: u64, high: u64) -> bool
     ensures { result ≡ plain_right kind low high }
 {
     let first = low / 65536;
-    if kind == kinds::DELIMITATION {
-        return (low % 65536 == 8) & (1 <= first) & (first < 65536) & (high == 0);
+    match kind {
+        kinds::DELIMITATION => (low % 65536 == 8) & (1 <= first) & (first < 65536) & (high == 0),
+        kinds::KILL => (low % 65536 == 1) & (49152 <= first) & (first < 65536) & (high == 0),
+        kinds::WAIT => (low == 4) & (high % 281474976710656 == 0),
+        _ => (low < 10) & (high == 0),
     }
-    if kind == kinds::KILL {
-        return (low % 65536 == 1) & (49152 <= first) & (first < 65536) & (high == 0);
-    }
-    if kind == kinds::WAIT {
-        return (low == 4) & (high % 281474976710656 == 0);
-    }
-    (low < 10) & (high == 0)
 }
 
 // The record at place i keeps the rules for single records.
@@ -96,17 +79,17 @@ pub fn record_right(s: &[u8], i: usize) -> bool
 {
     let k = 16 * i;
     let kind = s[k];
-    if kind == kinds::INVOKE {
-        return tuple_right(s, k, limits::FIRST_LABEL);
+    match kind {
+        kinds::INVOKE => tuple_right(s, k, limits::FIRST_LABEL),
+        kinds::RECEIVE => {
+            let d = distinct4(
+                word_at(s, k + 6),
+                word_at(s, k + 8),
+                word_at(s, k + 10),
+                word_at(s, k + 12),
+            );
+            tuple_right(s, k, limits::FIRST_VARIABLE) & d
+        }
+        _ => plain_right(kind, quad_at(s, k), quad_at(s, k + 8)),
     }
-    if kind == kinds::RECEIVE {
-        let d = distinct4(
-            word_at(s, k + 6),
-            word_at(s, k + 8),
-            word_at(s, k + 10),
-            word_at(s, k + 12),
-        );
-        return tuple_right(s, k, limits::FIRST_VARIABLE) & d;
-    }
-    plain_right(kind, quad_at(s, k), quad_at(s, k + 8))
 }

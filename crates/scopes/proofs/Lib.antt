@@ -1,4 +1,4 @@
-pub mod Directory
+pub mod Slots
 pub mod Marks
 pub mod Uses
 pub mod NextPlace

@@ -16,7 +16,7 @@ use Rattle.records.specs.Ends.{end_at, EndsFrom}
 use Rattle.records.specs.Holds.{Holds}
 use Rattle.records.proofs.Shapes.{end-within, end_term}
 use Rattle.scopes.specs.Scopes.{directory_slot, Paged, Keeps, entered_of, mark_of, PassedTo, EndsOf}
-use Rattle.scopes.proofs.Directory.{keeps_as, store_keeps}
+use Rattle.scopes.proofs.Slots.{keeps_as, store_keeps}
 use Rattle.scopes.proofs.Marks.{entered_pass, mark_pass, entered_here, entered_other, mark_other, mark_there, mark_farther, mark_nearer, mark_again}
 use Rattle.records.proofs.StandsIn.{holds_size}
 use Rattle.scopes.proofs.Uses.{atom_small, kind_here, delimitation_here, place_inside}

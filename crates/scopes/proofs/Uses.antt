@@ -24,7 +24,11 @@ use Rattle.cows.proofs.Reach.{reaches_on, reach_some, some_reach, enclosed_reach
 use Rattle.records.proofs.StandsIn.{holds_size, holds_kind, holds_word}
 use Rattle.cows.proofs.Fields.{byte_at, kind-kill, kind-invoke, kind-receive, kind-delimitation, first-kill, first-delimitation, first-invoke, second_invoke, count-invoke, slot-invoke, first-receive, second_receive, count-receive, slot-receive}
 use Rattle.records.specs.Holds.{Holds}
-use Rattle.scopes.specs.Scopes.{directory_slot, mark_of, PassedTo, level, open_use, strays, fault_by, Levels, worse_of, TupleAt}
+use Rattle.std.specs.Ordering.{ord_max}
+use Rattle.scopes.specs.contracts.LevelOrd.TheImpl.{cmp-value}
+use Rattle.scopes.specs.declared.Level.{Level}
+use Rattle.scopes.specs.declared.Level.TheVariants.{Fine, Escaped, Unbound}
+use Rattle.scopes.specs.Scopes.{directory_slot, mark_of, PassedTo, level, open_use, strays, fault_by, Levels, TupleAt}
 
 -- The places of a table that holds a term.
 pub place_inside : (s : List ℕ) (t : Term) (j : ℕ) → Holds s t → j < length s / 16 → j < size t
@@ -63,7 +67,7 @@ module _ (t : Term) (j : ℕ) (l : j < size t) (a : ℕ) where
       let (p, q) = atom-sets a h in
       rw (mark_enclosed, p, q) (unfold mark_of in go (enclosed a (way_to t j)) (leb 32768 a) (member a (binders t)))
     where
-      go : (e b m : Bool) → ◌≡◌ {A = ℕ} (cond e 0 (cond b 2 (cond (eqb (cond m (suc (reach_of t a j)) 0) 0) 0 1))) (cond (b && not e) 2 (cond ((not b && m) && not e) 1 0))
+      go : (e b m : Bool) → ◌≡◌ {A = Level} (cond e Fine (cond b Unbound (cond (eqb (cond m (suc (reach_of t a j)) 0) 0) Fine Escaped))) (cond (b && not e) Unbound (cond ((not b && m) && not e) Escaped Fine))
       go true true m = refl
       go true false true = refl
       go true false false = refl
@@ -72,8 +76,11 @@ module _ (t : Term) (j : ℕ) (l : j < size t) (a : ℕ) where
       go false false false = refl
 
 -- The worse of two levels.
+abbrev pub worse_of : Level → Level → Level
+worse_of = ord_max cmp-value.it
+
 pub level_worse : (p q p' q' : Bool) → worse_of (level p q) (level p' q') ≡ level (p || p') (q || q')
-unfolding worse_of level
+unfolding level
 level_worse true q true q' = refl
 level_worse true q false true = refl
 level_worse true q false false = refl
@@ -95,12 +102,12 @@ every_at f [] i h l = absurd (omega arith)
 every_at f (w ∷ ws) zero h l = (and_true (f w) (every f ws) h).0
 every_at f (w ∷ ws) (suc i) h l = every_at f ws i (and_true (f w) (every f ws) h).1 (omega arith)
 
-pub tuple-start : (p q : ℕ → Bool) (ws : List ℕ) → 0 ≡ level (any p (take 0 ws)) (any q (take 0 ws))
+pub tuple-start : (p q : ℕ → Bool) (ws : List ℕ) → Fine ≡ level (any p (take 0 ws)) (any q (take 0 ws))
 unfolding level any
 tuple-start p q ws = refl
 
 pub tuple-turn : (s pages marks ws : List ℕ) (j i : ℕ) (p q : ℕ → Bool) → Levels pages marks j p q → TupleAt s j ws → every atom ws ≡ true → i < length ws
-    → (x w f y : ℕ) → x ≡ level (any p (take i ws)) (any q (take i ws)) → w ≡ word s (16 * j + 6 + 2 * i) → f ≡ fault_by (get_or marks (directory_slot pages w) 0) w j → y ≡ worse_of x f
+    → (x : Level) (w : ℕ) (f y : Level) → x ≡ level (any p (take i ws)) (any q (take i ws)) → w ≡ word s (16 * j + 6 + 2 * i) → f ≡ fault_by (get_or marks (directory_slot pages w) 0) w j → y ≡ worse_of x f
     → y ≡ level (any p (take (i + 1) ws)) (any q (take (i + 1) ws))
 tuple-turn s pages marks ws j i p q v h e l x w f y ex ew ef ey =
     let z = ew ∙ h.slot i (omega (arith, h.few)) in
@@ -212,14 +219,14 @@ unfolding unbound escaped way_to sub
 level-uses t j l e = rw e
 
 module _ (s pages marks : List ℕ) (j : ℕ) (t : Term) (h : PassedTo s pages marks j t) (l : j < length s / 16) where
-  abbrev fault : ℕ → ℕ
+  abbrev fault : ℕ → Level
   fault a = fault_by (get_or marks (directory_slot pages a) 0) a j
 
   pub use-level : Levels pages marks j (open_use t j) (strays t j)
   use-level = record { at = λ a e. rw (h.keeps.kept a (atom_small a e)) (fault_mark t j (place_inside s t j h.holds l) a e) }
 
   pub endpoint_level : (eqb (get_or s (16 * j) 0) 2 || eqb (get_or s (16 * j) 0) 3) ≡ true
-      → (f : ℕ) → ((ws : List ℕ) → TupleAt s j ws → every atom ws ≡ true → f ≡ level (any (open_use t j) ws) (any (strays t j) ws))
+      → (f : Level) → ((ws : List ℕ) → TupleAt s j ws → every atom ws ≡ true → f ≡ level (any (open_use t j) ws) (any (strays t j) ws))
       → worse_of (fault (word s (16 * j + 2))) (worse_of (fault (word s (16 * j + 4))) f) ≡ level (unbound j (spot_at t j)) (escaped t j (spot_at t j))
   unfolding any
   endpoint_level k f g =
@@ -242,7 +249,7 @@ module _ (s pages marks : List ℕ) (j : ℕ) (t : Term) (h : PassedTo s pages m
       let x = word s (16 * j + 2) in
       use-level.at x e ∙ (rw (or_none (open_use t j x), or_none (strays t j x)) at (level-uses t j (x ∷ []) u))
 
-  pub none-level : (eqb (get_or s (16 * j) 0) 2 || eqb (get_or s (16 * j) 0) 3) ≡ false → get_or s (16 * j) 0 ≢ 1 → 0 ≡ level (unbound j (spot_at t j)) (escaped t j (spot_at t j))
+  pub none-level : (eqb (get_or s (16 * j) 0) 2 || eqb (get_or s (16 * j) 0) 3) ≡ false → get_or s (16 * j) 0 ≢ 1 → Fine ≡ level (unbound j (spot_at t j)) (escaped t j (spot_at t j))
   unfolding any level
   none-level y x =
       let k = kind_here s t h.holds j l in

@@ -1,5 +1,7 @@
 -- The pass over the scopes: what it answers, the directory of the atoms that a table delimits, and how bad a use is.
 use Rattle.std.specs.Prelude.{◌≡◌, Bool, true, cond, not, ◌&&◌, List, [], ◌∷◌, ℕ, suc, ◌+◌, ◌*◌, ◌/◌, ◌%◌, ◌<◌, ◌≤◌, ltb, leb, eqb, length, get_or}
+use Rattle.std.specs.Prelude as rust
+use Rattle.std.specs.Prelude.{Ok, Err, Some}
 use mathlib.Core.Option.{Option, none, some}
 use Rattle.cows.specs.Limits.{first_variable, max_records}
 use Rattle.cows.specs.Basics.{member, one_if}
@@ -8,14 +10,16 @@ use Rattle.cows.specs.Places.{way_to, sub, enclosed}
 use Rattle.cows.specs.Format.{byte, word}
 use Rattle.cows.specs.Records.{reach_of}
 use Rattle.records.specs.Holds.{Holds}
-use Rattle.scopes.specs.declared.Scoping.{Scoping}
-use Rattle.scopes.specs.declared.Scoping.TheVariants.{Fine, Open, Clash}
+use Rattle.scopes.specs.declared.ScopeFault.{ScopeFault}
+use Rattle.scopes.specs.declared.ScopeFault.TheVariants.{Open, Clash}
+use Rattle.scopes.specs.declared.Level.{Level}
+use Rattle.scopes.specs.declared.Level.TheVariants.{Fine, Escaped, Unbound}
 
 -- refusal 6 if there is one, else refusal 7
-abbrev pub scoping_of : Option ℕ → Option ℕ → Scoping
-scoping_of (some p) q = Open p
-scoping_of none (some p) = Clash p
-scoping_of none none = Fine
+abbrev pub scoping_of : Option ℕ → Option ℕ → rust.Result Unit ScopeFault
+scoping_of (some p) q = Err (Open p)
+scoping_of none (some p) = Err (Clash p)
+scoping_of none none = Ok tt
 
 -- Where the directory keeps an atom: its page's start, 0 if the page is not given out, and its place in the page.
 abbrev pub directory_slot : List ℕ → ℕ → ℕ
@@ -52,10 +56,10 @@ pub record BlankDirectory (pages marks : List ℕ) : Type 0 where
   pub fresh : (i : ℕ) → get_or marks i 0 ≡ 0
 
 -- The page of a is there, or there was no room for it: then there are not 65,792 marks.
-pub record PageGiven (pages out marks : List ℕ) (a top : ℕ) : Type 0 where
-  pub grows : 0 < top → GrowingDirectory out marks top × (0 < get_or out (a / 256) 0)
-  pub keeps : 0 < top → (f : ℕ → ℕ) → Keeps pages marks f → Keeps out marks f
-  pub full : top ≡ 0 → length marks < 65792
+pub record PageGiven (pages out marks : List ℕ) (a : ℕ) (answer : rust.Option ℕ) : Type 0 where
+  pub grows : (top : ℕ) → answer ≡ Some top → GrowingDirectory out marks top × (0 < get_or out (a / 256) 0)
+  pub keeps : (top : ℕ) → answer ≡ Some top → (f : ℕ → ℕ) → Keeps pages marks f → Keeps out marks f
+  pub full : answer ≡ rust.None → length marks < 65792
   pub paged : Paged out marks
 
 -- Before the pass, once the places below d are entered: 1 for the atoms delimited there. In the pass, before place j: 0 for an atom that the term
@@ -84,9 +88,9 @@ pub record EndsOf (s ends : List ℕ) : Type 0 where
   pub small : (j : ℕ) → j < length s / 16 → get_or ends j 0 < 65535
   pub right : (t : Term) → Holds s t → (j : ℕ) → j < size t → get_or ends j 0 ≡ j + size (sub t j)
 
--- How bad uses are: 2 if one is of a variable or a label outside its delimitations, else 1 if one is of a delimited value outside, else 0.
-unfoldable pub level : Bool → Bool → ℕ
-level p q = cond p 2 (cond q 1 0)
+-- How bad uses are: unbound if one is of a variable or a label outside its delimitations, else escaped if one is of a delimited value outside, else fine.
+unfoldable pub level : Bool → Bool → Level
+level p q = cond p Unbound (cond q Escaped Fine)
 
 abbrev pub open_use : Term → ℕ → ℕ → Bool
 open_use t j a = bindable a && not (enclosed a (way_to t j))
@@ -95,22 +99,15 @@ abbrev pub strays : Term → ℕ → ℕ → Bool
 strays t j a = (value a && member a (binders t)) && not (enclosed a (way_to t j))
 
 -- the same for one atom, by its mark v
-unfoldable pub fault_by : ℕ → ℕ → ℕ → ℕ
-fault_by v a j = cond (ltb (j + 1) v) 0 (cond (leb first_variable a) 2 (cond (eqb v 0) 0 1))
+unfoldable pub fault_by : ℕ → ℕ → ℕ → Level
+fault_by v a j = cond (ltb (j + 1) v) Fine (cond (leb first_variable a) Unbound (cond (eqb v 0) Fine Escaped))
 
 -- by the directory, each atom is as bad at place j as p and q say
 pub record Levels (pages marks : List ℕ) (j : ℕ) (p q : ℕ → Bool) : Type 0 where
   pub at : (a : ℕ) → atom a ≡ true → fault_by (get_or marks (directory_slot pages a) 0) a j ≡ level (p a) (q a)
-
-unfoldable pub worse_of : ℕ → ℕ → ℕ
-worse_of x y = cond (ltb x y) y x
 
 -- the record at place j has the tuple ws
 pub record TupleAt (s : List ℕ) (j : ℕ) (ws : List ℕ) : Type 0 where
   pub few : length ws ≤ 4
   pub count : byte s (16 * j + 1) ≡ length ws
   pub slot : (i : ℕ) → i < 4 → word s (16 * j + 6 + 2 * i) ≡ get_or ws i 0
-
--- the first clash: c if there is one before place j, else j if there is one there, else n
-unfoldable pub first_clash : ℕ → ℕ → ℕ → Bool → ℕ
-first_clash c n j b = cond (b && eqb c n) j c

@@ -3,32 +3,32 @@
 
 pub mod kinds;
 
-ghost use Rattle.std.specs.Prelude.{◌≡◌, ◌+◌, ◌*◌, ◌/◌, ◌<◌, length, take, drop};
+ghost use Rattle.std.specs.Prelude.{◌≡◌, ◌+◌, ◌*◌, ◌<◌, length, take, drop};
 ghost use Rattle.cows.specs.Terms.{value, variable, datum};
 ghost use Rattle.cows.specs.Cut.{cut, first_failing};
-ghost use Rattle.records.specs.Answers.{place_or};
+ghost use Rattle.records.specs.Answers.{found_of};
 ghost use Rattle.orc.specs.Scripts.{right_record8};
 
 use records::{limits, word_at};
 
-// What reading an expression comes to: the place behind it, or that of a fault.
+// Where a result is sent: the site, and the operation that it is sent with.
 #[derive(Clone, Copy)]
-pub enum Reading {
-    Behind(usize),
-    Fault(usize),
+pub struct Endpoint {
+    pub partner: u16,
+    pub operation: u16,
 }
 
 // The three sets that a script's fields are tested for.
 pub fn in_values(a: u16) -> bool
     ensures { result ≡ value a }
 {
-    (1 <= a) & (a < limits::FIRST_VARIABLE)
+    (1..limits::FIRST_VARIABLE).contains(&a)
 }
 
 pub fn in_variables(a: u16) -> bool
     ensures { result ≡ variable a }
 {
-    (limits::FIRST_VARIABLE <= a) & (a < limits::FIRST_LABEL)
+    (limits::FIRST_VARIABLE..limits::FIRST_LABEL).contains(&a)
 }
 
 fn in_data(a: u16) -> bool
@@ -53,17 +53,9 @@ fn record8_right(s: &[u8], i: usize) -> bool
     (s[k + 1] == 0) & (call | ((binding | plain) & (partner == 0) & (operation == 0)))
 }
 
-// The first record that is not right, or the number of records.
-pub fn first_malformed(s: &[u8]) -> usize
-    ensures { result ≡ place_or (length s.now / 8) (first_failing right_record8 0 (cut 8 s.now)) }
+// The first record that is not right.
+pub fn first_malformed(s: &[u8]) -> Option<usize>
+    ensures { result ≡ found_of (first_failing right_record8 0 (cut 8 s.now)) }
 {
-    let n = s.len() / 8;
-    let mut i = 0;
-    while i < n {
-        if !record8_right(s, i) {
-            return i;
-        }
-        i += 1;
-    }
-    n
+    (0..s.len() / 8).find(|i| !record8_right(s, *i))
 }

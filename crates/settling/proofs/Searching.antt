@@ -1,16 +1,20 @@
 -- Laws of searching a list (specs/Searching), from its i-th place on: what one turn of a loop knows.
-use mathlib.Core.Path.{◌≡◌, refl, sym, ap, ◌∙◌}
+use mathlib.Core.Path.{◌≡◌, refl, ◌∙◌}
 use mathlib.Core.Logic.{◌≢◌}
-use mathlib.Core.Bool.{Bool, true, false, ◌||◌}
+use mathlib.Core.Bool.{Bool, cond}
 use mathlib.Core.List.{List, [], ◌∷◌, ◌++◌}
 use Prim.Native.Nat.{ℕ, suc, ◌+◌, ◌≤◌, ◌<◌}
 use native.Mathlib.Omega.{arith}
 use native.Mathlib.Numerals.{add-one}
+use lib.Dec.{eqb, ltb}
 use lib.ListN.{length, get_or, take, drop}
 use lib.Seq.{take-suc, drop-cons, drop-length}
-use borrow.Author.Tests.{eq-eqb, ne_eqb}
+use borrow.Author.Tests.{ltb-true}
 use Rattle.cows.specs.Basics.{any}
-use Rattle.settling.specs.Searching.{index_of}
+use Rattle.cows.proofs.Basics.{bool_case}
+use Rattle.std.proofs.lemmas.Bool.{ltb-false}
+use Rattle.std.specs.Prelude.{position, Option, Some, None}
+use Rattle.std.specs.List.{list_any, position_or_len}
 
 -- behind the last place there is none
 pub drop-end : (xs : List ℕ) (i : ℕ) → i ≤ length xs → length xs ≤ i → drop i xs ≡ []
@@ -24,38 +28,31 @@ module _ (xs : List ℕ) (i : ℕ) {a : ℕ} (l : i < length xs) (at : a ≡ get
   pub take_here : take (i + 1) xs ≡ take i xs ++ (a ∷ [])
   take_here = rw (add-one i) (take-suc xs i 0 l ∙ rw at)
 
--- any of the places from i on
-module _ (f : ℕ → Bool) (xs : List ℕ) (i : ℕ) where
-  any_here : i < length xs → any f (drop i xs) ≡ (f (get_or xs i 0) || any f (drop (i + 1) xs))
-  unfolding any
-  any_here l = ap (any f) (drop_here xs i l refl)
+-- whether any passes, in the library's word
+pub any_listed : (f : ℕ → Bool) (xs : List ℕ) → any f xs ≡ list_any f xs
+unfolding any
+any_listed f [] = refl
+any_listed f (x ∷ xs) = rw (any_listed f xs)
 
-  pub any-stop : i < length xs → f (get_or xs i 0) ≡ true → any f (drop i xs) ≡ true
-  any-stop l h = any_here l ∙ rw h
+-- which of the list is p, the first one, from 0 on; the length of the list if none is
+unfoldable pub index_of : ℕ → List ℕ → ℕ
+index_of p [] = 0
+index_of p (q ∷ qs) = cond (eqb p q) 0 (suc (index_of p qs))
 
-  pub any-turn : i < length xs → f (get_or xs i 0) ≡ false → any f (drop i xs) ≡ any f (drop (i + 1) xs)
-  any-turn l h = any_here l ∙ rw h
+index_library : (p : ℕ) (xs : List ℕ) → position_or_len (eqb p) xs ≡ index_of p xs
+unfolding index_of
+index_library p [] = refl
+index_library p (x ∷ xs) = bool_case _ (eqb p x) (λ e. rw e refl) (λ e. rw e (omega (arith, index_library p xs)))
 
-  pub any-end : i ≤ length xs → length xs ≤ i → any f (drop i xs) ≡ false
-  unfolding any
-  any-end l h = ap (any f) (drop-end xs i l h)
+-- what a search for p answers: its index, or that it is not there
+pub index_found : (p i : ℕ) (xs : List ℕ) → Some i ≡ position (eqb p) xs → (i ≡ index_of p xs) × (i < length xs)
+index_found p i xs h = let a = position_or_len (eqb p) xs in
+    bool_case _ (ltb a (length xs))
+    (λ e. let g : Some i ≡ Some a = rw e at h in let f : i ≡ a = cc in (f ∙ index_library p xs, omega (arith, ltb-true a (length xs) e)))
+    (λ e. let g : Some i ≡ None = rw e at h in absurd cc)
 
--- the index of p, when it has not been found before i
-module _ (p : ℕ) (xs : List ℕ) (i : ℕ) (h : index_of p xs ≡ i + index_of p (drop i xs)) where
-  pub index_stop : i < length xs → get_or xs i 0 ≡ p → i ≡ index_of p xs
-  unfolding index_of
-  index_stop l e =
-      let z : index_of p (drop i xs) ≡ 0 = ap (index_of p) (drop_here xs i l refl) ∙ rw (eq-eqb p (get_or xs i 0) (sym e)) in
-      omega arith
-
-  pub index_turn : i < length xs → get_or xs i 0 ≢ p → index_of p xs ≡ i + 1 + index_of p (drop (i + 1) xs)
-  unfolding index_of
-  index_turn l e =
-      let z : index_of p (drop i xs) ≡ suc (index_of p (drop (i + 1) xs)) = ap (index_of p) (drop_here xs i l refl) ∙ rw (ne_eqb p (get_or xs i 0) (λ x. e (sym x))) in
-      omega arith
-
-  pub index_end : i ≤ length xs → length xs ≤ i → i ≡ index_of p xs
-  unfolding index_of
-  index_end l k =
-      let z : index_of p (drop i xs) ≡ 0 = ap (index_of p) (drop-end xs i l k) in
-      omega arith
+pub index_none : (p : ℕ) (xs : List ℕ) (r : Option ℕ) → ((i : ℕ) → r ≢ Some i) → r ≡ position (eqb p) xs → length xs ≤ index_of p xs
+index_none p xs r miss h = let a = position_or_len (eqb p) xs in
+    bool_case _ (ltb a (length xs))
+    (λ e. absurd (miss a (rw e at h)))
+    (λ e. omega (arith, ltb-false a (length xs) e, index_library p xs))

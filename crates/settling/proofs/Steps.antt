@@ -20,7 +20,8 @@ use Rattle.rewriting.specs.Aligned.{Aligned}
 use Rattle.rewriting.specs.Halting.{halt_aside, place_in, PlaceOf}
 use Rattle.rewriting.proofs.Aligned.{end_placed, first_placed, passes_placed}
 use Rattle.rewriting.proofs.Children.{head, first_child, second_child, two_children, one_child}
-use Rattle.settling.specs.Searching.{between, index_of}
+use Rattle.settling.specs.Searching.{between}
+use Rattle.settling.proofs.Searching.{index_of}
 use Rattle.settling.specs.Settling.{closes, settle_at, Scopes}
 
 -- Places in a list: the one that the index is of; what is found or not between two places.

@@ -1,9 +1,10 @@
 -- The pass over a table: what is known from place i on, a turn, and the end of the pass.
-use mathlib.Core.Path.{◌≡◌, refl, sym, subst, ◌∙◌}
+use mathlib.Core.Path.{◌≡◌, refl, sym, ap, subst, ◌∙◌}
 use mathlib.Core.Bool.{false, not, ◌&&◌, ◌||◌}
 use mathlib.Core.List.{List}
 use Prim.Native.Nat.{ℕ, suc, ◌+◌, ◌*◌, ◌-◌, ◌/◌, ◌%◌, ◌≤◌, ◌<◌}
 use native.Mathlib.Omega.{arith}
+use lib.Bits.{bit_and}
 use lib.Dec.{leb, ltb, eqb}
 use lib.ListN.{length, get_or, set}
 use mir.Val.{bool_byte}
@@ -13,7 +14,8 @@ use Rattle.cows.proofs.Basics.{or_false}
 use Rattle.records.specs.Ends.{pick_end, EndsFrom}
 use Rattle.records.proofs.StandsIn.{whole_stands}
 use Rattle.records.proofs.Shapes.{ends_start}
-use Rattle.shapes.specs.Shaped.{pick_height, Shaped}
+use Rattle.shapes.specs.Shaped.{pick_height, Masks, Shaped}
+use Rattle.shapes.proofs.Picking.{of_kind, masked, masked_small}
 use Rattle.shapes.proofs.Stacks.{Entry, Stacked, stack_turn, stacked_first, stacked_second}
 use Rattle.shapes.proofs.Backwards.{ListedFrom, ends_turn, one_kind, back_none, back_turn, back_all}
 
@@ -86,6 +88,33 @@ module _ (s ends stack marks users : List ℕ) (k v m u j : ℕ) (p : Passed s e
       parts : (w % 65536 ≡ a) × (w / 65536 ≡ b)
       parts = let l = top.inside in let f = p.known.few in (omega (arith, is, l, f), omega (arith, is, l, f))
 
+-- the test: there are terms enough, and room for them
+pub in_room : (n : ℕ) → (ltb n 2 || ltb 257 n) ≡ false → (2 ≤ n) × (n ≤ 257)
+in_room n e = let (lo, hi) = or_false (ltb n 2) (ltb 257 n) e in (ltb-false n 2 lo, ltb-false 257 n hi)
+
+-- The record at place i - 1 is of kind w: what its mask leaves of the number below is small, and a turn by the number that is picked.
+module _ (s ends stack marks users : List ℕ) (k v m u i : ℕ) (p : Passed s ends stack marks users k v m u i) (some : 0 < i) (w : ℕ) (here : w ≡ get_or s (16 * (i - 1)) 0) (known : w < 10)
+    (room : (ltb (k + (of_kind w).more) 2 || ltb 257 (k + (of_kind w).more)) ≡ false) where
+  behind : Passed s ends stack marks users k v m u (suc (i - 1))
+  behind = let z : i ≡ suc (i - 1) = omega arith in rw z at p
+
+  pub small_below : bit_and (get_or stack k 0) (of_kind w).second < 268435456
+  small_below =
+      let (count, masks) = masked w known in
+      let (lo, hi) = in_room (k + (of_kind w).more) room in
+      masked_small _ (children_of w) _ _ _ masks
+      (second_small s ends stack marks users k v m u (i - 1) behind (children_of w) (k + (of_kind w).more) (ap children_of here) masks.0 (omega arith) lo hi)
+
+  pub kind_turn : k + 1 < length stack → m < length marks → u < length users → (x : ℕ)
+      → ((c : ℕ) → Masks c (of_kind w).behind (of_kind w).first (of_kind w).second
+      → x ≡ pick_end c (i - 1 + 1) (v % 65536) (get_or stack k 0 % 65536) + 65536 * pick_height c (v / 65536) (get_or stack k 0 / 65536))
+      → Passed s (set ends (i - 1) (x % 65536)) (set stack (k + 1) v) (set marks m (i - 1)) (set users u (i - 1)) (k + (of_kind w).more - 1) x
+      (m + bool_byte (eqb (get_or s (16 * (i - 1)) 0) 8)) (u + bool_byte (leb 1 (get_or s (16 * (i - 1)) 0) && leb (get_or s (16 * (i - 1)) 0) 3)) (i - 1)
+  kind_turn roomy more most x is =
+      let (count, masks) = masked w known in
+      let (lo, hi) = in_room (k + (of_kind w).more) room in
+      pass_turn s ends stack marks users k v m u (i - 1) behind (children_of w) (k + (of_kind w).more) (ap children_of here) masks.0 (omega arith) lo hi roomy more most x (is (children_of w) masks)
+
 pub pass_done : (s ends stack marks users : List ℕ) (v m u : ℕ) → Passed s ends stack marks users 1 v m u 0 → v / 65536 ≤ 256 → Shaped s ends marks users (v / 65536) m u
 unfolding Stacked
 pass_done s ends stack marks users v m u p low =
@@ -99,10 +128,7 @@ pass_done s ends stack marks users v m u p low =
       user = back_all s 1 3 users u p.user;
     }
 
--- The tests: there are terms enough, and room for them; one term is left, and it is not too high.
-pub in_room : (n : ℕ) → (ltb n 2 || ltb 257 n) ≡ false → (2 ≤ n) × (n ≤ 257)
-in_room n e = let (lo, hi) = or_false (ltb n 2) (ltb 257 n) e in (ltb-false n 2 lo, ltb-false 257 n hi)
-
+-- the test at the end: one term is left, and it is not too high
 pub accepted : (k h : ℕ) → (not (eqb k 1) || ltb 256 h) ≡ false → (k ≡ 1) × (h ≤ 256)
 accepted k h e =
     let (one, low) = or_false (not (eqb k 1)) (ltb 256 h) e in

@@ -1,6 +1,6 @@
 -- The masks of a kind, and the number that they pick: the end and the height of a term in one.
 use mathlib.Core.Path.{◌≡◌, refl, ◌∙◌}
-use mathlib.Core.List.{List, [], ◌∷◌}
+use mathlib.Core.List.{[], ◌∷◌}
 use Prim.Native.Nat.{ℕ, zero, suc, ◌+◌, ◌*◌, ◌/◌, ◌%◌, ◌≤◌, ◌<◌}
 use native.Mathlib.Omega.{arith}
 use lib.Bits.{bit_and, bit_or, and_zero_r, or_zero_l, or_zero_r, or_lt, and_le_l, and_mask, and_high}
@@ -9,23 +9,24 @@ use Rattle.cows.specs.Kinds.{children_of, open_kinds}
 use Rattle.cows.proofs.Rows.{kind-cases}
 use Rattle.records.specs.Ends.{pick_end}
 use Rattle.shapes.specs.Shaped.{pick_height, Masks}
+use Rattle.shapes.specs.declared.Kind.{Kind}
 
--- The tables of the ten kinds.
-abbrev pub mores : List ℕ
-mores = 2 ∷ 2 ∷ 2 ∷ 1 ∷ 1 ∷ 0 ∷ 0 ∷ 1 ∷ 1 ∷ 1 ∷ []
+-- The table of the ten kinds.
+abbrev none : Kind
+none = record { more = 2; behind = 65535; first = 0; second = 0 }
 
-abbrev pub behinds : List ℕ
-behinds = 65535 ∷ 65535 ∷ 65535 ∷ 0 ∷ 0 ∷ 0 ∷ 0 ∷ 0 ∷ 0 ∷ 0 ∷ []
+abbrev one : Kind
+one = record { more = 1; behind = 0; first = 4294967295; second = 0 }
 
-abbrev pub firsts : List ℕ
-firsts = 0 ∷ 0 ∷ 0 ∷ 4294967295 ∷ 4294967295 ∷ 4294901760 ∷ 4294901760 ∷ 4294967295 ∷ 4294967295 ∷ 4294967295 ∷ []
+abbrev two : Kind
+two = record { more = 0; behind = 0; first = 4294901760; second = 4294967295 }
 
-abbrev pub seconds : List ℕ
-seconds = 0 ∷ 0 ∷ 0 ∷ 0 ∷ 0 ∷ 4294967295 ∷ 4294967295 ∷ 0 ∷ 0 ∷ 0 ∷ []
+abbrev pub of_kind : ℕ → Kind
+of_kind k = get_or (none ∷ none ∷ none ∷ one ∷ one ∷ two ∷ two ∷ one ∷ one ∷ one ∷ []) k (record { more = 0; behind = 0; first = 0; second = 0 })
 
--- they count the children, and mask as many
+-- it counts the children, and masks as many
 abbrev pub Masked : ℕ → Type 0
-Masked k = (get_or mores k 0 + children_of k ≡ 2) × Masks (children_of k) (get_or behinds k 0) (get_or firsts k 0) (get_or seconds k 0)
+Masked k = ((of_kind k).more + children_of k ≡ 2) × Masks (children_of k) (of_kind k).behind (of_kind k).first (of_kind k).second
 
 pub masked : (k : ℕ) → k < 10 → Masked k
 unfolding open_kinds

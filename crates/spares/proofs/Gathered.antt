@@ -1,7 +1,7 @@
 -- The atoms of a script's calls, gathered-atoms one record after the other: those below 4,096 that its translation may not take.
 use mathlib.Core.Path.{◌≡◌, refl, ap, sym, subst, ◌∙◌}
 use mathlib.Core.Logic.{◌≢◌}
-use mathlib.Core.Bool.{false, ◌||◌, or_comm}
+use mathlib.Core.Bool.{Bool, false, ◌||◌, or_comm}
 use mathlib.Core.List.{List, [], ◌∷◌, ◌++◌, map, map-append, flat_map, append-nil}
 use Prim.Native.Nat.{ℕ, zero, suc, ◌+◌, ◌*◌, ◌/◌, ◌<◌}
 use native.Mathlib.Omega.{arith}
@@ -9,7 +9,7 @@ use native.Mathlib.Numerals.{add-one}
 use lib.Dec.{eqb}
 use lib.ListN.{length, get_or, take, drop}
 use borrow.Author.Tests.{ne_eqb}
-use Rattle.cows.specs.Basics.{one_if, any, member}
+use Rattle.cows.specs.Basics.{any, member}
 use Rattle.cows.specs.Terms.{optional}
 use Rattle.cows.specs.Cut.{pieces, cut}
 use Rattle.cows.specs.Format.{byte, word}
@@ -25,9 +25,9 @@ use Rattle.scripts.specs.Standing.{ScriptOf}
 use Rattle.spares.specs.Spares.{Holding, HeldToo, call_atoms, HeldIn}
 
 -- The marks go by the members of the list, in any order.
-module _ {used : List ℕ} where
+module _ {used : List Bool} where
   same_held : (xs ys : List ℕ) → ((a : ℕ) → a < 4096 → member a xs ≡ member a ys) → Holding used xs → Holding used ys
-  same_held xs ys e h = record { all = h.all; is = λ a l. h.is a l ∙ ap one_if (e a l) }
+  same_held xs ys e h = record { all = h.all; is = λ a l. h.is a l ∙ e a l }
 
   turned_held : (xs ys : List ℕ) → Holding used (xs ++ ys) → Holding used (ys ++ xs)
   turned_held xs ys = same_held (xs ++ ys) (ys ++ xs) (λ a l. member_append a xs ys ∙ (or_comm (member a xs) (member a ys) ∙ sym (member_append a ys xs)))
@@ -52,7 +52,7 @@ module _ (s : List ℕ) (i : ℕ) where
       rw (first-cut 8 s (8 * i) (omega arith), e, word_cut 8 s (8 * i) 4 (omega arith), word_cut 8 s (8 * i) 6 (omega arith), word_cut 8 s (8 * i) 2 (omega arith))
 
   -- a call's three atoms are marked, one after the other; another record has none
-  pub held-call : {used u v after : List ℕ} {a b c : ℕ} → get_or s (8 * i) 0 ≡ 1 → a ≡ word s (8 * i + 2) → b ≡ word s (8 * i + 6) → c ≡ word s (8 * i + 4)
+  pub held-call : {used u v after : List Bool} {a b c : ℕ} → get_or s (8 * i) 0 ≡ 1 → a ≡ word s (8 * i + 2) → b ≡ word s (8 * i + 6) → c ≡ word s (8 * i + 4)
       → HeldToo used a u → HeldToo u b v → HeldToo v c after → HeldIn used record_at after
   held-call k x y z f g h = record {
     all = h.all;
@@ -60,7 +60,7 @@ module _ (s : List ℕ) (i : ℕ) where
     marks = λ atoms m. rw (call-atoms k, ← x, ← y, ← z) (h.marks _ (g.marks _ (f.marks atoms m)));
   }
 
-  pub held_plain : {used : List ℕ} → length used ≡ 4096 → get_or s (8 * i) 0 ≢ 1 → HeldIn used record_at used
+  pub held_plain : {used : List Bool} → length used ≡ 4096 → get_or s (8 * i) 0 ≢ 1 → HeldIn used record_at used
   held_plain l n = record {
     all = l;
     few = omega arith;
@@ -78,11 +78,11 @@ gathered_more s i =
     (flat_map_append call_atoms (map read_orc_node (pieces 8 i s)) (record_at s i ∷ []) ∙ ap (λ l. gathered-atoms s i ++ l) (append-nil (call_atoms (record_at s i))))
 
 module _ (s : List ℕ) (p o : ℕ) where
-  pub held_start : {used u after : List ℕ} → Holding used [] → HeldToo used p u → HeldToo u o after → Holding after (p ∷ o ∷ gathered-atoms s 0)
+  pub held_start : {used u after : List Bool} → Holding used [] → HeldToo used p u → HeldToo u o after → Holding after (p ∷ o ∷ gathered-atoms s 0)
   unfolding flat_map pieces
   held_start h k l = turned_held (o ∷ []) (p ∷ []) (l.marks _ (k.marks [] h))
 
-  pub held-turn : {used after : List ℕ} (i : ℕ) → Holding used (p ∷ o ∷ gathered-atoms s i) → HeldIn used (record_at s i) after → Holding after (p ∷ o ∷ gathered-atoms s (i + 1))
+  pub held-turn : {used after : List Bool} (i : ℕ) → Holding used (p ∷ o ∷ gathered-atoms s i) → HeldIn used (record_at s i) after → Holding after (p ∷ o ∷ gathered-atoms s (i + 1))
   held-turn {after = after} i h k =
       subst (λ l. Holding after (p ∷ o ∷ l)) (sym (gathered_more s i)) (turned_held (call_atoms (record_at s i)) (p ∷ o ∷ gathered-atoms s i) (k.marks _ h))
 
@@ -107,7 +107,7 @@ module _ (s : List ℕ) (e : Orc) (h : ScriptOf s e) where
   unfolding cut
   all_gathered = ap (flat_map call_atoms) (ap nodes_of h.is ∙ nodes-script e)
 
-  pub held-taken : {used : List ℕ} (p o : ℕ) → Holding used (p ∷ o ∷ gathered-atoms s (length s / 8)) → Holding used (taken_by p o e)
+  pub held-taken : {used : List Bool} (p o : ℕ) → Holding used (p ∷ o ∷ gathered-atoms s (length s / 8)) → Holding used (taken_by p o e)
   unfolding member any
   held-taken p o k =
       same_held _ _ (λ a l. ap (λ b. eqb a p || (eqb a o || b)) (ap (member a) all_gathered ∙ calls_only a l e h.right)) k

@@ -1,21 +1,21 @@
 -- The marks of the values in use, and the next value without one.
-use Rattle.std.specs.Prelude.{◌≡◌, ◌≢◌, List, [], ◌∷◌, ◌++◌, ℕ, ◌+◌, ◌<◌, ◌≤◌, length, get_or, drop}
+use Rattle.std.specs.Prelude.{◌≡◌, Bool, true, false, List, [], ◌∷◌, ◌++◌, ℕ, ◌+◌, ◌<◌, ◌≤◌, length, get_or, drop}
 use Rattle.cows.specs.Basics.{member, one_if}
 use Rattle.orc.specs.Expressions.{act_uses}
 use Rattle.orc.specs.Scripts.{OrcNode, single, joining}
 
--- the sum of a list: how many marks are set
-unfoldable pub total : List ℕ → ℕ
+-- how many marks are set
+unfoldable pub total : List Bool → ℕ
 total [] = 0
-total (n ∷ ns) = n + total ns
+total (b ∷ bs) = one_if b + total bs
 
--- The marks are 1 for the atoms below 4,096 that are in the list, and 0 for the others.
-pub record Holding (used : List ℕ) (atoms : List ℕ) : Type 0 where
+-- The marks are set for the atoms below 4,096 that are in the list, and no others.
+pub record Holding (used : List Bool) (atoms : List ℕ) : Type 0 where
   pub all : length used ≡ 4096
-  pub is : (a : ℕ) → a < 4096 → get_or used a 0 ≡ one_if (member a atoms)
+  pub is : (a : ℕ) → a < 4096 → get_or used a false ≡ member a atoms
 
 -- The atom a is marked too, if it has a mark.
-pub record HeldToo (used : List ℕ) (a : ℕ) (after : List ℕ) : Type 0 where
+pub record HeldToo (used : List Bool) (a : ℕ) (after : List Bool) : Type 0 where
   pub all : length after ≡ 4096
   pub few : total after ≤ total used + 1
   pub marks : (atoms : List ℕ) → Holding used atoms → Holding after (a ∷ atoms)
@@ -26,15 +26,15 @@ call_atoms (single x) = act_uses x
 call_atoms (joining c) = []
 
 -- The atoms of the record n are marked too.
-pub record HeldIn (used : List ℕ) (n : OrcNode) (after : List ℕ) : Type 0 where
+pub record HeldIn (used : List Bool) (n : OrcNode) (after : List Bool) : Type 0 where
   pub all : length after ≡ 4096
   pub few : total after ≤ total used + 3
   pub marks : (atoms : List ℕ) → Holding used atoms → Holding after (call_atoms n ++ atoms)
 
 -- n is the first from v on without a mark. `few`: the values passed had marks, so a list of choices comes to no more than what is marked and what is chosen.
-pub record NextSpare (used : List ℕ) (v n : ℕ) : Type 0 where
+pub record NextSpare (used : List Bool) (v n : ℕ) : Type 0 where
   pub from : v ≤ n
   pub below : n < 4096
-  pub free : get_or used n 0 ≡ 0
-  pub passed : (m : ℕ) → v ≤ m → m < n → get_or used m 0 ≢ 0
+  pub free : get_or used n false ≡ false
+  pub passed : (m : ℕ) → v ≤ m → m < n → get_or used m false ≡ true
   pub few : n + 1 + total (drop (n + 1) used) ≤ v + 1 + total (drop v used)

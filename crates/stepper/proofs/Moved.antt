@@ -1,14 +1,14 @@
 -- From a plan and what writing gives to the reply and the output of a step (specs/Replies): the same for every move m with the place of its plan.
-use mathlib.Core.Path.{◌≡◌, refl, sym, ap, ◌∙◌}
+use mathlib.Core.Path.{◌≡◌, refl, sym, ap, subst, ◌∙◌}
 use mathlib.Core.Logic.{◌≢◌}
-use mathlib.Core.Bool.{Bool, true, false}
+use mathlib.Core.Bool.{false}
 use mathlib.Core.List.{List, ◌++◌}
-use Prim.Native.Nat.{ℕ, ◌+◌, ◌*◌, ◌≤◌, ◌<◌}
+use Prim.Native.Nat.{ℕ, ◌+◌, ◌*◌, ◌≤◌}
 use native.Mathlib.Omega.{arith}
 use lib.Dec.{ltb}
 use lib.ListN.{length, drop}
 use lib.Seq.{sets-eq}
-use borrow.Author.Tests.{ltb-false, le-ltb, lt-ltb}
+use borrow.Author.Tests.{le-ltb}
 use Rattle.cows.specs.Basics.{place_if, Result, refuse, accept, ◌>>=◌, ◌>>◌, forbid}
 use Rattle.cows.specs.Terms.{Term, size}
 use Rattle.cows.specs.Format.{encode}
@@ -17,20 +17,15 @@ use Rattle.cows.proofs.Basics.{bool_case, bind-accept, forbid-accept, place_if-n
 use Rattle.cows.proofs.Format.{length-encode}
 use Rattle.records.specs.Rewrites.{put}
 use Rattle.ways.specs.Known.{Table, Known}
-use Rattle.plans.specs.declared.Judgement.{Judgement}
-use Rattle.plans.specs.declared.Judgement.TheVariants.{Allowed, Unread, Absent, Differs, Apart, Held, Looser, Unripe, Timeless, Stuck, Large}
+use Rattle.std.specs.Prelude as rust
+use Rattle.std.specs.Prelude.{Ok, Err}
+use Rattle.plans.specs.declared.Refusal.{Refusal}
+use Rattle.plans.specs.declared.Refusal.TheVariants.{Unread, Absent, Differs, Apart, Held, Looser, Unripe, Timeless, Stuck, Large}
 use Rattle.plans.specs.declared.Plan.{Plan}
-use Rattle.plans.specs.Plans.{result_of, limited, Planned, Asks}
+use Rattle.plans.proofs.Mapped.{MappedErr, mapped_err}
+use Rattle.plans.specs.Plans.{refusal_of, limited, Allowed, Planned, Asks}
 use Rattle.tables.specs.declared.Reply.{Reply}
-use Rattle.tables.specs.Verdict.{refusal}
-use Rattle.stepper.specs.Replies.{reply_of, reply_in, Answers}
-
--- 21, or 0 and the number of records
-pub fitting-not : (room n : ℕ) → room < 16 * n → refusal 21 0 ≡ reply_in room (accept n)
-fitting-not room n h = rw (lt-ltb room (16 * n) h)
-
-pub fitting_so : (room n : ℕ) → 16 * n ≤ room → record { answer = 0; place = 0; records = n } ≡ reply_in room (accept n)
-fitting_so room n h = rw (le-ltb room (16 * n) h)
+use Rattle.stepper.specs.Replies.{reply_of, reply_in, records_of, Fitting, Answers}
 
 -- the reply to a move's judgement is the reply to its result
 pub reply_fitted : (room : ℕ) (m : Result Term) → reply_in room (limited m) ≡ reply_of (reply_to (m >>= fitted room))
@@ -40,23 +35,24 @@ reply_fitted room (accept s) =
     bool_case _ (over_limits s) (λ e. rw e)
     (λ e. rw e (bool_case _ (ltb room (16 * size s)) (λ f. rw f) (λ f. rw f)))
 
--- what an answer 0 says of a judgement: it allows so many records, and they fit
-pub answer_allowed : (j : Judgement) (room : ℕ) → (reply_in room (result_of j)).answer ≡ 0 → (n : ℕ) × (result_of j ≡ accept n) × (16 * n ≤ room)
-answer_allowed (Allowed n) room e = (n, refl, ltb-false room (16 * n) (go (ltb room (16 * n)) refl))
-  where
-    go : (b : Bool) → ltb room (16 * n) ≡ b → b ≡ false
-    go true q = absurd (let z = rw q at e in omega arith)
-    go false q = refl
-answer_allowed Unread room e = absurd (omega arith)
-answer_allowed (Absent p) room e = absurd (omega arith)
-answer_allowed (Differs p) room e = absurd (omega arith)
-answer_allowed (Apart p) room e = absurd (omega arith)
-answer_allowed (Held p) room e = absurd (omega arith)
-answer_allowed (Looser p) room e = absurd (omega arith)
-answer_allowed (Unripe p) room e = absurd (omega arith)
-answer_allowed Timeless room e = absurd (omega arith)
-answer_allowed (Stuck p) room e = absurd (omega arith)
-answer_allowed Large room e = absurd (omega arith)
+-- no refusal is 0
+fitting_refused : (room : ℕ) (why : Refusal) → Fitting (Err why) room (Err (reply_of (reply_to (refusal_of why))))
+unfolding reply_to
+fitting_refused room Unread = (refl, λ z. omega arith)
+fitting_refused room (Absent p) = (refl, λ z. omega arith)
+fitting_refused room (Differs p) = (refl, λ z. omega arith)
+fitting_refused room (Apart p) = (refl, λ z. omega arith)
+fitting_refused room (Held p) = (refl, λ z. omega arith)
+fitting_refused room (Looser p) = (refl, λ z. omega arith)
+fitting_refused room (Unripe p) = (refl, λ z. omega arith)
+fitting_refused room Timeless = (refl, λ z. omega arith)
+fitting_refused room (Stuck p) = (refl, λ z. omega arith)
+fitting_refused room Large = (refl, λ z. omega arith)
+
+pub fitting_not : (judged : rust.Result Plan Refusal) (room : ℕ) {m : rust.Result Plan Reply} {r : Reply} → MappedErr (λ e y. y ≡ reply_of (reply_to (refusal_of e))) m judged → m ≡ Err r → Fitting judged room (Err r)
+fitting_not judged room {m} {r} k e =
+    let (why, x, y) = mapped_err _ m judged k e in
+    subst (λ j. Fitting j room (Err r)) (sym x) (subst (λ z. Fitting (Err why) room (Err z)) (sym y) (fitting_refused room why))
 
 -- a successor that the limits allow and that fits
 pub record Fits (m : Result Term) (room : ℕ) : Type 0 where
@@ -84,35 +80,46 @@ put-encode out s h =
     let e = length-encode s in
     sets-eq (encode s) out 0 (omega arith) ∙ ap (λ n. encode s ++ drop n out) (let z : 0 + length (encode s) ≡ 16 * size s = omega arith in z)
 
-module _ {m : Result Term} {place : ℕ} {plan : Plan} (planned : Planned m place plan) (out : List ℕ) (r : Reply) (replied : r ≡ reply_in (length out) (result_of plan.judgement)) where
-  replies : r ≡ reply_of (reply_to (m >>= fitted (length out)))
-  replies = replied ∙ (ap (reply_in (length out)) planned.judged ∙ reply_fitted (length out) m)
+-- an allowed move, whose successor is written
+module _ {m : Result Term} {place : ℕ} {plan : Plan} (allowed : Allowed m place plan) (room : ℕ) (fits : 16 * plan.records ≤ room) where
+  plan_fits : Fits m room
+  plan_fits = limited_fits m room plan.records (sym allowed.judged) fits
 
-  pub plan_fits : r.answer ≡ 0 → Fits m (length out)
-  plan_fits z =
-      let (n, e, h) = answer_allowed plan.judgement (length out) (sym (ap (λ q. q.answer) replied) ∙ z) in
-      limited_fits m (length out) n (sym planned.judged ∙ e) h
+  pub reply_allowed : record { answer = 0; place = 0; records = plan.records } ≡ reply_of (reply_to (m >>= fitted room))
+  reply_allowed = sym (rw (le-ltb room (16 * plan.records) fits) refl) ∙ (ap (reply_in room) allowed.judged ∙ reply_fitted room m)
 
-  -- an allowed move, whose successor is written
-  pub moved_written : r.answer ≡ 0 → (after : List ℕ) → ((s : Term) → m ≡ accept s → after ≡ put out 0 (encode s)) → Answers (m >>= fitted (length out)) out after r
+-- an allowed move, whose successor is written
+module _ {m : Result Term} {place : ℕ} {plan : Plan} (allowed : Allowed m place plan) (out : List ℕ) (fits : 16 * plan.records ≤ length out) where
+  pub moved_written : {r : Reply} (after : List ℕ) → r ≡ record { answer = 0; place = 0; records = plan.records } → ((s : Term) → m ≡ accept s → after ≡ put out 0 (encode s)) → Answers (m >>= fitted (length out)) out after r
   unfolding written
-  moved_written z after gives =
-      let f = plan_fits z in
-      record { replies = replies; output = gives f.successor f.accepted ∙ (put-encode out f.successor f.fits ∙ (rw (fits_fitted m (length out) f))) }
+  moved_written after e gives =
+      let f = plan_fits allowed (length out) fits in
+      record { replies = e ∙ reply_allowed allowed (length out) fits; output = gives f.successor f.accepted ∙ (put-encode out f.successor f.fits ∙ (rw (fits_fitted m (length out) f))) }
 
-  -- a refused move, which writes nothing
-  pub moved_refused : r.answer ≢ 0 → Answers (m >>= fitted (length out)) out out r
+-- a refused move, which writes nothing
+module _ (m : Result Term) (place : ℕ) (judged : rust.Result Plan Refusal) (planned : Planned m place judged) where
+  same_judged : records_of judged ≡ limited m
+  same_judged = go judged planned
+    where
+      go : (j : rust.Result Plan Refusal) → Planned m place j → records_of j ≡ limited m
+      go (Ok p) h = h.judged
+      go (Err r) h = h
+
+  pub reply_planned : {r : Reply} (room : ℕ) → r ≡ reply_in room (records_of judged) → r ≡ reply_of (reply_to (m >>= fitted room))
+  reply_planned room e = e ∙ (ap (reply_in room) same_judged ∙ reply_fitted room m)
+
+  pub moved_refused : {r : Reply} (out : List ℕ) → Fitting judged (length out) (Err r) → Answers (m >>= fitted (length out)) out out r
   unfolding reply_to written
-  moved_refused z = record { replies = replies; output = go (m >>= fitted (length out)) (λ e. z (ap (λ q. q.answer) replies ∙ e)) }
+  moved_refused out (e, z) = let x = reply_planned (length out) e in record { replies = x; output = go (m >>= fitted (length out)) (λ i. z (ap (λ q. q.answer) x ∙ i)) }
     where
       go : (x : Result Term) → (reply_to x).answer ≢ 0 → out ≡ written x out
       go (refuse n p) h = refl
       go (accept s) h = absurd (h refl)
 
 -- what writing asks, by the plan for the table's one term
-module _ {m : Term → Result Term} {place : Term → ℕ} {s ends : List ℕ} {plan : Plan} (k : Known s ends) (planned : (t : Term) → Table s ends t → Planned (m t) (place t) plan) where
-  pub asks : (out : List ℕ) (r : Reply) → r ≡ reply_in (length out) (result_of plan.judgement) → r.answer ≡ 0 → Asks m place s ends plan.from out
-  asks out r e z =
-      let p = planned k.term k.table in
-      let f = plan_fits p out r e z in
-      record { known = k; successor = f.successor; accepted = f.accepted; place_is = p.place_is f.successor f.accepted; room = f.fits }
+module _ {m : Term → Result Term} {place : Term → ℕ} {s ends : List ℕ} {judged : rust.Result Plan Refusal} (k : Known s ends) (planned : (t : Term) → Table s ends t → Planned (m t) (place t) judged) where
+  pub asks : (out : List ℕ) (plan : Plan) → Fitting judged (length out) (Ok plan) → Asks m place s ends plan.from out
+  asks out plan (e, z) =
+      let p : Allowed (m k.term) (place k.term) plan = subst (Planned (m k.term) (place k.term)) e (planned k.term k.table) in
+      let f = plan_fits p (length out) z in
+      record { known = k; successor = f.successor; accepted = f.accepted; place_is = p.place_is; room = f.fits }

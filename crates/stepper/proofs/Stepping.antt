@@ -3,9 +3,9 @@ use mathlib.Core.Path.{◌≡◌, refl, sym, ap, ◌∙◌}
 use mathlib.Core.Logic.{◌≢◌}
 use mathlib.Core.List.{List}
 use mathlib.Core.Option.{Option}
-use Prim.Native.Nat.{ℕ}
+use Prim.Native.Nat.{ℕ, ◌<◌}
 use native.Mathlib.Omega.{arith}
-use lib.ListN.{length}
+use lib.ListN.{length, get_or}
 use Rattle.cows.specs.Basics.{Result, refuse, accept, ◌>>=◌}
 use Rattle.cows.specs.Terms.{Term, size}
 use Rattle.cows.specs.Format.{AreBytes}
@@ -16,7 +16,7 @@ use Rattle.cows.proofs.Basics.{accept-bind}
 use Rattle.cows.proofs.Format.{length-encode}
 use Rattle.cows.proofs.Tables.{judge-encode, judge-within}
 use Rattle.cows.proofs.Bounds.{below-judge}
-use Rattle.ways.specs.Known.{Table, Known}
+use Rattle.ways.specs.Known.{Table, Known, is_accepted, WellFormed}
 use Rattle.tables.specs.declared.Reply.{Reply}
 use Rattle.tables.specs.Verdict.{refusal, check_reply, Checked}
 use Rattle.stepper.specs.Replies.{reply_of, Answers, Stepped}
@@ -56,6 +56,10 @@ table_read s ends r b h z =
     let (t, e, _) = check_accepts s r h.reply z in
     let w = judge-within s t b e in
     record { term = t; judged = e; table = record { holds = record { is = sym (judge-encode s t b e); right = w.right }; within = w; end = h.end z } }
+
+-- the bytes of an accepted table, and the ends that were found
+pub checked_known : (s ends : List ℕ) (r : Reply) → ((i : ℕ) → get_or s i 0 < 256) → Checked s ends r → r.answer ≡ 0 → WellFormed s ends
+checked_known s ends r b h z = record { bytes = b; accepted = ap is_accepted (check_accepts s r h.reply z).1; end = h.end z }
 
 pub table_known : (s ends : List ℕ) (t : Term) → Table s ends t → Known s ends
 table_known s ends t h = record { term = t; table = h; whole = omega (arith, ap length h.holds.is, length-encode t); few = h.end.few; room = h.end.room }

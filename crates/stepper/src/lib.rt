@@ -3,31 +3,36 @@
 
 pub mod answering;
 
-ghost use Rattle.std.specs.Prelude.{◌+◌, ◌/◌, ◌<◌, min, length};
+ghost use Rattle.std.specs.Prelude.{◌+◌, ◌/◌, ◌≤◌, ◌<◌, min, length};
 ghost use Rattle.cows.specs.Limits.{max_records};
 ghost use Rattle.cows.specs.Terms.{Term};
 ghost use Rattle.cows.specs.Step.{step_term};
-ghost use Rattle.ways.specs.Known.{Table, Known};
-ghost use Rattle.proposals.specs.Proposals.{move_of};
+ghost use Rattle.ways.specs.TermOf.{TermOf};
+ghost use Rattle.proposals.specs.Proposals.{read_as};
 ghost use Rattle.stepper.specs.Replies.{Answers, Stepped};
 ghost use Rattle.stepper.specs.Demand.{Demand2};
 
+use crate::answering::{fitting, refused};
+use plans::Refusal;
 use proposals::Move;
 use records::limits;
-use tables::Reply;
+use tables::{Reply, accepted};
+use ways::KnownTable;
 
 // A move, as it was read, on a known table: it is judged, and its successor is written if it is allowed and fits. Refusals 10 to 21.
-pub fn step_known(s: &[u8], ends: &[u16], m: Move, out: &mut [u8]) -> Reply
-    requires { Known s.now ends.now }
-    ensures { (t : Term) → Table s.now ends.now t → Answers (step_term t (move_of m) (length out.old)) out.old out.new result }
+pub fn step_known(table: KnownTable, m: Option<Move>, out: &mut [u8]) -> Reply
+    ensures { (t : Term) → TermOf table.entry t → Answers (step_term t (read_as m) (length out.old)) out.old out.new result }
 {
-    let plan = moves::judge(s, ends, m);
-    let judgement = plan.judgement;
-    let reply = answering::answer(judgement, out.len());
-    if reply.answer == 0 {
-        moves::write(s, ends, m, plan.from, out);
+    let Some(m) = m else {
+        return refused(Refusal::Unread);
+    };
+    match fitting(moves::judge(table, m), out.len()) {
+        Err(reply) => reply,
+        Ok(plan) => {
+            moves::write(table, m, plan.from, out);
+            accepted(plan.records)
+        }
     }
-    reply
 }
 
 // One move on a table, with room for the ends of its terms.
@@ -39,7 +44,20 @@ fn step_with(table: &[u8], m: &[u8], ends: &mut [u16], out: &mut [u8]) -> Reply
     if checked.answer != 0 {
         return checked;
     }
-    step_known(table, ends, proposals::read_move(m), out)
+    step_known(
+        KnownTable { bytes: table, ends },
+        proposals::read_move(m),
+        out,
+    )
+}
+
+// The same with room for so many ends of its own.
+fn step_in<const ROOM: usize>(table: &[u8], m: &[u8], out: &mut [u8]) -> Reply
+    requires { (min (length table.now / 16) max_records + 1 < ROOM) × (ROOM ≤ 65536) }
+    ensures { Stepped table.now m.now out.old out.new result × Demand2 table.now m.now out.old out.new result }
+{
+    let mut ends = [0u16; ROOM];
+    step_with(table, m, &mut ends, out)
 }
 
 // One move on a table: 0, 0 and the records of the successor, which the output then begins with, or the refusal of 1 to 21, its place and 0. Reply and every
@@ -48,13 +66,10 @@ pub fn step(table: &[u8], m: &[u8], out: &mut [u8]) -> Reply
     ensures { Stepped table.now m.now out.old out.new result × Demand2 table.now m.now out.old out.new result }
 {
     if table.len() <= 512 {
-        let mut least = [0u16; 34];
-        return step_with(table, m, &mut least, out);
+        return step_in::<34>(table, m, out);
     }
     if table.len() <= 4096 {
-        let mut few = [0u16; 258];
-        return step_with(table, m, &mut few, out);
+        return step_in::<258>(table, m, out);
     }
-    let mut ends = [0u16; limits::ENDS];
-    step_with(table, m, &mut ends, out)
+    step_in::<{ limits::ENDS }>(table, m, out)
 }

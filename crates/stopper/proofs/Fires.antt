@@ -1,11 +1,14 @@
 -- Firing live kills on a known table (specs/Firing): 26, 21, or the successor, from what the code has at hand.
 use mathlib.Core.Path.{◌≡◌, refl, sym, ap, subst, ◌∙◌}
-use mathlib.Core.Option.{none, some}
+use mathlib.Core.Option.{Option, none, some}
+use mathlib.Core.Logic.{◌≢◌}
 use mathlib.Core.List.{List, [], ◌∷◌, map}
 use Prim.Native.Nat.{ℕ, zero, suc, ◌+◌, ◌*◌, ◌-◌, ◌/◌, ◌≤◌, ◌<◌}
 use native.Mathlib.Omega.{arith}
 use lib.ListN.{length, get_or}
 use borrow.Author.Tests.{lt-ltb, le-ltb}
+use Rattle.std.specs.Prelude as rust
+use Rattle.records.specs.Answers.{found_of}
 use Rattle.cows.specs.Basics.{All, place_if, Result, refuse, accept, ◌>>◌, forbid}
 use Rattle.cows.specs.Terms.{delimitation, Term, size}
 use Rattle.cows.specs.Kinds.{kind_of, open_kinds}
@@ -42,7 +45,12 @@ use Rattle.overlaps.specs.Overlaps.{first_overlap, AllBefore}
 use Rattle.stopper.specs.Firing.{CanFire, fire_term}
 use Rattle.stopper.specs.Claims.{JointAnswers}
 use Rattle.stopper.proofs.Planned.{scope_there}
-use Rattle.stopper.proofs.Scopes.{scopes_before, first-clash}
+use Rattle.stopper.proofs.Scopes.{scopes_before, clash_none, clash_some}
+
+-- what was not found is none
+pub not_found : (o : Option ℕ) (r : rust.Option ℕ) → ((i : ℕ) → r ≢ rust.Some i) → r ≡ found_of o → o ≡ none
+not_found none r miss e = refl
+not_found (some i) r miss e = absurd (miss i e)
 
 -- the answers to a refusal
 pub refused_jointly : {x : Result Term} {ps out : List ℕ} {r : Played} (n p : ℕ) → x ≡ refuse n p → r ≡ refused_with n p → JointAnswers x ps out out r
@@ -117,59 +125,68 @@ module _ {s ends ps scopes : List ℕ} {gone : ℕ} (q : CanFire s ends ps scope
   for_table : {out after : List ℕ} {r : Played} → JointAnswers (fire_term t ps (length out)) ps out after r → (u : Term) → Table s ends u → JointAnswers (fire_term u ps (length out)) ps out after r
   for_table {out} {after} {r} a u k = subst (λ u. JointAnswers (fire_term u ps (length out)) ps out after r) (one_table s ends t u h k) a
 
-  module _ {first : ℕ} (e : first ≡ first_overlap ends [] scopes) where
-    clash_at : (first < length ps → first_clash t [] ps ≡ some (get_or ps first 0)) × (length ps ≤ first → first_clash t [] ps ≡ none)
-    clash_at = first-clash s ends t h [] ps tt live first (e ∙ ap (first_overlap ends []) q.scopes_are)
+  -- the first that clashes, by its index
+  module _ {i : ℕ} (e : first_overlap ends [] scopes ≡ some i) where
+    clash_at : (k : ℕ) × (i ≡ 0 + k) × (k < length ps) × (first_clash t [] ps ≡ some (get_or ps k 0))
+    clash_at = clash_some s ends t h [] ps tt live i (ap (first_overlap ends []) (sym q.scopes_are) ∙ e)
 
-    pub clash-told : {out : List ℕ} {r : Played} {a : ℕ} → first < length ps → a ≡ get_or ps first 0 → r ≡ refused_with 26 a
+    pub clash_inside : i < length ps
+    clash_inside = let w = clash_at in omega (arith, w.1, w.2)
+
+    pub clash-told : {out : List ℕ} {r : Played} {a : ℕ} → a ≡ get_or ps i 0 → r ≡ refused_with 26 a
         → (u : Term) → Table s ends u → JointAnswers (fire_term u ps (length out)) ps out out r
-    clash-told {out} {r} {a} l z k = for_table (refused_jointly 26 a (fire-clash t ps (length out) a (clash_at.0 l ∙ ap some (sym z))) k)
+    clash-told {out} {r} {a} z k =
+        let w = clash_at in
+        for_table (refused_jointly 26 a (fire-clash t ps (length out) a (w.3 ∙ ap some (ap (λ n. get_or ps n 0) (omega (arith, w.1)) ∙ sym z))) k)
 
-    -- no two of them clash
-    module _ (l : length ps ≤ first) where
-      abbrev left : Term
-      left = after_joint t ps
+  -- no two of them clash
+  module _ (e : first_overlap ends [] scopes ≡ none) where
+    apart : first_clash t [] ps ≡ none
+    apart = clash_none s ends t h [] ps tt live (ap (first_overlap ends []) (sym q.scopes_are) ∙ e)
 
-      accepted : joint_at t ps ≡ accept left
-      accepted = passed_joint t ps (number_passed ps q.join.number, q.all_are_live, clash_at.1 l)
+    abbrev left : Term
+    left = after_joint t ps
 
-      records : size t ≡ size left + gone
-      records = omega (arith, joint_records t left ps h.within accepted, q.gone_are)
+    accepted : joint_at t ps ≡ accept left
+    accepted = passed_joint t ps (number_passed ps q.join.number, q.all_are_live, apart)
 
-      pub gone_fits : gone ≤ length s / 16
-      gone_fits = omega (arith, table_size s ends t h, records)
+    records : size t ≡ size left + gone
+    records = omega (arith, joint_records t left ps h.within accepted, q.gone_are)
 
-      left_is : length s / 16 - gone ≡ size left
-      left_is = omega (arith, table_size s ends t h, records)
+    pub gone_fits : gone ≤ length s / 16
+    gone_fits = omega (arith, table_size s ends t h, records)
 
-      pub short_told : {out : List ℕ} {r : Played} → length out / 16 < length s / 16 - gone → r ≡ refused_with 21 0
-          → (u : Term) → Table s ends u → JointAnswers (fire_term u ps (length out)) ps out out r
-      short_told {out} k z = for_table (refused_jointly 21 0 (fire_short t ps (length out) (clash_at.1 l) (omega (arith, left_is))) z)
+    left_is : length s / 16 - gone ≡ size left
+    left_is = omega (arith, table_size s ends t h, records)
 
-      settled : settle_at scopes ps 0 t ≡ left
-      settled = ap (λ qs. settle_at qs ps 0 t) q.scopes_are ∙ settle_joint t (map (kill_scope t) ps) ps h.within (scopes_of t ps h.within live)
+    pub short_told : {out : List ℕ} {r : Played} → length out / 16 < length s / 16 - gone → r ≡ refused_with 21 0
+        → (u : Term) → Table s ends u → JointAnswers (fire_term u ps (length out)) ps out out r
+    short_told {out} k z = for_table (refused_jointly 21 0 (fire_short t ps (length out) apart (omega (arith, left_is))) z)
 
-      stands : StandsIn s 0 t
-      stands = whole_stands t h.holds.is
+    settled : settle_at scopes ps 0 t ≡ left
+    settled = ap (λ qs. settle_at qs ps 0 t) q.scopes_are ∙ settle_joint t (map (kill_scope t) ps) ps h.within (scopes_of t ps h.within live)
 
-      -- there is room
-      module _ {out : List ℕ} (room : length s / 16 - gone ≤ length out / 16) where
-        pub settle_asks : Rewritable (settle_at scopes ps 0) s 0 out 0 × Aligned s ends 0 × Scopes s ends scopes ps
-        settle_asks = (
-          ready t stands (omega (arith, ap (λ r. length (encode r)) settled, length-encode left, left_is)),
-          placed_at 0 h.end,
-          subst (λ qs. Scopes s ends qs ps) (sym q.scopes_are) (scopes_ready s ends t h (map (kill_scope t) ps) ps (scopes_of t ps h.within live)),
-        )
+    stands : StandsIn s 0 t
+    stands = whole_stands t h.holds.is
 
-        pub fired_told : {after : List ℕ} {n m : ℕ} {r : Played} → Rewrites (settle_at scopes ps 0) s 0 out 0 after n m
-            → r.reply ≡ record { answer = 0; place = 0; records = length s / 16 - gone } → r.tally ≡ tally_of (counted 0 (length ps) 0 0)
-            → (u : Term) → Table s ends u → JointAnswers (fire_term u ps (length out)) ps out after r
-        unfolding reply_to written tally_for
-        fired_told w y z = for_table
-            (rw (fire_fits t ps (length out) (clash_at.1 l) (omega (arith, left_is))) (record {
-              answers = record {
-                replies = y ∙ rw left_is;
-                output = (w.done t stands).bytes ∙ (ap (λ x. put out 0 (encode x)) settled ∙ put-encode out left (omega (arith, left_is)));
-              };
-              tallied = z;
-            }))
+    -- there is room
+    module _ {out : List ℕ} (room : length s / 16 - gone ≤ length out / 16) where
+      pub settle_asks : Rewritable (settle_at scopes ps 0) s 0 out 0 × Aligned s ends 0 × Scopes s ends scopes ps
+      settle_asks = (
+        ready t stands (omega (arith, ap (λ r. length (encode r)) settled, length-encode left, left_is)),
+        placed_at 0 h.end,
+        subst (λ qs. Scopes s ends qs ps) (sym q.scopes_are) (scopes_ready s ends t h (map (kill_scope t) ps) ps (scopes_of t ps h.within live)),
+      )
+
+      pub fired_told : {after : List ℕ} {n m : ℕ} {r : Played} → Rewrites (settle_at scopes ps 0) s 0 out 0 after n m
+          → r.reply ≡ record { answer = 0; place = 0; records = length s / 16 - gone } → r.tally ≡ tally_of (counted 0 (length ps) 0 0)
+          → (u : Term) → Table s ends u → JointAnswers (fire_term u ps (length out)) ps out after r
+      unfolding reply_to written tally_for
+      fired_told w y z = for_table
+          (rw (fire_fits t ps (length out) apart (omega (arith, left_is))) (record {
+            answers = record {
+              replies = y ∙ rw left_is;
+              output = (w.done t stands).bytes ∙ (ap (λ x. put out 0 (encode x)) settled ∙ put-encode out left (omega (arith, left_is)));
+            };
+            tallied = z;
+          }))

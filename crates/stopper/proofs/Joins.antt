@@ -14,9 +14,7 @@ use Rattle.joint.proofs.Listing.{number_passed}
 use Rattle.ways.specs.Known.{Table}
 use Rattle.player.specs.declared.Played.{Played}
 use Rattle.player.specs.Nights.{refused_with}
-use Rattle.stopper.specs.declared.gathering.Gathered.{Gathered}
-use Rattle.stopper.specs.declared.gathering.Gathered.TheVariants.{Absent, Gone}
-use Rattle.stopper.specs.Gathering.{Gathers}
+use Rattle.stopper.specs.Gathering.{AtHand}
 use Rattle.stopper.specs.Firing.{CanJoin, CanFire, fire_term}
 use Rattle.stopper.specs.Claims.{JointAnswers, Joined}
 use Rattle.stopper.proofs.Fires.{refused_jointly}
@@ -41,18 +39,20 @@ unfolding joint_term joint_at ◌>>=◌ ◌>>◌ forbid place_if
 joint_wrong t ps room e = rw e
 
 -- what gathering tells, on a known table
-module _ {s ends ps places : List ℕ} {r : Gathered} (q : CanJoin s ends ps) (g : (t : Term) → Table s ends t → Gathers t ps places r) where
-  pub dead_told : {out : List ℕ} {z : Played} (a : ℕ) → r ≡ Absent a → z ≡ refused_with 11 a → (t : Term) → Table s ends t → JointAnswers (joint_term t ps (length out)) ps out out z
-  dead_told {out} a e k t h = refused_jointly 11 a (joint_dead t ps (length out) q.number a ((g t h).absent a e)) k
+module _ {s ends ps : List ℕ} (q : CanJoin s ends ps) where
+  pub dead_told : {out : List ℕ} {z : Played} (a : ℕ) → ((t : Term) → Table s ends t → all_live t ps ≡ refuse 11 a) → z ≡ refused_with 11 a
+      → (t : Term) → Table s ends t → JointAnswers (joint_term t ps (length out)) ps out out z
+  dead_told {out} a g k t h = refused_jointly 11 a (joint_dead t ps (length out) q.number a (g t h)) k
 
-  pub can_fire : (n : ℕ) → r ≡ Gone n → CanFire s ends ps (take (length ps) places) n
-  can_fire n e =
-      let x = g q.known.term q.known.table in
-      record { join = q; all_are_live = x.all_are_live n e; scopes_are = x.scopes_are n e; gone_are = x.gone_are n e }
+  module _ {places : List ℕ} {n : ℕ} (g : (t : Term) → Table s ends t → AtHand t ps places n) where
+    pub can_fire : CanFire s ends ps (take (length ps) places) n
+    can_fire =
+        let x = g q.known.term q.known.table in
+        record { join = q; all_are_live = x.all_are_live; scopes_are = x.scopes_are; gone_are = x.gone_are }
 
-  pub live-told : {out after : List ℕ} {z : Played} (n : ℕ) → r ≡ Gone n → ((t : Term) → Table s ends t → JointAnswers (fire_term t ps (length out)) ps out after z)
-      → (t : Term) → Table s ends t → JointAnswers (joint_term t ps (length out)) ps out after z
-  live-told {out} {after} {z} n e k t h = subst (λ x. JointAnswers x ps out after z) (sym (joint_live t ps (length out) q.number ((g t h).all_are_live n e))) (k t h)
+    pub live-told : {out after : List ℕ} {z : Played} → ((t : Term) → Table s ends t → JointAnswers (fire_term t ps (length out)) ps out after z)
+        → (t : Term) → Table s ends t → JointAnswers (joint_term t ps (length out)) ps out after z
+    live-told {out} {after} {z} k t h = subst (λ x. JointAnswers x ps out after z) (sym (joint_live t ps (length out) q.number (g t h).all_are_live)) (k t h)
 
 -- on any bytes
 module _ (table ps out after : List ℕ) (r : Played) where

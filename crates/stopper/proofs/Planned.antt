@@ -1,11 +1,8 @@
 -- The plan of a single kill (crate kill) tells whether it is live, where its scope stands, and how many records it takes away.
-use mathlib.Core.Path.{◌≡◌, refl, sym, ap, subst, ◌∙◌}
+use mathlib.Core.Path.{◌≡◌, refl, sym, subst, ◌∙◌}
 use mathlib.Core.Logic.{⊎_elim}
-use mathlib.Core.List.{List, [], ◌∷◌}
 use Prim.Native.Nat.{ℕ}
 use native.Mathlib.Omega.{arith}
-use types.Run.{OneOf, miss}
-use denote.Enum.Declared.{tag_of}
 use Rattle.cows.specs.Basics.{place_if, refuse, accept, ◌>>=◌, ◌>>◌, forbid}
 use Rattle.cows.specs.Terms.{Term, size, kills, below}
 use Rattle.cows.specs.Places.{way_to, sub}
@@ -20,35 +17,28 @@ use Rattle.joint.proofs.Judging.{kill-wanted}
 use Rattle.joint.proofs.Pruning.{smaller_kill}
 use Rattle.joint.proofs.Listing.{not-both, live_or}
 use Rattle.ways.proofs.Starts.{scope_at}
-use Rattle.plans.specs.declared.Judgement.{Judgement}
-use Rattle.plans.specs.declared.Judgement.TheVariants.{Allowed, Unread, Absent, Differs, Apart, Held, Looser, Unripe, Timeless, Stuck, Large}
+use Rattle.std.specs.Prelude as rust
+use Rattle.std.specs.Prelude.{Ok, Err}
+use Rattle.plans.specs.declared.Refusal.{Refusal}
+use Rattle.plans.specs.declared.Refusal.TheVariants.{Unread, Absent, Differs, Apart, Held, Looser, Unripe, Timeless, Stuck, Large}
 use Rattle.plans.specs.declared.Plan.{Plan}
-use Rattle.plans.specs.Plans.{result_of, limited, Planned}
-use Rattle.plans.specs.contracts.Judgement.{the_type}
+use Rattle.plans.specs.Plans.{refusal_of, limited, Allowed, Planned}
 use Rattle.plans.proofs.Planning.{within_limits}
 use Rattle.kill.specs.Killing.{kill_scope}
 use Rattle.kill.proofs.Left.{has_scope, scope_place}
 
--- what is allowed has a number of records
-accepted_allowed : (j : Judgement) (n : ℕ) → result_of j ≡ accept n → j ≡ Allowed n
-accepted_allowed (Allowed m) n e = ap Allowed (same_accept e)
-accepted_allowed Unread n e = not-both e
-accepted_allowed (Absent p) n e = not-both e
-accepted_allowed (Differs p) n e = not-both e
-accepted_allowed (Apart p) n e = not-both e
-accepted_allowed (Held p) n e = not-both e
-accepted_allowed (Looser p) n e = not-both e
-accepted_allowed (Unripe p) n e = not-both e
-accepted_allowed Timeless n e = not-both e
-accepted_allowed (Stuck p) n e = not-both e
-accepted_allowed Large n e = not-both e
-
--- a judgement that the code has told to be none that allows
-abbrev refusals : List ℕ
-refusals = 1 ∷ 2 ∷ 3 ∷ 4 ∷ 5 ∷ 6 ∷ 7 ∷ 8 ∷ 9 ∷ 10 ∷ []
-
-abbrev pub NotAllowed : Judgement → Type 0
-NotAllowed j = OneOf refusals (tag_of the_type j)
+-- no refusal is a number of records
+refuses : (r : Refusal) (n : ℕ) → refusal_of r ≡ accept n → ⊥
+refuses Unread n e = not-both e
+refuses (Absent p) n e = not-both e
+refuses (Differs p) n e = not-both e
+refuses (Apart p) n e = not-both e
+refuses (Held p) n e = not-both e
+refuses (Looser p) n e = not-both e
+refuses (Unripe p) n e = not-both e
+refuses Timeless n e = not-both e
+refuses (Stuck p) n e = not-both e
+refuses Large n e = not-both e
 
 module _ (t : Term) (w : Within t) (a : ℕ) where
   -- the single move
@@ -74,16 +64,15 @@ module _ (t : Term) (w : Within t) (a : ℕ) where
       subst (HasScope t a) (sym (scope_place t w a l.label l.kill p e))
       (record { live = l; body = below (sub t p); scope = record { placed = q.inside; stands = q.stands } })
 
-  module _ {r : Plan} (h : Planned (kill_at t a) (kill_scope t a) r) where
-    pub allowed_live : (left : ℕ) → r.judgement ≡ Allowed left → LiveKill t a
-    allowed_live left e = ⊎_elim (λ l. l) (λ d. not-both (sym (limited_dead d) ∙ (sym h.judged ∙ ap result_of e))) (live_or t a)
+  -- an allowed kill
+  module _ {p : Plan} (h : Allowed (kill_at t a) (kill_scope t a) p) where
+    pub allowed_live : LiveKill t a
+    allowed_live = ⊎_elim (λ l. l) (λ d. not-both (sym (limited_dead d) ∙ sym h.judged)) (live_or t a)
 
-    pub allowed_left : (left : ℕ) → r.judgement ≡ Allowed left → left ≡ size (after_kill (label_at t a) t a)
-    allowed_left left e = same_accept (sym (ap result_of e) ∙ (h.judged ∙ limited-live (allowed_live left e)))
+    pub allowed_left : p.records ≡ size (after_kill (label_at t a) t a)
+    allowed_left = same_accept (h.judged ∙ limited-live allowed_live)
 
-    pub allowed_from : (left : ℕ) → r.judgement ≡ Allowed left → r.from ≡ kill_scope t a
-    allowed_from left e = h.place_is _ (fires (allowed_live left e))
-
-    pub else_dead : NotAllowed r.judgement → wanted kills t a ≡ refuse 11 a
-    else_dead k =
-        ⊎_elim (λ l. absurd (miss refusals 0 tt (subst NotAllowed (accepted_allowed r.judgement _ (h.judged ∙ limited-live l)) k))) (λ d. d) (live_or t a)
+  -- one that is refused
+  pub else_dead : (j : rust.Result Plan Refusal) → Planned (kill_at t a) (kill_scope t a) j → ((p : Plan) → j ≡ Ok p → ⊥) → wanted kills t a ≡ refuse 11 a
+  else_dead (Ok p) h k = absurd (k p refl)
+  else_dead (Err r) h k = ⊎_elim (λ l. absurd (refuses r _ (h ∙ limited-live l))) (λ d. d) (live_or t a)

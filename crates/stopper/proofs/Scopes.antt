@@ -2,9 +2,9 @@
 use mathlib.Core.Path.{◌≡◌, refl, sym, ap, ◌∙◌}
 use mathlib.Core.Option.{none, some}
 use mathlib.Core.List.{List, [], ◌∷◌, ◌++◌, map, map-append}
-use Prim.Native.Nat.{ℕ, suc, ◌+◌, ◌≤◌, ◌<◌}
+use Prim.Native.Nat.{ℕ, zero, suc, ◌+◌, ◌<◌}
 use native.Mathlib.Omega.{arith}
-use lib.ListN.{length, get_or}
+use lib.ListN.{length, get_or, length-append, length-map}
 use Rattle.cows.specs.Basics.{any, All, place_if, or_else}
 use Rattle.cows.specs.Terms.{delimitation, Term, under, size}
 use Rattle.cows.proofs.Basics.{bool_case}
@@ -29,10 +29,9 @@ module _ (s ends : List ℕ) (t : Term) (h : Table s ends t) where
       table_ended s ends t h (kill_scope t a) z.placed ∙ ap (λ r. kill_scope t a + size r) z.stands
 
   pub scopes_before : (ps : List ℕ) → All (LiveKill t) ps → AllBefore (length ends) (map (kill_scope t) ps)
-  scopes_before [] ls = tt
-  scopes_before (a ∷ ps) ls =
-      let q = scope_there t h.within a ls.0 in
-      (omega (arith, q.scope.placed, table_size s ends t h, h.end.room), scopes_before ps ls.1)
+  scopes_before [] ls k d l = absurd (omega arith)
+  scopes_before (a ∷ ps) ls zero d l = let q = scope_there t h.within a ls.0 in omega (arith, q.scope.placed, table_size s ends t h, h.end.room)
+  scopes_before (a ∷ ps) ls (suc k) d l = scopes_before ps ls.1 k d (omega arith)
 
   overlap-clash : (a b : ℕ) → LiveKill t a → LiveKill t b → overlap ends (kill_scope t a) (kill_scope t b) ≡ clash t a b
   unfolding overlap stands_in
@@ -47,16 +46,29 @@ module _ (s ends : List ℕ) (t : Term) (h : Table s ends t) where
   any_overlaps a [] x ls = refl
   any_overlaps a (b ∷ bs) x ls = rw (overlap-clash a b x ls.0, any_overlaps a bs x ls.1)
 
-  -- the index of the first that clashes
-  pub first-clash : (before ps : List ℕ) → All (LiveKill t) before → All (LiveKill t) ps → (i : ℕ) → i ≡ first_overlap ends (map (kill_scope t) before) (map (kill_scope t) ps)
-      → (i < length ps → first_clash t before ps ≡ some (get_or ps i 0)) × (length ps ≤ i → first_clash t before ps ≡ none)
+  overlaps_of : (a : ℕ) (before ps : List ℕ) → LiveKill t a → All (LiveKill t) before → All (LiveKill t) ps
+      → any (overlap ends (kill_scope t a)) (map (kill_scope t) before ++ map (kill_scope t) ps) ≡ any (clash t a) (before ++ ps)
+  overlaps_of a before ps x bs ls = ap (any (overlap ends (kill_scope t a))) (sym (map-append (kill_scope t) before ps)) ∙ any_overlaps a (before ++ ps) x (all_append (LiveKill t) before ps bs ls)
+
+  -- none overlaps another where none clashes, and else the first that does is the first that clashes
+  pub clash_none : (before ps : List ℕ) → All (LiveKill t) before → All (LiveKill t) ps → first_overlap ends (map (kill_scope t) before) (map (kill_scope t) ps) ≡ none → first_clash t before ps ≡ none
   unfolding first_overlap first_clash place_if or_else
-  first-clash before [] bs ls i e = (λ l. absurd (omega arith), λ l. refl)
-  first-clash before (a ∷ ps) bs ls i e =
-      let z : any (overlap ends (kill_scope t a)) (map (kill_scope t) before ++ map (kill_scope t) ps) ≡ any (clash t a) (before ++ ps) =
-      ap (any (overlap ends (kill_scope t a))) (sym (map-append (kill_scope t) before ps)) ∙ any_overlaps a (before ++ ps) ls.0 (all_append (LiveKill t) before ps bs ls.1) in
+  clash_none before [] bs ls e = refl
+  clash_none before (a ∷ ps) bs ls e =
+      let z = overlaps_of a before ps ls.0 bs ls.1 in
       bool_case _ (any (clash t a) (before ++ ps))
-      (λ c. let n : i ≡ 0 = e ∙ rw (z, c) in rw c (λ l. ap some (rw n), λ l. absurd (omega arith)))
-      (λ c. let next = first-clash (before ++ (a ∷ [])) ps (all_append (LiveKill t) before (a ∷ []) bs (ls.0, tt)) ls.1 _ (ap (λ (b : List ℕ). first_overlap ends b (map (kill_scope t) ps)) (sym (map-append (kill_scope t) before (a ∷ [])))) in
-      let n : i ≡ suc (first_overlap ends (map (kill_scope t) before ++ (kill_scope t a ∷ [])) (map (kill_scope t) ps)) = e ∙ rw (z, c) in
-      rw (c, n) (λ l. next.0 (omega arith), λ l. next.1 (omega arith)))
+      (λ c. let x : some _ ≡ none = rw (z, c) at e in absurd cc)
+      (λ c. rw c (clash_none (before ++ (a ∷ [])) ps (all_append (LiveKill t) before (a ∷ []) bs (ls.0, tt)) ls.1 (rw (z, c, sym (map-append (kill_scope t) before (a ∷ []))) at e)))
+
+  pub clash_some : (before ps : List ℕ) → All (LiveKill t) before → All (LiveKill t) ps → (i : ℕ) → first_overlap ends (map (kill_scope t) before) (map (kill_scope t) ps) ≡ some i
+      → (k : ℕ) × (i ≡ length before + k) × (k < length ps) × (first_clash t before ps ≡ some (get_or ps k 0))
+  unfolding first_overlap first_clash place_if or_else
+  clash_some before [] bs ls i e = absurd cc
+  clash_some before (a ∷ ps) bs ls i e =
+      let z = overlaps_of a before ps ls.0 bs ls.1 in
+      bool_case _ (any (clash t a) (before ++ ps))
+      (λ c. let x : some (length (map (kill_scope t) before)) ≡ some i = rw (z, c) at e in
+      let n : length (map (kill_scope t) before) ≡ i = cc in
+      (0, omega (arith, n, length-map before (kill_scope t)), omega arith, rw c))
+      (λ c. let w = clash_some (before ++ (a ∷ [])) ps (all_append (LiveKill t) before (a ∷ []) bs (ls.0, tt)) ls.1 i (rw (z, c, sym (map-append (kill_scope t) before (a ∷ []))) at e) in
+      (suc w.0, omega (arith, w.1, length-append before (a ∷ [])), omega (arith, w.2), rw c w.3))

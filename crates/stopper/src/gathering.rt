@@ -2,36 +2,25 @@
 ghost use Rattle.std.specs.Prelude.{◌≤◌, length};
 ghost use Rattle.cows.specs.Terms.{Term};
 ghost use Rattle.joint.specs.Joint.{max_kills};
-ghost use Rattle.ways.specs.Known.{Table, Known};
+ghost use Rattle.ways.specs.TermOf.{TermOf};
 ghost use Rattle.stopper.specs.Gathering.{Gathers};
 
-use plans::Judgement;
-use records::wide16;
+use ways::KnownTable;
 
-// The first listed at which no live kill stands, or the number of records that the kills of the list take away, each on the table as it is.
-#[derive(Clone, Copy)]
-pub enum Gathered {
-    Absent(usize),
-    Gone(usize),
-}
-
-// Each kill is judged as a single one; the place of its scope goes to the same index of `scopes`.
-pub fn gather(s: &[u8], ends: &[u16], kills: &[u16], scopes: &mut [u16]) -> Gathered
-    requires { Known s.now ends.now × (length kills.now ≤ max_kills) × (length kills.now ≤ length scopes.old) }
-    ensures { (t : Term) → Table s.now ends.now t → Gathers t kills.now scopes.new result }
+// How many records the kills of the list take away, each on the table as it is, or the first listed place at which no live kill stands. Each kill is judged as a
+// single one; the place of its scope goes to the same index of `scopes`.
+pub fn gather(table: KnownTable, kills: &[u16], scopes: &mut [u16]) -> Result<usize, usize>
+    requires { (length kills.now ≤ max_kills) × (length kills.now ≤ length scopes.old) }
+    ensures { (t : Term) → TermOf table.entry t → Gathers t kills.now scopes.new result }
 {
     let mut gone = 0;
-    let mut i = 0;
-    while i < kills.len() {
-        let a = wide16(kills[i]);
-        let plan = kill::judge(s, ends, a);
-        let judgement = plan.judgement;
-        let Judgement::Allowed(left) = judgement else {
-            return Gathered::Absent(a);
+    for i in 0..kills.len() {
+        let a = usize::from(kills[i]);
+        let Ok(plan) = kill::judge(table, a) else {
+            return Err(a);
         };
         scopes[i] = plan.from as u16;
-        gone += s.len() / 16 - left;
-        i += 1;
+        gone += table.bytes.len() / 16 - plan.records;
     }
-    Gathered::Gone(gone)
+    Ok(gone)
 }

@@ -6,16 +6,16 @@ mod gathering;
 ghost use Rattle.std.specs.Prelude.{◌≡◌, length};
 ghost use Rattle.cows.specs.Terms.{Term};
 ghost use Rattle.joint.specs.Joint.{wrong_number, joint_term};
-ghost use Rattle.ways.specs.Known.{Table};
+ghost use Rattle.ways.specs.TermOf.{TermOf};
 ghost use Rattle.stopper.specs.Firing.{CanFire, fire_term, CanJoin};
 ghost use Rattle.stopper.specs.Claims.{JointAnswers, Joined, JointClaims};
 
-use crate::gathering::{Gathered, gather};
+use crate::gathering::gather;
 use overlaps::first_overlap;
-use player::{Played, refused};
-use records::{limits, wide16};
+use player::{Played, accepted, refused};
+use records::limits;
 use settling::settle_at;
-use tables::Reply;
+use ways::KnownTable;
 
 // The most kills of a joint step.
 const MOST_KILLS: usize = 8;
@@ -28,46 +28,31 @@ fn wrong_number(kills: &[u16]) -> bool
 }
 
 // Fires live kills whose scopes are at hand, and which take away so many records if no two of them clash: 26, 21, or the successor.
-fn fire(
-    s: &[u8],
-    ends: &[u16],
-    kills: &[u16],
-    scopes: &[u16],
-    gone: usize,
-    out: &mut [u8],
-) -> Played
-    requires { CanFire s.now ends.now kills.now scopes.now gone }
-    ensures { (t : Term) → Table s.now ends.now t → JointAnswers (fire_term t kills.now (length out.old)) kills.now out.old out.new result }
+fn fire(table: KnownTable, kills: &[u16], scopes: &[u16], gone: usize, out: &mut [u8]) -> Played
+    requires { CanFire table.bytes.now table.ends.now kills.now scopes.now gone }
+    ensures { (t : Term) → TermOf table.entry t → JointAnswers (fire_term t kills.now (length out.old)) kills.now out.old out.new result }
 {
-    let first = first_overlap(ends, scopes);
-    if first < kills.len() {
-        return refused(26, wide16(kills[first]));
+    if let Some(first) = first_overlap(table.ends, scopes) {
+        return refused(26, usize::from(kills[first]));
     }
-    let left = s.len() / 16 - gone;
+    let left = table.bytes.len() / 16 - gone;
     if out.len() / 16 < left {
         return refused(21, 0);
     }
-    settle_at(s, ends, scopes, kills, 0, out, 0);
-    Played {
-        reply: Reply {
-            answer: 0,
-            place: 0,
-            records: left,
-        },
-        tally: tally::of_kills(kills.len() as u32),
-    }
+    settle_at(table.bytes, table.ends, scopes, kills, 0, out, 0);
+    accepted(left, tally::of_kills(kills.len() as u32))
 }
 
 // A joint step of 1 to 8 kills on a known table: 11, 26, 21, or the successor.
-fn joint_known(s: &[u8], ends: &[u16], kills: &[u16], out: &mut [u8]) -> Played
-    requires { CanJoin s.now ends.now kills.now }
-    ensures { (t : Term) → Table s.now ends.now t → JointAnswers (joint_term t kills.now (length out.old)) kills.now out.old out.new result }
+fn joint_known(table: KnownTable, kills: &[u16], out: &mut [u8]) -> Played
+    requires { CanJoin table.bytes.now table.ends.now kills.now }
+    ensures { (t : Term) → TermOf table.entry t → JointAnswers (joint_term t kills.now (length out.old)) kills.now out.old out.new result }
 {
     let mut places = [0u16; MOST_KILLS];
     let n = kills.len();
-    match gather(s, ends, kills, &mut places) {
-        Gathered::Absent(a) => refused(11, a),
-        Gathered::Gone(gone) => fire(s, ends, kills, &places[..n], gone, out),
+    match gather(table, kills, &mut places) {
+        Err(a) => refused(11, a),
+        Ok(gone) => fire(table, kills, &places[..n], gone, out),
     }
 }
 
@@ -85,5 +70,9 @@ pub fn joint(table: &[u8], kills: &[u16], out: &mut [u8]) -> Played
     if wrong_number(kills) {
         return refused(25, 0);
     }
-    joint_known(table, &ends, kills, out)
+    let table = KnownTable {
+        bytes: table,
+        ends: &ends,
+    };
+    joint_known(table, kills, out)
 }

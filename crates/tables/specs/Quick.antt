@@ -9,7 +9,7 @@ use Rattle.records.specs.Ends.{end_at, EndsFrom}
 use Rattle.records.specs.Holds.{Holds}
 use Rattle.ranges.specs.Ranges.{ranged}
 use Rattle.index.specs.Index.{TableLists}
-use Rattle.tables.specs.declared.Verdict.TheVariants.{Accepted}
+use Rattle.std.specs.Prelude.{Ok}
 use Rattle.tables.specs.Verdict.{verdict_reply, check_reply, judge_shape}
 
 -- room for the ends, a stack and two lists
@@ -19,15 +19,15 @@ pub record Lent (s ends stack marks users : List ℕ) : Type 0 where
   pub marks_room : length s / 16 < length marks
   pub users_room : length s / 16 < length users
 
--- Every record is within its ranges, the records are one term that is not too deep, and its ends, its m delimitations and its u users of atoms are at hand.
-pub record Sound (s ends marks : List ℕ) (m : ℕ) (users : List ℕ) (u : ℕ) : Type 0 where
+-- Every record is within its ranges, the records are one term that is not too deep, and its ends, its delimitations and its users of atoms are at hand.
+pub record Sound (s ends marks users : List ℕ) : Type 0 where
   pub fields : (i : ℕ) → i < length s / 16 → ranged s (16 * i) ≡ true
   pub whole : end_at s 0 ≡ length s / 16
   pub low : (t : Term) → Holds s t → depth t ≤ max_depth
-  pub lists : TableLists s ends marks m users u
+  pub lists : TableLists s ends marks users
 
 -- refusals 2 to 7 do not apply, and the ends are those of the terms
 pub record Passes (s ends : List ℕ) : Type 0 where
   pub right : first_wrong 0 (records s) ≡ none
-  pub reply : verdict_reply (Accepted (length s / 16)) ≡ check_reply (judge_shape s)
+  pub reply : verdict_reply (Ok (length s / 16)) ≡ check_reply (judge_shape s)
   pub end : EndsFrom s ends 0

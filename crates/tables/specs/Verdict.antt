@@ -8,28 +8,40 @@ use Rattle.cows.specs.Places.{first}
 use Rattle.cows.specs.Format.{read_node, records, decode}
 use Rattle.cows.specs.Tables.{first_wrong, misshapen, unbound, clash, judge_term, judge}
 use Rattle.records.specs.Ends.{EndsFrom}
-use Rattle.tables.specs.declared.Verdict.{Verdict}
-use Rattle.tables.specs.declared.Verdict.TheVariants.{Accepted, Length, Record, Shape, Deep, Choice, Open, Clash}
+use Rattle.std.specs.Prelude as rust
+use Rattle.std.specs.Prelude.{Ok, Err}
+use Rattle.scopes.specs.declared.ScopeFault.{ScopeFault}
+use Rattle.scopes.specs.declared.ScopeFault.TheVariants.{Open as OpenUse, Clash as Clashes}
+use Rattle.tables.specs.declared.Fault.{Fault}
+use Rattle.tables.specs.declared.Fault.TheVariants.{Length, Record, Shape, Deep, Choice, Open, Clash}
 use Rattle.tables.specs.declared.Reply.{Reply}
 
 -- a refusal: its number, its place and no records
 abbrev pub refusal : ℕ → ℕ → Reply
 refusal n p = record { answer = n; place = p; records = 0 }
 
-abbrev pub verdict_reply : Verdict → Reply
-verdict_reply (Accepted n) = record { answer = 0; place = 0; records = n }
-verdict_reply Length = refusal 1 0
-verdict_reply (Record p) = refusal 2 p
-verdict_reply (Shape p) = refusal 3 p
-verdict_reply (Deep p) = refusal 4 p
-verdict_reply (Choice p) = refusal 5 p
-verdict_reply (Open p) = refusal 6 p
-verdict_reply (Clash p) = refusal 7 p
+-- what is accepted: 0, place 0 and its records
+abbrev pub accepted : ℕ → Reply
+accepted n = record { answer = 0; place = 0; records = n }
+
+abbrev pub scope_fault : ScopeFault → Fault
+scope_fault (OpenUse p) = Open p
+scope_fault (Clashes p) = Clash p
+
+abbrev pub verdict_reply : rust.Result ℕ Fault → Reply
+verdict_reply (Ok n) = accepted n
+verdict_reply (Err Length) = refusal 1 0
+verdict_reply (Err (Record p)) = refusal 2 p
+verdict_reply (Err (Shape p)) = refusal 3 p
+verdict_reply (Err (Deep p)) = refusal 4 p
+verdict_reply (Err (Choice p)) = refusal 5 p
+verdict_reply (Err (Open p)) = refusal 6 p
+verdict_reply (Err (Clash p)) = refusal 7 p
 
 -- the reply to a judgement of a table: 0, 0 and its records, or the refusal, its place and 0
 abbrev pub check_reply : Result Term → Reply
 check_reply (refuse n p) = refusal n p
-check_reply (accept t) = record { answer = 0; place = 0; records = size t }
+check_reply (accept t) = accepted (size t)
 
 -- What the check of a table gives: the reply, and the ends of the terms of an accepted table.
 pub record Checked (s ends : List ℕ) (r : Reply) : Type 0 where

@@ -10,15 +10,14 @@ ghost use Rattle.cows.specs.Tables.{judge_term, judge};
 ghost use Rattle.records.specs.Holds.{Holds};
 ghost use Rattle.records.specs.Ends.{EndsFrom};
 ghost use Rattle.readers.specs.Reads.{Readable};
-ghost use Rattle.tables.specs.Verdict.{refusal, verdict_reply, check_reply, Checked, judge_scopes, judge_shape, WholeRecords, RightRecords};
+ghost use Rattle.tables.specs.Verdict.{refusal, accepted, scope_fault, verdict_reply, check_reply, Checked, judge_scopes, judge_shape, WholeRecords, RightRecords};
 
 use records::limits;
-use scopes::Scoping;
+use scopes::ScopeFault;
 
-// What the author of a table is told.
-#[derive(Clone, Copy)]
-pub enum Verdict {
-    Accepted(usize),
+// Why bytes are no well-formed table: the refusals 1 to 7 in their order, all but the first with their place.
+#[derive(Clone, Copy, PartialEq, Eq, Debug)]
+pub enum Fault {
     Length,
     Record(usize),
     Shape(usize),
@@ -47,136 +46,113 @@ pub fn refusal(answer: u8, place: usize) -> Reply
     }
 }
 
-fn answer_of(v: Verdict) -> Reply
-    ensures { result ≡ verdict_reply v }
+// What is accepted: 0, place 0 and its records.
+pub fn accepted(records: usize) -> Reply
+    ensures { result ≡ accepted records }
 {
-    match v {
-        Verdict::Accepted(n) => Reply {
-            answer: 0,
-            place: 0,
-            records: n,
-        },
-        Verdict::Length => refusal(1, 0),
-        Verdict::Record(p) => refusal(2, p),
-        Verdict::Shape(p) => refusal(3, p),
-        Verdict::Deep(p) => refusal(4, p),
-        Verdict::Choice(p) => refusal(5, p),
-        Verdict::Open(p) => refusal(6, p),
-        Verdict::Clash(p) => refusal(7, p),
+    Reply {
+        answer: 0,
+        place: 0,
+        records,
+    }
+}
+
+impl From<ScopeFault> for Fault {
+    ghost from_gives = { λ f r. r ≡ scope_fault f };
+
+    fn from(f: ScopeFault) -> Fault {
+        match f {
+            ScopeFault::Open(p) => Fault::Open(p),
+            ScopeFault::Clash(p) => Fault::Clash(p),
+        }
+    }
+}
+
+impl From<Result<usize, Fault>> for Reply {
+    ghost from_gives = { λ v r. r ≡ verdict_reply v };
+
+    fn from(v: Result<usize, Fault>) -> Reply {
+        match v {
+            Ok(n) => accepted(n),
+            Err(Fault::Length) => refusal(1, 0),
+            Err(Fault::Record(p)) => refusal(2, p),
+            Err(Fault::Shape(p)) => refusal(3, p),
+            Err(Fault::Deep(p)) => refusal(4, p),
+            Err(Fault::Choice(p)) => refusal(5, p),
+            Err(Fault::Open(p)) => refusal(6, p),
+            Err(Fault::Clash(p)) => refusal(7, p),
+        }
     }
 }
 
 // Refusals 6 and 7 of a table that holds a term.
-fn find_scopes(s: &[u8], ends: &[u16]) -> Verdict
+fn find_scopes(s: &[u8], ends: &[u16]) -> Result<usize, Fault>
     requires { EndsFrom s.now ends.now 0 }
     ensures { (t : Term) → Holds s.now t → verdict_reply result ≡ check_reply (judge_scopes t) }
 {
-    let found = scopes::scope_faults(s, ends);
-    match found {
-        Scoping::Fine => Verdict::Accepted(s.len() / 16),
-        Scoping::Open(p) => Verdict::Open(p),
-        Scoping::Clash(p) => Verdict::Clash(p),
-    }
+    scopes::scope_faults(s, ends)?;
+    Ok(s.len() / 16)
 }
 
 // Refusals 4 to 7 of a table that holds a term.
-fn find_fault(s: &[u8], ends: &[u16]) -> Verdict
+fn find_fault(s: &[u8], ends: &[u16]) -> Result<usize, Fault>
     requires { Readable s.now ends.now 0 }
     ensures { (t : Term) → Holds s.now t → verdict_reply result ≡ check_reply (judge_term t) }
 {
-    let n = s.len() / 16;
-    let deep = depths::first_deep(s, ends, 0, 1);
-    if deep != n {
-        return Verdict::Deep(deep);
+    if let Some(p) = depths::first_deep(s, ends, 0, 1) {
+        return Err(Fault::Deep(p));
     }
-    let at = readers::read_on(s, ends, 0);
-    if at != n {
-        return Verdict::Choice(at - n - 1);
-    }
+    readers::read_on(s, ends, 0).map_err(Fault::Choice)?;
     find_scopes(s, ends)
 }
 
 // Refusals 3 to 7 of right records, each by a search, with the ends found again, on any shape.
-fn find_misshape(s: &[u8], ends: &mut [u16]) -> Verdict
+fn find_misshape(s: &[u8], ends: &mut [u16]) -> Result<usize, Fault>
     requires { RightRecords s.now × (length s.now / 16 + 1 < length ends.old) }
     ensures { (verdict_reply result ≡ check_reply (judge_shape s.now)) × EndsFrom s.now ends.new 0 }
 {
     let n = s.len() / 16;
     records::ends::ends(s, ends);
-    let end = records::wide16(ends[0]);
-    if end < n {
-        return Verdict::Shape(end);
-    }
-    if n < end {
-        return Verdict::Shape(n);
+    let end = usize::from(ends[0]);
+    if end != n {
+        return Err(Fault::Shape(end.min(n)));
     }
     find_fault(s, ends)
 }
 
-// All refusals of whole records, each by a search.
-fn find_refusal(s: &[u8], ends: &mut [u16]) -> Verdict
+// All refusals of whole records, each by a search. Not inlined, so that its frame does not stand below the quick test's.
+#[inline(never)]
+fn find_refusal(s: &[u8], ends: &mut [u16]) -> Result<usize, Fault>
     requires { WholeRecords s.now × (length s.now / 16 + 1 < length ends.old) }
     ensures { Checked s.now ends.new (verdict_reply result) }
 {
-    let wrong = ranges::find_wrong(s);
-    if wrong != s.len() / 16 {
-        return Verdict::Record(wrong);
+    if let Some(p) = ranges::find_wrong(s) {
+        return Err(Fault::Record(p));
     }
     find_misshape(s, ends)
 }
 
-// Tables of any number of records, of up to 256, and of up to 32: the quick test comes first, as large as the table asks. What a small one does not accept is left
-// to the next larger, and what the largest does not accept is searched. That and the search are called from two places, so that neither stands in the frame of the
-// other: a function called once is inlined with its arrays.
-fn judge_most(s: &[u8], ends: &mut [u16]) -> Verdict
+// All refusals of whole records: the quick test comes first, and what it does not accept is searched.
+fn judge_records(s: &[u8], ends: &mut [u16]) -> Result<usize, Fault>
     requires { WholeRecords s.now × (length s.now / 16 + 1 < length ends.old) }
     ensures { Checked s.now ends.new (verdict_reply result) }
 {
-    if quick::most_right(s, ends) {
-        return Verdict::Accepted(s.len() / 16);
+    if quick::right(s, ends) {
+        return Ok(s.len() / 16);
     }
     find_refusal(s, ends)
-}
-
-fn judge_few(s: &[u8], ends: &mut [u16]) -> Verdict
-    requires { WholeRecords s.now × (length s.now / 16 ≤ 256) × (length s.now / 16 + 1 < length ends.old) }
-    ensures { Checked s.now ends.new (verdict_reply result) }
-{
-    if quick::few_right(s, ends) {
-        return Verdict::Accepted(s.len() / 16);
-    }
-    if quick::most_right(s, ends) {
-        return Verdict::Accepted(s.len() / 16);
-    }
-    find_refusal(s, ends)
-}
-
-fn judge_least(s: &[u8], ends: &mut [u16]) -> Verdict
-    requires { WholeRecords s.now × (length s.now / 16 ≤ 32) × (length s.now / 16 + 1 < length ends.old) }
-    ensures { Checked s.now ends.new (verdict_reply result) }
-{
-    if quick::least_right(s, ends) {
-        return Verdict::Accepted(s.len() / 16);
-    }
-    judge_few(s, ends)
 }
 
 // All refusals of a table; `ends` takes the ends of the terms of an accepted one.
-fn judge_table(s: &[u8], ends: &mut [u16]) -> Verdict
+fn judge_table(s: &[u8], ends: &mut [u16]) -> Result<usize, Fault>
     requires { min (length s.now / 16) max_records + 1 < length ends.old }
     ensures { Checked s.now ends.new (verdict_reply result) }
 {
     let n = s.len();
     if (n == 0) | (limits::MAX_BYTES < n) | (n % 16 != 0) {
-        return Verdict::Length;
+        return Err(Fault::Length);
     }
-    if n <= 512 {
-        return judge_least(s, ends);
-    }
-    if n <= 4096 {
-        return judge_few(s, ends);
-    }
-    judge_most(s, ends)
+    judge_records(s, ends)
 }
 
 // Whether bytes are a well-formed table, as `check` says, with the ends of its terms if it is.
@@ -184,7 +160,16 @@ pub fn check_ends(table: &[u8], ends: &mut [u16]) -> Reply
     requires { min (length table.now / 16) max_records + 1 < length ends.old }
     ensures { Checked table.now ends.new result }
 {
-    answer_of(judge_table(table, ends))
+    Reply::from(judge_table(table, ends))
+}
+
+// The same with room for so many ends of its own.
+fn check_within<const ROOM: usize>(table: &[u8]) -> Reply
+    requires { (min (length table.now / 16) max_records + 1 < ROOM) × (ROOM ≤ 65536) }
+    ensures { result ≡ check_reply (judge table.now) }
+{
+    let mut ends = [0u16; ROOM];
+    check_ends(table, &mut ends)
 }
 
 // Whether bytes are a well-formed table: 0, 0 and the number of records, or the refusal of 1 to 7, its place and 0.
@@ -192,13 +177,10 @@ pub fn check(table: &[u8]) -> Reply
     ensures { result ≡ check_reply (judge table.now) }
 {
     if table.len() <= 512 {
-        let mut least = [0u16; 34];
-        return check_ends(table, &mut least);
+        return check_within::<34>(table);
     }
     if table.len() <= 4096 {
-        let mut few = [0u16; 258];
-        return check_ends(table, &mut few);
+        return check_within::<258>(table);
     }
-    let mut ends = [0u16; limits::ENDS];
-    check_ends(table, &mut ends)
+    check_within::<{ limits::ENDS }>(table)
 }

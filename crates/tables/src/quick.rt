@@ -1,143 +1,95 @@
 // A quick test of tables that only ever accepts: refusals 2 to 7 do not apply. Its stack, lists and index are as large as the table asks, since their numbers are
 // cleared first.
-ghost use Rattle.std.specs.Prelude.{◌≡◌, ◌≢◌, true, ◌+◌, ◌/◌, ◌<◌, ◌≤◌, length};
-ghost use Rattle.index.specs.Index.{BlankIndex};
+ghost use Rattle.std.specs.Prelude.{◌≡◌, IfSome, true, ◌+◌, ◌/◌, ◌<◌, ◌≤◌, min, length, take};
+ghost use Rattle.cows.specs.Limits.{max_depth};
+ghost use Rattle.index.specs.Index.{Spread};
 ghost use Rattle.tables.specs.Verdict.{WholeRecords};
 ghost use Rattle.tables.specs.Quick.{Lent, Sound, Passes};
 
 use records::limits;
 use shapes::{Shape, shape_of};
 
-// The records by their ranges, then shape, depth and lists; a height of 0 if one of these is not right.
+// The records by their ranges, then shape, depth and lists; none if one of these is not right.
 fn sound(
     s: &[u8],
     ends: &mut [u16],
     stack: &mut [u32],
     marks: &mut [u16],
     users: &mut [u16],
-) -> Shape
+) -> Option<Shape>
     requires { WholeRecords s.now × Lent s.now ends.old stack.old marks.old users.old }
-    ensures { result.height ≢ 0 → Sound s.now ends.new marks.new result.marks users.new result.users }
+    ensures { IfSome result (λ h. (h.marks ≤ length marks.new) × (h.users ≤ length users.new) × Sound s.now ends.new (take h.marks marks.new) (take h.users users.new)) }
 {
     if !ranges::fields_right(s) {
-        return Shape {
-            height: 0,
-            marks: 0,
-            users: 0,
-        };
+        return None;
     }
     shape_of(s, ends, stack, marks, users)
 }
 
-// Scopes and patterns by the index given, and the guards of choices by the table reader.
-fn scoped(
+// Scopes and patterns by an index of N slots, and the guards of choices by the table reader.
+fn scoped<const N: usize>(
     s: &[u8],
     ends: &[u16],
     marks: &[u16],
-    m: usize,
     users: &[u16],
-    u: usize,
-    index: &mut [u64],
     shift: usize,
-    mask: usize,
 ) -> bool
-    requires { WholeRecords s.now × Sound s.now ends.now marks.now m users.now u × BlankIndex index.old shift mask }
+    requires { WholeRecords s.now × Sound s.now ends.now marks.now users.now × Spread N shift }
     ensures { result ≡ true → Passes s.now ends.now }
 {
-    if !index::indexed_right(s, ends, marks, m, users, u, index, shift, mask) {
+    if !index::indexed_right::<N>(s, ends, marks, users, shift) {
         return false;
     }
-    readers::read_on(s, ends, 0) == s.len() / 16
+    readers::read_on(s, ends, 0).is_ok()
 }
 
-// The same by an index of 8,192 entries.
-fn scoped_wide(
+// Tables of few records, by a stack, lists and an index of these sizes. Not inlined, so that its arrays stand in no other's frame.
+#[inline(never)]
+fn few_right<const STACK: usize, const LIST: usize, const SLOTS: usize>(
     s: &[u8],
-    ends: &[u16],
-    marks: &[u16],
-    m: usize,
-    users: &[u16],
-    u: usize,
+    ends: &mut [u16],
     shift: usize,
 ) -> bool
-    requires { WholeRecords s.now × Sound s.now ends.now marks.now m users.now u × (shift < 64) }
-    ensures { result ≡ true → Passes s.now ends.now }
-{
-    let mut index = [0u64; 8192];
-    scoped(s, ends, marks, m, users, u, &mut index, shift, 8191)
-}
-
-// Tables of up to 32 records, of up to 256, and of any number. Of the last, where the index gives up, a wide one is taken, with the atoms spread in one way and
-// then in another.
-pub fn least_right(s: &[u8], ends: &mut [u16]) -> bool
-    requires { WholeRecords s.now × (length s.now / 16 ≤ 32) × (length s.now / 16 + 1 < length ends.old) }
+    requires whole { WholeRecords s.now × (length s.now / 16 + 1 < length ends.old) }
+    requires room { (min (length s.now / 16) max_depth + 1 < STACK) × (STACK ≤ 65536) × (length s.now / 16 < LIST) × (LIST ≤ 65536) }
+    requires slots { Spread SLOTS shift }
     ensures { result ≡ true → Passes s.now ends.new }
 {
-    let mut stack = [0u32; 34];
-    let mut marks = [0u16; 33];
-    let mut users = [0u16; 33];
-    let shape = sound(s, ends, &mut stack, &mut marks, &mut users);
-    if shape.height == 0 {
+    let mut stack = [0u32; STACK];
+    let mut marks = [0u16; LIST];
+    let mut users = [0u16; LIST];
+    let Some(shape) = sound(s, ends, &mut stack, &mut marks, &mut users) else {
         return false;
-    }
-    let mut index = [0u64; 64];
-    scoped(
-        s,
-        ends,
-        &marks,
-        shape.marks,
-        &users,
-        shape.users,
-        &mut index,
-        4,
-        63,
-    )
+    };
+    scoped::<SLOTS>(s, ends, &marks[..shape.marks], &users[..shape.users], shift)
 }
 
-pub fn few_right(s: &[u8], ends: &mut [u16]) -> bool
-    requires { WholeRecords s.now × (length s.now / 16 ≤ 256) × (length s.now / 16 + 1 < length ends.old) }
-    ensures { result ≡ true → Passes s.now ends.new }
-{
-    let mut stack = [0u32; 258];
-    let mut marks = [0u16; 257];
-    let mut users = [0u16; 257];
-    let shape = sound(s, ends, &mut stack, &mut marks, &mut users);
-    if shape.height == 0 {
-        return false;
-    }
-    let mut index = [0u64; 512];
-    scoped(
-        s,
-        ends,
-        &marks,
-        shape.marks,
-        &users,
-        shape.users,
-        &mut index,
-        7,
-        511,
-    )
-}
-
-pub fn most_right(s: &[u8], ends: &mut [u16]) -> bool
+// Tables of any number of records: where the index gives up, a wide one is taken, with the atoms spread in one way and then in another. Not inlined either.
+#[inline(never)]
+fn most_right(s: &[u8], ends: &mut [u16]) -> bool
     requires { WholeRecords s.now × (length s.now / 16 + 1 < length ends.old) }
     ensures { result ≡ true → Passes s.now ends.new }
 {
     let mut stack = [0u32; 258];
     let mut marks = [0u16; limits::ENDS];
     let mut users = [0u16; limits::ENDS];
-    let shape = sound(s, ends, &mut stack, &mut marks, &mut users);
-    if shape.height == 0 {
+    let Some(shape) = sound(s, ends, &mut stack, &mut marks, &mut users) else {
         return false;
-    }
-    let m = shape.marks;
-    let u = shape.users;
-    let mut index = [0u64; 2048];
-    if scoped(s, ends, &marks, m, &users, u, &mut index, 9, 2047) {
-        return true;
-    }
-    if scoped_wide(s, ends, &marks, m, &users, u, 11) {
-        return true;
-    }
-    scoped_wide(s, ends, &marks, m, &users, u, 2)
+    };
+    let delimitations = &marks[..shape.marks];
+    let uses = &users[..shape.users];
+    scoped::<2048>(s, ends, delimitations, uses, 9)
+        || scoped::<8192>(s, ends, delimitations, uses, 11)
+        || scoped::<8192>(s, ends, delimitations, uses, 2)
+}
+
+// Tables of up to 32 records, of up to 256, and of any number: what the test of a small one does not accept is left to the next larger.
+pub fn right(s: &[u8], ends: &mut [u16]) -> bool
+    requires { WholeRecords s.now × (length s.now / 16 + 1 < length ends.old) }
+    ensures { result ≡ true → Passes s.now ends.new }
+{
+    let n = s.len() / 16;
+    ((n <= 32) && few_right::<34, 33, 64>(s, ends, 4))
+        || ((n <= 256) && few_right::<258, 257, 512>(s, ends, 7))
+        || most_right(s, ends)
 }

@@ -1,14 +1,11 @@
 -- Tallies added are the definition's, and their sums fit in a list of at most 10,000 moves.
 use mathlib.Core.Path.{◌≡◌, refl, sym, ap, ◌∙◌}
-use mathlib.Core.Option.{Option, none, some}
 use Prim.Native.Nat.{ℕ, ◌+◌, ◌<◌, ◌≤◌}
 use native.Mathlib.Omega.{arith}
 use Rattle.cows.specs.Moves.{Move, Kill, Communicate, Timeout, Elapse, Unfold, Extrude}
 use Rattle.cows.specs.Run.{counted, no_tally, sum, adds}
 use Rattle.cows.specs.Run as meaning
-use Rattle.cows.proofs.Basics.{same_some}
 use Rattle.proposals.specs.declared.Move as code
-use Rattle.proposals.specs.declared.Move.TheVariants.{None}
 use Rattle.proposals.specs.Proposals.{move_of}
 use Rattle.tally.specs.declared.Tally.{Tally}
 use Rattle.tally.specs.Counted.{tally_of, sum_of, SumsFit, Small}
@@ -30,12 +27,9 @@ pub sum-adds : (c : meaning.Tally) (l : ℕ) (v : Move) → sum_of (tally_of c) 
 unfolding sum_of sum counted
 sum-adds c l v = refl
 
--- what the code's move m, which is v, counts is what v adds
-pub counts_by : {m n : code.Move} (l : ℕ) {w : Move} {r : Tally} → m ≡ n → move_of n ≡ some w → r ≡ tally_of (adds l w) → (v : Move) → move_of m ≡ some v → r ≡ tally_of (adds l v)
-counts_by l e k h v z = h ∙ ap (λ x. tally_of (adds l x)) (same_some (sym k ∙ (sym (ap move_of e) ∙ z)))
-
-pub counts-none : {m : code.Move} (l : ℕ) {r : Tally} → m ≡ None → (v : Move) → move_of m ≡ some v → r ≡ tally_of (adds l v)
-counts-none l e v z = absurd (let w : ◌≡◌ {A = Option Move} none (some v) = sym (ap move_of e) ∙ z in let z : ◌≡◌ {A = ℕ} 0 1 = cc in omega arith)
+-- what the code's move m counts, which is n
+pub counts_by : {m n : code.Move} (l : ℕ) {r : Tally} → m ≡ n → r ≡ tally_of (adds l (move_of n)) → r ≡ tally_of (adds l (move_of m))
+counts_by l e h = h ∙ ap (λ x. tally_of (adds l (move_of x))) (sym e)
 
 -- The bounds: they hold of zeros, of what one move counts, and behind one move more; and before each of 10,000 moves there is room.
 pub zeros_small : (i : ℕ) → Small (tally_of no_tally) i

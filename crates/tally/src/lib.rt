@@ -2,16 +2,15 @@
 #![tactic(auto)]
 
 ghost use Rattle.std.specs.Prelude.{◌≡◌};
-ghost use mathlib.Core.Option.{some};
-ghost use Rattle.cows.specs.Moves as meaning;
 ghost use Rattle.cows.specs.Run.{counted, no_tally, adds};
 ghost use Rattle.proposals.specs.Proposals.{move_of};
 ghost use Rattle.tally.specs.Counted.{tally_of, sum_of, SumsFit};
 
 use proposals::Move;
+use std::ops::AddAssign;
 
 // Communications (meetings), kills (stops), timeouts (expiries), and the load copied by unfoldings.
-#[derive(Clone, Copy)]
+#[derive(Clone, Copy, PartialEq, Eq, Debug)]
 pub struct Tally {
     pub communications: u32,
     pub kills: u32,
@@ -31,16 +30,18 @@ fn counted(communications: u32, kills: u32, timeouts: u32, copied: u32) -> Tally
     }
 }
 
-// Before the first move, and of a refused one.
-pub fn zeros() -> Tally
-    ensures { result ≡ tally_of no_tally }
-{
-    counted(0, 0, 0, 0)
+// Before the first move, and of a refused one: zeros.
+impl Default for Tally {
+    ghost is_default = { λ c. c ≡ tally_of no_tally };
+
+    fn default() -> Tally {
+        counted(0, 0, 0, 0)
+    }
 }
 
 // What an accepted move counts that copies a load.
 pub fn counts(m: Move, load: u32) -> Tally
-    ensures { (v : meaning.Move) → move_of m ≡ some v → result ≡ tally_of (adds load v) }
+    ensures { result ≡ tally_of (adds load (move_of m)) }
 {
     match m {
         Move::Kill(_) => counted(0, 1, 0, load),
@@ -49,7 +50,6 @@ pub fn counts(m: Move, load: u32) -> Tally
         Move::Elapse(_) => counted(0, 0, 0, load),
         Move::Unfold(_) => counted(0, 0, 0, load),
         Move::Extrude(_) => counted(0, 0, 0, load),
-        Move::None => zeros(),
     }
 }
 
@@ -60,16 +60,17 @@ pub fn of_kills(kills: u32) -> Tally
     counted(0, kills, 0, 0)
 }
 
-// Two tallies as one.
-fn sum(c: Tally, d: Tally) -> Tally
-    requires { SumsFit c d }
-    ensures { result ≡ sum_of c d }
-{
-    Tally {
-        communications: c.communications + d.communications,
-        kills: c.kills + d.kills,
-        timeouts: c.timeouts + d.timeouts,
-        copied: c.copied + d.copied,
+// Another tally is added.
+impl AddAssign for Tally {
+    ghost can_add_assign = { SumsFit };
+
+    ghost add_assign_gives = { λ c one sum. sum ≡ sum_of c one };
+
+    fn add_assign(&mut self, one: Tally) {
+        self.communications += one.communications;
+        self.kills += one.kills;
+        self.timeouts += one.timeouts;
+        self.copied += one.copied;
     }
 }
 
@@ -78,6 +79,5 @@ pub fn count(t: &mut Tally, one: Tally)
     requires { SumsFit t.old one }
     ensures { t.new ≡ sum_of t.old one }
 {
-    let next = sum(*t, one);
-    *t = next;
+    *t += one;
 }

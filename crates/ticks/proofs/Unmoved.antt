@@ -1,6 +1,7 @@
 -- Ticks as the code takes them (specs/Unmoved): where no move is made the judgement is the definition's, with one law for each return. And both promises of `tick`.
-use Rattle.std.proofs.Common.{◌≡◌, ℕ, ◌*◌, ◌<◌, ◌≤◌, true, false, ltb, leb, ◌≢◌, List, length, take, drop, sym, refl, ap, ◌∙◌, subst, arith, ltb-false, ltb-true, lt-ltb, ne_eqb, le-leb, leb-true}
+use Rattle.std.proofs.Common.{◌≡◌, ℕ, ◌*◌, ◌<◌, ◌≤◌, true, false, ltb, leb, ◌≢◌, List, length, take, drop, sym, refl, ap, ◌∙◌, subst, arith, ltb-false, ltb-true, lt-ltb, le-leb, leb-true}
 use lib.Seq.{take-length}
+use Rattle.std.specs.Prelude.{Option, Some, None}
 use Rattle.cows.specs.Basics.{Result, refuse, accept, place_if, ◌>>=◌, ◌>>◌, forbid}
 use Rattle.cows.specs.Terms.{Term, size}
 use Rattle.cows.specs.Format.{AreBytes}
@@ -31,19 +32,24 @@ unmoved_elapsed table d room h = go (judge table) refl
         (λ b. bool_case _ (ltb longest_time d) (λ l. rw (e, b, l))
         (λ l. eq_case _ d 0 (λ z. rw (e, z)) (λ z. clash (true_and (lt-ltb 0 d (omega (arith, z))) (le-leb d longest_time (ltb-false longest_time d l))) h)))
 
-module _ (table : List ℕ) (n : ℕ) (out : List ℕ) (checked : Reply) (h : checked ≡ check_reply (judge table)) where
+-- no answer, so none
+pub missing : (n : Option ℕ) → ((m : ℕ) → n ≢ Some m) → n ≡ None
+missing None h = refl
+missing (Some m) h = absurd (h m refl)
+
+module _ (table : List ℕ) (n : Option ℕ) (out : List ℕ) (checked : Reply) (h : checked ≡ check_reply (judge table)) where
   -- 1 to 7
   pub table_unmoved : checked.answer ≢ 0 → Answers (judge_unmoved n table (length out)) out out checked
   unfolding judge_unmoved ◌>>=◌
   table_unmoved z = let (m, p, e, q) = check_refuses table checked h z in refused_answers m p (rw e) q
 
   module _ (bytes : AreBytes table) (z : checked.answer ≡ 0) where
-    -- the number
-    pub refused_unmoved : n ≢ 0 → (r : Reply) → r ≡ refusal n 0 → Answers (judge_unmoved n table (length out)) out out r
+    -- the ticks' own
+    pub refused_unmoved : (m : ℕ) → n ≡ Some m → (r : Reply) → r ≡ refusal m 0 → Answers (judge_unmoved n table (length out)) out out r
     unfolding judge_unmoved ◌>>=◌
-    refused_unmoved k r q = let (t, e, _) = check_accepts table checked h z in refused_answers n 0 (rw (e, ne_eqb n 0 k)) q
+    refused_unmoved m k r q = let (t, e, _) = check_accepts table checked h z in refused_answers m 0 (rw (e, k)) q
 
-    module _ (k : n ≡ 0) where
+    module _ (k : n ≡ None) where
       unmoved_fitted : (t : Term) → judge table ≡ accept t → judge_unmoved n table (length out) ≡ fitted (length out) t
       unfolding judge_unmoved ◌>>=◌
       unmoved_fitted t e = rw (e, k)
@@ -76,7 +82,7 @@ module _ (table : List ℕ) (earlier later d : ℕ) (out after : List ℕ) (r : 
       let (a, _) = and_true (ltb 0 d) (leb d longest_time) h in
       promised table earlier later out after r early (step_ticked table earlier later out after r early d g (ltb-true 0 d a) (time_fits d h) (subst (λ m. Stepped table m out after r) e s))
 
-  pub unmoved_promised : (n : ℕ) → n ≡ refused_with d → is_time d ≡ false → Answers (judge_unmoved n table (length out)) out after r
+  pub unmoved_promised : (n : Option ℕ) → n ≡ refused_with d → is_time d ≡ false → Answers (judge_unmoved n table (length out)) out after r
       → Ticked table earlier later out after r × TicksClaims table earlier later out after r
   unmoved_promised n e h a =
       promised table earlier later out after r early

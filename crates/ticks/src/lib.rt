@@ -10,7 +10,7 @@ ghost use Rattle.ticks.specs.Unmoved.{is_time, refused_with, judge_unmoved};
 
 use records::copying::copy;
 use std::num;
-use tables::{Reply, refusal};
+use tables::{Reply, accepted, refusal};
 
 // So many ticks and more are a clock gone back; and the longest time of a move.
 const GONE_BACK: u32 = 2147483648;
@@ -31,39 +31,35 @@ fn is_time(d: u32) -> bool
     (0 < d) & (d <= LONGEST_TIME)
 }
 
-// The refusal of so many ticks: 23 for a clock gone back, 24 for more than a move's time, else 0.
-fn refused_with(d: u32) -> u8
+// The answer that refuses so many ticks: 23 for a clock gone back, 24 for more than a move's time.
+fn refused_with(d: u32) -> Option<u8>
     ensures { result ≡ refused_with d }
 {
     if GONE_BACK <= d {
-        return 23;
+        return Some(23);
     }
     if LONGEST_TIME < d {
-        return 24;
+        return Some(24);
     }
-    0
+    None
 }
 
-// No move is made: the table's refusals, then the one with this number, unless it is 0; then 21, or the table as it came.
-fn make_no_move(table: &[u8], answer: u8, out: &mut [u8]) -> Reply
-    ensures { Answers (judge_unmoved answer table.now (length out.old)) out.old out.new result }
+// No move is made: the table's refusals, then the ticks' own; then 21, or the table as it came.
+fn make_no_move(table: &[u8], refused: Option<u8>, out: &mut [u8]) -> Reply
+    ensures { Answers (judge_unmoved refused table.now (length out.old)) out.old out.new result }
 {
     let checked = tables::check(table);
     if checked.answer != 0 {
         return checked;
     }
-    if answer != 0 {
+    if let Some(answer) = refused {
         return refusal(answer, 0);
     }
     if out.len() < table.len() {
         return refusal(21, 0);
     }
     copy(table, 0, table.len(), out, 0);
-    Reply {
-        answer: 0,
-        place: 0,
-        records: checked.records,
-    }
+    accepted(checked.records)
 }
 
 // The six bytes of the time move by d.
@@ -80,6 +76,7 @@ pub fn tick(table: &[u8], earlier: u32, later: u32, out: &mut [u8]) -> Reply
 {
     let d = ticks_between(earlier, later);
     if is_time(d) {
+        // A cast and no `try_from`: after the test there is no other case.
         let m = time_move(d as u16);
         return stepper::step(table, &m, out);
     }

@@ -21,9 +21,7 @@ use Rattle.cows.proofs.Stands.{looks, prefixed_is, wanted_is, wanted-live, live-
 use Rattle.records.proofs.StandsIn.{holds_word}
 use Rattle.ways.specs.Known.{Table}
 use Rattle.ways.specs.Ways.{start_of, live_there, LiveAt}
-use Rattle.plans.specs.declared.Judgement.TheVariants.{Allowed}
-use Rattle.plans.specs.declared.Plan.{Plan}
-use Rattle.plans.specs.Plans.{Planned, Asks}
+use Rattle.plans.specs.Plans.{Allowed, Asks}
 use Rattle.plans.specs.Cutting.{Span, Room, cut_of}
 use Rattle.plans.proofs.Planning.{planned_allowed, absent}
 use Rattle.plans.proofs.Continuing.{continue_limits, span, left-size, cut_room, cut-bytes}
@@ -65,12 +63,12 @@ module _ (s : List ℕ) (t : Term) (a : ℕ) (h : LiveAt s t a 4) where
     pub ripe_span : Span ends (length s / 16) a from
     ripe_span = span s ends t z a (wait wait_at_lem.0) h.inside wait_at_lem.1 from f
 
-    pub ripe_planned : (r : Plan) (n : ℕ) → word s (16 * a + 14) ≡ 0 → r.judgement ≡ Allowed n → n ≡ length s / 16 - (get_or ends from 0 - from) + (get_or ends a 0 - a - 1)
-        → r.from ≡ from → Planned (timeout_at t a) (start_of a (way_to t a)) r
-    ripe_planned r n e j k q =
+    pub ripe_planned : (n : ℕ) → word s (16 * a + 14) ≡ 0 → n ≡ length s / 16 - (get_or ends from 0 - from) + (get_or ends a 0 - a - 1)
+        → Allowed (timeout_at t a) (start_of a (way_to t a)) (record { records = n; from = from })
+    ripe_planned n e k =
         let u = wait wait_at_lem.0 in
-        planned_allowed r (continue t a) n j (ripe e) (continue_limits t a u h.inside wait_at_lem.1 z.within)
-        (k ∙ sym (left-size s ends t z a u h.inside wait_at_lem.1 from f)) (q ∙ f)
+        planned_allowed (continue t a) (ripe e) _ (continue_limits t a u h.inside wait_at_lem.1 z.within)
+        (k ∙ sym (left-size s ends t z a u h.inside wait_at_lem.1 from f)) f
 
 -- what an allowed move had
 pub allowed_wait : (t : Term) (a : ℕ) (r : Term) → timeout_at t a ≡ accept r → (i : ℕ) × (a < size t) × (sub t a ≡ under (wait i) (below (sub t a))) × (r ≡ continue t a)

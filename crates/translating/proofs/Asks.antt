@@ -1,6 +1,7 @@
 -- What the pass asks of the parts of an expression, from what it asks of the whole (specs/Writing, Writable).
 use mathlib.Core.Path.{◌≡◌, sym, subst, ◌∙◌}
 use mathlib.Core.Logic.{◌≢◌}
+use mathlib.Core.Bool.{Bool}
 use mathlib.Core.List.{List}
 use Prim.Native.Nat.{ℕ, ◌+◌, ◌*◌, ◌≤◌, ◌<◌}
 use native.Mathlib.Omega.{arith}
@@ -17,10 +18,9 @@ use Rattle.translating.specs.declared.Pass.{Pass}
 use Rattle.translating.proofs.Steps.{pass, ends_spent}
 
 -- what is asked of the expression e
-pub record AskedOf (s used : List ℕ) (at : Pass) (out : List ℕ) (e : Orc) : Type 0 where
+pub record AskedOf (s : List ℕ) (used : List Bool) (at : Pass) (out : List ℕ) (e : Orc) : Type 0 where
   pub stands : ScriptAt s at.place e
   pub room : at.byte + 16 * out_size e ≤ length out
-  pub marks : length used ≡ 4096
   pub start : 1 ≤ at.value
   pub values : spent used at.value + 2 * records_in e < 4096
   pub first : first_label ≤ at.label
@@ -31,12 +31,11 @@ unfolding out_size
 size_pos (act x) = omega arith
 size_pos (composed c f g) = omega (arith, size_pos f)
 
-pub writable : {s used : List ℕ} {at : Pass} {out : List ℕ} (e : Orc) → AskedOf s used at out e → Writable s used at out
+pub writable : {s : List ℕ} {used : List Bool} {at : Pass} {out : List ℕ} (e : Orc) → AskedOf s used at out e → Writable s used at out
 writable e a = record {
   expression = e;
   stands = a.stands;
   room = a.room;
-  marks = a.marks;
   start = a.start;
   values = a.values;
   first = a.first;
@@ -45,9 +44,9 @@ writable e a = record {
   space = omega (arith, a.room, size_pos e);
 }
 
-module _ {s used : List ℕ} {at : Pass} {out : List ℕ} where
+module _ {s : List ℕ} {used : List Bool} {at : Pass} {out : List ℕ} where
   pub asked : (w : Writable s used at out) → AskedOf s used at out w.expression
-  asked w = record { stands = w.stands; room = w.room; marks = w.marks; start = w.start; values = w.values; first = w.first; labels = w.labels }
+  asked w = record { stands = w.stands; room = w.room; start = w.start; values = w.values; first = w.first; labels = w.labels }
 
   -- by the kind of the record there
   pub asked-parallel : get_or s (8 * at.place) 0 ≡ 3 → Writable s used at out → (f : Orc) × (g : Orc) × AskedOf s used at out (composed symmetric f g)
@@ -86,7 +85,6 @@ module _ {s used : List ℕ} {at : Pass} {out : List ℕ} where
     left-asked room = writable f (record {
       stands = part_left c f g a.stands;
       room = room;
-      marks = a.marks;
       start = one;
       values = omega (arith, a.values);
       first = a.first;
@@ -105,7 +103,6 @@ module _ {s used : List ℕ} {at : Pass} {out : List ℕ} where
           writable g (record {
             stands = part_right c f g l.place z.next a.stands;
             room = room;
-            marks = a.marks;
             start = omega (arith, z.start);
             values = omega (arith, a.values, z.values);
             first = omega (arith, a.first, z.labels);

@@ -1,5 +1,6 @@
 -- What the pass gives at a record of each kind, from what it gives at the record's parts (specs/Writing, Writes; proofs/Steps).
 use mathlib.Core.Path.{◌≡◌, sym, ap, subst, ◌∙◌}
+use mathlib.Core.Bool.{Bool}
 use mathlib.Core.List.{List}
 use Prim.Native.Nat.{ℕ, ◌+◌, ◌*◌, ◌≤◌, ◌<◌}
 use native.Mathlib.Omega.{arith}
@@ -18,7 +19,7 @@ use Rattle.translating.specs.Writing.{Wrote, Writes}
 use Rattle.translating.specs.declared.Pass.{Pass}
 use Rattle.translating.proofs.Steps.{pass, wrote_act, wrote_symmetric, wrote_sequential, wrote_asymmetric}
 
-module _ {s used : List ℕ} {at : Pass} {p o : ℕ} {out after : List ℕ} where
+module _ {s : List ℕ} {used : List Bool} {at : Pass} {p o : ℕ} {out after : List ℕ} where
   pub act_gives : get_or s (8 * at.place) 0 < 2 → ((x : Act) → ScriptAt s at.place (act x) → after ≡ put out at.byte (record16 (basic (sends p o x))))
       → Writes s used at p o out after (pass (at.place + 1) (at.byte + 16) at.value at.label)
   act_gives k h = record { past = omega arith; done = go }

@@ -1,6 +1,6 @@
 -- The steps of the pass (specs/Writing): what is written for each kind of record, from what is written for its parts.
 use mathlib.Core.Path.{◌≡◌, refl, sym, ap, ◌∙◌}
-use mathlib.Core.Bool.{true}
+use mathlib.Core.Bool.{Bool, true}
 use mathlib.Core.List.{List, [], ◌∷◌, ◌++◌, append_assoc}
 use Prim.Native.Nat.{ℕ, ◌+◌, ◌*◌, ◌≤◌, ◌<◌}
 use native.Mathlib.Omega.{arith}
@@ -32,18 +32,18 @@ abbrev pub pass : (place byte value label : ℕ) → Pass
 pass n j v k = record { place = n; byte = j; value = v; label = k }
 
 -- as many bytes as the expression's extent says
-wrote_length : {used : List ℕ} {e : Orc} {at : Pass} {p o : ℕ} {out after : List ℕ} {r : Pass} (w : Wrote used e at p o out after r) → length (encode w.term) ≡ 16 * out_size e
+wrote_length : {used : List Bool} {e : Orc} {at : Pass} {p o : ℕ} {out after : List ℕ} {r : Pass} (w : Wrote used e at p o out after r) → length (encode w.term) ≡ 16 * out_size e
 wrote_length w = length-encode w.term ∙ ap (λ n. 16 * n) (size_translates w.clauses)
 
 -- the next value without a mark is a value
-next-value : {used : List ℕ} {v n : ℕ} → 1 ≤ v → NextSpare used v n → value n ≡ true
+next-value : {used : List Bool} {v n : ℕ} → 1 ≤ v → NextSpare used v n → value n ≡ true
 next-value {n = n} l f = (in-values n (omega (arith, f.from)) (omega (arith, f.below))).0
 
 -- two values are taken
-pub ends_spent : {used : List ℕ} {v q r : ℕ} → NextSpare used v q → NextSpare used (q + 1) r → spent used (r + 1) ≤ spent used v + 2
+pub ends_spent : {used : List Bool} {v q r : ℕ} → NextSpare used v q → NextSpare used (q + 1) r → spent used (r + 1) ≤ spent used v + 2
 ends_spent partner operation = omega (arith, partner.few, operation.few)
 
-module _ (used : List ℕ) (p o : ℕ) where
+module _ (used : List Bool) (p o : ℕ) where
   by_act : (x : Act) → Translates (act x) p o (leaf (sends p o x)) []
   unfolding sends
   by_act nothing = by_nothing

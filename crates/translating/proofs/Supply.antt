@@ -6,7 +6,7 @@ use Prim.Native.Nat.{ℕ, ◌+◌, ◌≤◌, ◌<◌}
 use native.Mathlib.Omega.{arith}
 use lib.Dec.{eqb}
 use borrow.Author.Tests.{eq-eqb, ne_eqb}
-use Rattle.cows.specs.Basics.{any, member, one_if}
+use Rattle.cows.specs.Basics.{any, member}
 use Rattle.cows.specs.Terms.{value, label}
 use Rattle.cows.specs.Moves.{Substitution}
 use Rattle.cows.specs.Allows.{SameSet, Smallest, Renames, finished, renames}
@@ -17,12 +17,12 @@ use Rattle.spares.specs.Spares.{Holding, NextSpare}
 use Rattle.translating.specs.Writing.{Supplied, none_left, a_value, a_label}
 
 -- one supply after another is one
-pub supplied_append : {used : List ℕ} {v k v₁ k₁ v₂ k₂ : ℕ} {ds es ms ns : List ℕ} → Supplied used v k ds ms v₁ k₁ → Supplied used v₁ k₁ es ns v₂ k₂ → Supplied used v k (ds ++ es) (ms ++ ns) v₂ k₂
+pub supplied_append : {used : List Bool} {v k v₁ k₁ v₂ k₂ : ℕ} {ds es ms ns : List ℕ} → Supplied used v k ds ms v₁ k₁ → Supplied used v₁ k₁ es ns v₂ k₂ → Supplied used v k (ds ++ es) (ms ++ ns) v₂ k₂
 supplied_append none_left q = q
 supplied_append (a_value f p) q = a_value f (supplied_append p q)
 supplied_append (a_label p) q = a_label (supplied_append p q)
 
-labels_rise : {used : List ℕ} {v k v' k' : ℕ} {ds ns : List ℕ} → Supplied used v k ds ns v' k' → k ≤ k'
+labels_rise : {used : List Bool} {v k v' k' : ℕ} {ds ns : List ℕ} → Supplied used v k ds ns v' k' → k ≤ k'
 labels_rise none_left = omega arith
 labels_rise (a_value f p) = labels_rise p
 labels_rise (a_label p) = omega (arith, labels_rise p)
@@ -64,22 +64,13 @@ like_value a h l = alike_sets true false false a 1 (in-values a h l) (in-values 
 like_label : (a : ℕ) → 49152 ≤ a → a < 65536 → SameSet a 49152
 like_label a h l = alike_sets false false true a 49152 (in_labels a h l) (in_labels 49152 (omega arith) (omega arith))
 
--- a mark tells what the input holds
-marked : (b : Bool) → (one_if b ≡ 0 → ⊥) → b ≡ true
-marked true h = refl
-marked false h = absurd (h refl)
-
-unmarked : (b : Bool) → one_if b ≡ 0 → b ≡ false
-unmarked true h = absurd (omega arith)
-unmarked false h = refl
-
-module _ (used input : List ℕ) (holds : Holding used input) where
+module _ (used : List Bool) (input : List ℕ) (holds : Holding used input) where
   -- The next value without a mark is the smallest that is not taken; and then it is taken.
   module _ (taken : List ℕ) (v k n : ℕ) (c : TakenUpTo input taken v k) (f : NextSpare used v n) where
     held-between : (a : ℕ) → v ≤ a → a < n → member a taken ≡ true
     held-between a h l =
         c.values_above a h (omega (arith, f.below))
-        ∙ marked (member a input) (λ e. f.passed a h l (holds.is a (omega (arith, f.below)) ∙ e))
+        ∙ (sym (holds.is a (omega (arith, f.below))) ∙ f.passed a h l)
 
     taken-below : (a : ℕ) → 1 ≤ a → a < n → member a taken ≡ true
     taken-below a h l = lt_case (member a taken ≡ true) a v (c.values_below a h) (λ q. held-between a q l)
@@ -88,7 +79,7 @@ module _ (used input : List ℕ) (holds : Holding used input) where
     unfolding value
     next_smallest = record {
       set = like_value n (omega (arith, c.values_start, f.from)) (omega (arith, f.below));
-      free = c.values_above n f.from (omega (arith, f.below)) ∙ unmarked (member n input) (sym (holds.is n f.below) ∙ f.free);
+      free = c.values_above n f.from (omega (arith, f.below)) ∙ (sym (holds.is n f.below) ∙ f.free);
       least = λ a s m. lt_case (n ≤ a) a n (λ l. clash (taken-below a (value-range a s.values).0 l) m) (λ l. l);
     }
 
@@ -128,7 +119,7 @@ pub record ChosenAs (taken ds ns : List ℕ) : Type 0 where
   pub smallest : Renames taken ds choice
   pub are : seconds choice ≡ ns
 
-module _ (used input : List ℕ) (holds : Holding used input) (none : (a : ℕ) → label a ≡ true → member a input ≡ false) where
+module _ (used : List Bool) (input : List ℕ) (holds : Holding used input) (none : (a : ℕ) → label a ≡ true → member a input ≡ false) where
   pub supplied_chosen : {v k v' k' : ℕ} {ds ns : List ℕ} → Supplied used v k ds ns v' k' → k' ≤ 65536 → (taken : List ℕ) → TakenUpTo input taken v k → ChosenAs taken ds ns
   supplied_chosen none_left l taken c = record { choice = []; smallest = finished; are = refl }
   supplied_chosen (a_value {v = v} {k = k} {n = n} f p) l taken c =

@@ -1,7 +1,7 @@
 -- The whole translation is written (translating, specs/Writing): the pass may start at the first record with the first value and the first label, and what it leaves is
 -- the translation.
 use mathlib.Core.Path.{◌≡◌, sym, ap, subst, ◌∙◌}
-use mathlib.Core.Bool.{true, false}
+use mathlib.Core.Bool.{Bool, true, false}
 use mathlib.Core.List.{List, [], ◌∷◌, ◌++◌}
 use Prim.Native.Nat.{ℕ, ◌+◌, ◌*◌, ◌≤◌}
 use native.Mathlib.Omega.{arith}
@@ -31,16 +31,15 @@ use Rattle.translating.proofs.Supply.{taken_start, supplied_chosen}
 use Rattle.translator.specs.Judging.{KnownScript}
 
 -- the marks from place 1 on are no more than all
-total_rest : (used : List ℕ) → total (drop 1 used) ≤ total used
+total_rest : (used : List Bool) → total (drop 1 used) ≤ total used
 unfolding total
 total_rest [] = omega arith
 total_rest (x ∷ xs) = omega arith
 
-pub start_writable : {s used out : List ℕ} (p o : ℕ) (e : Orc) → ScriptOf s e → records_in e ≤ 512 → 16 * out_size e ≤ length out → Holding used (taken_by p o e) → total used ≤ 2 + 3 * records_in e → Writable s used (pass 0 0 1 49152) out
+pub start_writable : {s out : List ℕ} {used : List Bool} (p o : ℕ) (e : Orc) → ScriptOf s e → records_in e ≤ 512 → 16 * out_size e ≤ length out → Holding used (taken_by p o e) → total used ≤ 2 + 3 * records_in e → Writable s used (pass 0 0 1 49152) out
 start_writable {used = used} p o e h few room holds l = writable e (record {
   stands = whole_at e h.is;
   room = omega arith;
-  marks = holds.all;
   start = omega arith;
   values = omega (arith, total_rest used);
   first = omega arith;
@@ -87,7 +86,7 @@ taken_unlabelled : (p o : ℕ) (e : Orc) → RightOrc e → value p ≡ true →
 taken_unlabelled p o e r x y a h = not_so (λ m. clash {A = ⊥} h (one_more p _ (value-label p x) (one_more o _ (value-label o y) (no_labels e r)) a m))
 
 -- What the pass wrote from there is the translation.
-module _ {s used out after : List ℕ} {p o : ℕ} {r : Pass} (e : Orc) (h : ScriptOf s e) (few : records_in e ≤ 512) (x : value p ≡ true) (y : value o ≡ true) (holds : Holding used (taken_by p o e)) where
+module _ {s out after : List ℕ} {used : List Bool} {p o : ℕ} {r : Pass} (e : Orc) (h : ScriptOf s e) (few : records_in e ≤ 512) (x : value p ≡ true) (y : value o ≡ true) (holds : Holding used (taken_by p o e)) where
   term_is : (w : Wrote used e (pass 0 0 1 49152) p o out after r) → w.term ≡ translation p o e
   term_is w =
       let c = supplied_chosen used (taken_by p o e) holds (taken_unlabelled p o e h.right x y) w.supplied (omega (arith, w.labels)) (taken_by p o e) (taken_start (taken_by p o e)) in

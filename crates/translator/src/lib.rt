@@ -9,33 +9,32 @@ ghost use Rattle.orc.specs.Expressions.{Orc};
 ghost use Rattle.orc.specs.Translation.{translation};
 ghost use Rattle.extents.specs.Extents.{out_size};
 ghost use Rattle.scripts.specs.Standing.{ScriptOf};
-ghost use Rattle.translator.specs.Judging.{KnownScript, RightScript, judge_output, judge_bindings, judge_nesting, Translated, OrcClaims};
+ghost use Rattle.translator.specs.Judging.{KnownScript, RightScript, judge_output, judge_nesting, Translated, OrcClaims};
 
-use nesting::find_misplaced;
-use records::{Found, limits};
-use tables::{Reply, refusal};
+use records::limits;
+use scripts::Endpoint;
+use tables::{Reply, accepted, refusal};
 use translating::Pass;
 
 // Writes the translation, for which there is room.
-fn write_translation(script: &[u8], partner: u16, operation: u16, out: &mut [u8])
-    requires { KnownScript script.now partner operation × ((e : Orc) → ScriptOf script.now e → 16 * out_size e ≤ length out.old) }
-    ensures { (e : Orc) → ScriptOf script.now e → out.new ≡ put out.old 0 (encode (translation partner operation e)) }
+fn write_translation(script: &[u8], to: Endpoint, out: &mut [u8])
+    requires { KnownScript script.now to.partner to.operation × ((e : Orc) → ScriptOf script.now e → 16 * out_size e ≤ length out.old) }
+    ensures { (e : Orc) → ScriptOf script.now e → out.new ≡ put out.old 0 (encode (translation to.partner to.operation e)) }
 {
-    let mut used = [0u8; spares::SPARES];
-    spares::hold_all(script, partner, operation, &mut used);
+    let used = spares::held(script, to);
     let start = Pass {
         place: 0,
         byte: 0,
         value: 1,
         label: limits::FIRST_LABEL,
     };
-    translating::write(script, &used, start, partner, operation, out);
+    translating::write(script, &used, start, to, out);
 }
 
 // Refusals 20 and 21 of a script without other refusals, or its translation.
-fn translate_fitting(script: &[u8], partner: u16, operation: u16, out: &mut [u8]) -> Reply
-    requires { KnownScript script.now partner operation }
-    ensures { (e : Orc) → ScriptOf script.now e → Answers (judge_output e partner operation (length out.old)) out.old out.new result }
+fn translate_fitting(script: &[u8], to: Endpoint, out: &mut [u8]) -> Reply
+    requires { KnownScript script.now to.partner to.operation }
+    ensures { (e : Orc) → ScriptOf script.now e → Answers (judge_output e to.partner to.operation (length out.old)) out.old out.new result }
 {
     let extent = extents::measure(script, 0);
     if (limits::MAX_RECORDS < extent.records) | (limits::MAX_DEPTH < extent.depth) {
@@ -44,36 +43,22 @@ fn translate_fitting(script: &[u8], partner: u16, operation: u16, out: &mut [u8]
     if out.len() < 16 * extent.records {
         return refusal(21, 0);
     }
-    write_translation(script, partner, operation, out);
-    Reply {
-        answer: 0,
-        place: 0,
-        records: extent.records,
-    }
-}
-
-// Refusals from 32 on of the script of an expression.
-fn translate_bound(script: &[u8], partner: u16, operation: u16, out: &mut [u8]) -> Reply
-    requires { KnownScript script.now partner operation }
-    ensures { (e : Orc) → ScriptOf script.now e → Answers (judge_bindings e partner operation (length out.old)) out.old out.new result }
-{
-    let misbound = bindings::find_misbound(script);
-    match misbound {
-        Found::At(p) => refusal(32, p),
-        Found::Nothing => translate_fitting(script, partner, operation, out),
-    }
+    write_translation(script, to, out);
+    accepted(extent.records)
 }
 
 // Refusals from 31 on of right records.
-fn translate_nested(script: &[u8], partner: u16, operation: u16, out: &mut [u8]) -> Reply
-    requires { RightScript script.now partner operation }
-    ensures { Answers (judge_nesting script.now partner operation (length out.old)) out.old out.new result }
+fn translate_right(script: &[u8], to: Endpoint, out: &mut [u8]) -> Reply
+    requires { RightScript script.now to.partner to.operation }
+    ensures { Answers (judge_nesting script.now to.partner to.operation (length out.old)) out.old out.new result }
 {
-    let misplaced = find_misplaced(script);
-    match misplaced {
-        Found::At(p) => refusal(31, p),
-        Found::Nothing => translate_bound(script, partner, operation, out),
+    if let Some(p) = nesting::find_misplaced(script) {
+        return refusal(31, p);
     }
+    if let Some(p) = bindings::find_misbound(script) {
+        return refusal(32, p);
+    }
+    translate_fitting(script, to, out)
 }
 
 // The table of an Orc script: 0, 0 and its records, which the output then begins with, or the refusal of 30 to 32, 20 or 21, its place and 0. Reply and every output byte
@@ -86,9 +71,8 @@ pub fn translate(script: &[u8], partner: u16, operation: u16, out: &mut [u8]) ->
     if wrong_length | !(scripts::in_values(partner) & scripts::in_values(operation)) {
         return refusal(30, 0);
     }
-    let wrong = scripts::first_malformed(script);
-    if wrong != n / 8 {
-        return refusal(30, wrong);
+    if let Some(p) = scripts::first_malformed(script) {
+        return refusal(30, p);
     }
-    translate_nested(script, partner, operation, out)
+    translate_right(script, Endpoint { partner, operation }, out)
 }

@@ -38,9 +38,8 @@ use Rattle.ways.proofs.KnownTables.{way_short}
 use Rattle.depths.proofs.Deep.{standing}
 use Rattle.renaming.specs.Names.{Body}
 use Rattle.renaming.proofs.Copies.{within-body}
-use Rattle.plans.specs.declared.Judgement.TheVariants.{Allowed, Large}
-use Rattle.plans.specs.declared.Plan.{Plan}
-use Rattle.plans.specs.Plans.{Planned, Asks}
+use Rattle.plans.specs.declared.Refusal.TheVariants.{Large}
+use Rattle.plans.specs.Plans.{refusal_of, limited, Allowed, Asks}
 use Rattle.plans.proofs.Planning.{within_limits, planned_allowed, planned_large, absent}
 
 -- a copy has as many records as the body, and is as deep
@@ -152,19 +151,19 @@ module _ (s : List ℕ) (t : Term) (a : ℕ) (h : LiveAt s t a 9) where
     deep_is : b ≡ ltb (255 - k) (depth (sub t a))
     deep_is = f (sub t a) (holds_stands s t a h.holds h.inside)
 
-    pub unfold_allowed : (r : Plan) → (ltb 2048 n || b) ≡ false → r.judgement ≡ Allowed n → r.from ≡ a → Planned (unfold_at t a) a r
-    unfold_allowed r o j p =
+    pub unfold_allowed : (ltb 2048 n || b) ≡ false → Allowed (unfold_at t a) a (record { records = n; from = a })
+    unfold_allowed o =
         let (x, y) = or_false (ltb 2048 n) b o in
         let small : size (after_unfold t a) ≤ 2048 = omega (arith, size_is, ltb-false 2048 n x) in
         let shallow = unfold_shallow t a h.inside replication_at z.within (omega (arith, short, ltb-false (255 - k) _ (sym deep_is ∙ y))) in
-        planned_allowed r (after_unfold t a) n j unfolds (within_limits (after_unfold t a) small shallow) size_is p
+        planned_allowed (after_unfold t a) unfolds _ (within_limits (after_unfold t a) small shallow) size_is refl
 
-    pub unfold_large : (r : Plan) → (ltb 2048 n || b) ≡ true → r.judgement ≡ Large → r.from ≡ a → Planned (unfold_at t a) a r
+    pub unfold_large : (ltb 2048 n || b) ≡ true → refusal_of Large ≡ limited (unfold_at t a)
     unfolding over_limits
-    unfold_large r o j p =
-        planned_large r (after_unfold t a) j unfolds
+    unfold_large o =
+        planned_large (after_unfold t a) unfolds
         (or_both {a = ltb 2048 n} (λ x. lt-ltb 2048 (size (after_unfold t a)) (omega (arith, size_is, ltb-true 2048 n x)))
-        (λ y. lt-ltb 256 (depth (after_unfold t a)) (unfold_deep t a h.inside replication_at (omega (arith, short, ltb-true (255 - k) _ (sym deep_is ∙ y))))) o) p
+        (λ y. lt-ltb 256 (depth (after_unfold t a)) (unfold_deep t a h.inside replication_at (omega (arith, short, ltb-true (255 - k) _ (sym deep_is ∙ y))))) o)
 
 -- what an allowed move had
 pub allowed_replication : (t : Term) (a : ℕ) (r : Term) → unfold_at t a ≡ accept r → (a < size t) × (sub t a ≡ under replication (below (sub t a))) × (r ≡ after_unfold t a)

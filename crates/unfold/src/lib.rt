@@ -7,36 +7,31 @@ ghost use Rattle.cows.specs.Kinds.{join};
 ghost use Rattle.cows.specs.Format.{record16};
 ghost use Rattle.cows.specs.Moves.{unfold_at};
 ghost use Rattle.records.specs.Rewrites.{put};
-ghost use Rattle.ways.specs.Known.{Table, Known};
+ghost use Rattle.ways.specs.TermOf.{TermOf};
 ghost use Rattle.plans.specs.Plans.{Planned, Asks, Gives};
 
 use depths::deeper;
-use plans::{Judgement, Plan, refused};
+use plans::{Plan, Refusal};
 use records::copying::copy;
-use records::{kinds, limits, wide16};
-use ways::place_at;
+use records::{kinds, limits};
+use ways::KnownTable;
 
 // The move on the replication at place a, which is the place of its plan. The records on the way to it and the parallel then stand above it.
-pub fn judge(s: &[u8], ends: &[u16], a: usize) -> Plan
-    requires { Known s.now ends.now }
-    ensures { (t : Term) → Table s.now ends.now t → Planned (unfold_at t a) a result }
+pub fn judge(table: KnownTable, a: usize) -> Result<Plan, Refusal>
+    ensures { (t : Term) → TermOf table.entry t → Planned (unfold_at t a) a result }
 {
-    let place = place_at(s, ends, a, kinds::REPLICATION);
-    if !place.live {
-        return refused(Judgement::Absent(a));
-    }
-    let size = s.len() / 16 + (wide16(ends[a]) - a);
+    let Some(place) = table.place_at(a, kinds::REPLICATION) else {
+        return Err(Refusal::Absent(a));
+    };
+    let size = table.bytes.len() / 16 + (usize::from(table.ends[a]) - a);
     let room = limits::MAX_DEPTH - 1 - place.above;
-    if (limits::MAX_RECORDS < size) | deeper(s, ends, a, room) {
-        return Plan {
-            judgement: Judgement::Large,
-            from: a,
-        };
+    if (limits::MAX_RECORDS < size) | deeper(table.bytes, table.ends, a, room) {
+        return Err(Refusal::Large);
     }
-    Plan {
-        judgement: Judgement::Allowed(size),
+    Ok(Plan {
+        records: size,
         from: a,
-    }
+    })
 }
 
 // Writes the record of a parallel at byte `at`.
@@ -50,15 +45,15 @@ fn put_parallel(dst: &mut [u8], at: usize)
 }
 
 // Its successor: what stands ahead of the replication, the parallel, a copy of the body, and all from the replication on.
-pub fn write(s: &[u8], ends: &[u16], a: usize, out: &mut [u8])
-    requires { Asks (λ t. unfold_at t a) (λ t. a) s.now ends.now a out.old }
-    ensures { Gives (λ t. unfold_at t a) s.now ends.now out.old out.new }
+pub fn write(table: KnownTable, a: usize, out: &mut [u8])
+    requires { Asks (λ t. unfold_at t a) (λ t. a) table.bytes.now table.ends.now a out.old }
+    ensures { Gives (λ t. unfold_at t a) table.entry.bytes.now table.entry.ends.now out.old out.new }
 {
-    let end = wide16(ends[a]);
+    let end = usize::from(table.ends[a]);
     let left = 16 * (a + 1);
     let right = 16 * end;
-    copy(s, 0, 16 * a, out, 0);
+    copy(table.bytes, 0, 16 * a, out, 0);
     put_parallel(out, 16 * a);
-    renaming::write_copy(s, a + 1, end, out, left);
-    copy(s, 16 * a, s.len() - 16 * a, out, right);
+    renaming::write_copy(table.bytes, a + 1, end, out, left);
+    copy(table.bytes, 16 * a, table.bytes.len() - 16 * a, out, right);
 }

@@ -8,16 +8,17 @@ use Prim.Native.Nat.{ℕ, suc, ◌+◌, ◌*◌, ◌-◌, ◌≤◌, ◌<◌}
 use native.Mathlib.Omega.{arith}
 use native.Mathlib.Numerals.{add-one}
 use lib.Dec.{eqb}
-use lib.ListN.{length, get_or}
+use lib.ListN.{length, get_or, length-append}
 use borrow.Author.Tests.{eq-eqb, ne_eqb}
 use Rattle.cows.specs.Basics.{every}
 use Rattle.cows.specs.Terms.{Term, leaf, under, both, size, delimits_at}
 use Rattle.cows.specs.Kinds.{kind_of, live_kind}
 use Rattle.cows.specs.Places.{Frame, inside, left_of, right_of, plug, Spot, spot_at, way_to, sub}
 use Rattle.cows.specs.Active.{live, on_kind}
-use Rattle.cows.specs.Records.{At}
+use Rattle.cows.specs.Records.{At, ahead, opens}
 use Rattle.cows.specs.Within.{Formed}
-use Rattle.cows.proofs.Basics.{true_and, found_some}
+use Rattle.cows.proofs.Basics.{true_and, found_some, lt_case}
+use Rattle.cows.proofs.Format.{length-nodes}
 use Rattle.cows.proofs.Rows.{plug-kind}
 use Rattle.cows.proofs.Places.{descend-first, spot_under, spot_left, spot_right}
 use Rattle.cows.proofs.Ways.{length-ahead}
@@ -30,6 +31,7 @@ use Rattle.ways.specs.Ways.{start_of, scope_of, Over, Step, parent_of}
 use Rattle.ways.proofs.Frames.{frame_choice, frame_delimits_lem}
 use Rattle.ways.proofs.Starts.{scope_at, scope_found}
 use Rattle.ways.proofs.Once.{one_delimitation}
+use Rattle.ways.proofs.Parts.{part_ends}
 
 -- at the root
 pub way_root : (t : Term) → way_to t 0 ≡ []
@@ -103,6 +105,37 @@ module _ {t : Term} {p a q : ℕ} (o : Over t p a) (x : Step t p a q) where
 
     pub new-start : get_or s (16 * p) 0 ≢ 5 → start_of q (way_to t q) ≡ q
     new-start e = step_start ∙ rw (ne_eqb _ _ e)
+
+-- between a record on the way and the next none is on the way
+module _ {t : Term} {p a q : ℕ} (o : Over t p a) (x : Step t p a q) where
+  next_place : q ≡ p + length (opens x.frame)
+  unfolding ahead
+  next_place =
+      sym (length-ahead t q x.over.inside) ∙ ap (λ w. length (ahead w)) x.way
+      ∙ length-append (ahead (way_to t p)) (opens x.frame) ∙ ap (λ n. n + length (opens x.frame)) (length-ahead t p o.inside)
+
+  pub step_between : (r : ℕ) → Over t r a → p < r → q ≤ r
+  unfolding opens plug
+  step_between r v l = go x.frame refl
+    where
+      go : (f : Frame) → x.frame ≡ f → q ≤ r
+      go (inside u) e = omega (arith, next_place, ap (λ f. length (opens f)) e)
+      go (left_of j s) e = omega (arith, next_place, ap (λ f. length (opens f)) e)
+      go (right_of j s) e =
+          let z : sub t p ≡ both j s (sub t q) = x.stands ∙ ap (λ f. plug f (sub t q)) e in
+          let k = spot_left t p j s (sub t q) o.inside z in
+          let n : length (opens x.frame) ≡ suc (size s) = ap (λ f. length (opens f)) e ∙ ap suc (length-nodes s) in
+          let y : q ≡ suc p + size s = omega (arith, next_place, n) in
+          let u : size (sub t (suc p)) ≡ size s = ap size k.1 in
+          lt_case (q ≤ r) r q
+          (λ m. absurd (let w = part_ends t (suc p) r k.0 (omega arith) (omega (arith, u)) in omega (arith, w, u, y, v.over, x.over.low)))
+          (λ m. m)
+
+  -- what holds of the records above p, and of p, holds of those above the next
+  pub above_next : (P : ℕ → Type 0) → ((r : ℕ) → Over t r a → r < p → P r) → P p → (r : ℕ) → Over t r a → r < q → P r
+  above_next P h e r v l =
+      lt_case (P r) r p (h r v)
+      (λ m. lt_case (P r) p r (λ n. absurd (omega (arith, step_between r v n))) (λ n. subst P (let z : p ≡ r = omega arith in z) e))
 
 -- below a record that lets nothing through, nothing is live
 pub stop-live : {s : List ℕ} {t : Term} {p a : ℕ} → Holds s t → Over t p a → p < a → live_kind (get_or s (16 * p) 0) ≡ false → live (way_to t a) ≡ false

@@ -1,5 +1,5 @@
 -- The way from the root down to a place, a record at a time, and what it says of the place.
-use Rattle.std.specs.Prelude.{◌≡◌, Bool, true, cond, ◌&&◌, List, [], ◌∷◌, ℕ, ◌+◌, ◌≤◌, ◌<◌, ltb, eqb, length}
+use Rattle.std.specs.Prelude.{◌≡◌, Bool, true, false, cond, ◌&&◌, List, [], ◌∷◌, ℕ, ◌+◌, ◌≤◌, ◌<◌, ltb, eqb, length}
 use mathlib.Core.Option.{Option, none, some}
 use Rattle.cows.specs.Terms.{Term, size}
 use Rattle.cows.specs.Kinds.{kind_of}
@@ -8,12 +8,19 @@ use Rattle.cows.specs.Active.{live}
 use Rattle.cows.specs.Records.{ahead}
 use Rattle.records.specs.Holds.{Holds}
 use Rattle.ways.specs.declared.Place.{Place}
+use Rattle.std.specs.Prelude as rust
+use Rattle.std.specs.Prelude.{Some, None}
 
 -- The term at place p holds place a: p is a itself or a record on the way to it.
 pub record Over (t : Term) (p a : ℕ) : Type 0 where
   pub inside : p < size t
   pub low : p ≤ a
   pub over : a < p + size (sub t p)
+
+-- Of a test of the records above place a on the way down to it: the first that passes, or that none does.
+pub record FirstAbove (test : ℕ → Bool → Type 0) (t : Term) (a : ℕ) (r : rust.Option ℕ) : Type 0 where
+  pub none : r ≡ None → (p : ℕ) → Over t p a → p < a → test p false
+  pub some : (p : ℕ) → r ≡ Some p → Over t p a × (p < a) × test p true × ((q : ℕ) → Over t q a → q < p → test q false)
 
 -- From place p the way to place a goes on to place q, in a frame of the record at p.
 pub record Step (t : Term) (p a q : ℕ) : Type 0 where
@@ -41,12 +48,16 @@ parent_of (f ∷ w) = length (ahead w)
 abbrev pub live_there : Term → ℕ → ℕ → Bool
 live_there t a kind = ltb a (size t) && live (way_to t a) && eqb (kind_of (sub t a)) kind
 
--- What is said of place a, if such a record stands there.
-pub record Placed (t : Term) (a kind : ℕ) (r : Place) : Type 0 where
-  pub told : r.live ≡ live_there t a kind
-  pub above_is : r.live ≡ true → r.above ≡ length (way_to t a)
-  pub parent_is : r.live ≡ true → r.parent ≡ parent_of (way_to t a)
-  pub start_is : r.live ≡ true → r.start ≡ start_of a (way_to t a)
+-- What is said of place a: such a record stands there, or none does.
+pub record LivePlace (t : Term) (a kind : ℕ) (p : Place) : Type 0 where
+  pub told : live_there t a kind ≡ true
+  pub above_is : p.above ≡ length (way_to t a)
+  pub parent_is : p.parent ≡ parent_of (way_to t a)
+  pub start_is : p.start ≡ start_of a (way_to t a)
+
+pub record Placed (t : Term) (a kind : ℕ) (r : rust.Option Place) : Type 0 where
+  pub none : r ≡ None → live_there t a kind ≡ false
+  pub some : (p : Place) → r ≡ Some p → LivePlace t a kind p
 
 -- The table s holds t, and such a record stands there.
 pub record LiveAt (s : List ℕ) (t : Term) (a kind : ℕ) : Type 0 where

@@ -3,11 +3,8 @@ use native.Mathlib.Omega.{arith}
 use Rattle.assigning.proofs.ByKind.{kill-behind, noted-kill, noted-receive, noted-none}
 use Rattle.assigning.proofs.note.Goals as goal
 
-pub behind-requires : goal.behind-requires
-behind-requires c = c.requires.chained
-
-pub overflow_sub-cast : goal.overflow_sub-cast
-overflow_sub-cast c = let p = c.requires in (kill-behind _ p.term p.holds _ p.place c.if-kind-eq-KILL.true _ c.word_at.ensures _ (c.behind.ensures p.term p.holds) p.within).0
+pub overflow_sub-behind : goal.overflow_sub-behind
+overflow_sub-behind c = let p = c.requires in (kill-behind _ p.term p.holds _ p.place c.if-kind-eq-KILL.true _ c.word_at.ensures _ (c.behind.ensures p.term p.holds) p.within).0
 
 pub bounds-cast-behind : goal.bounds-cast-behind
 bounds-cast-behind c = let p = c.requires in

@@ -5,6 +5,6 @@ use Rattle.chains.proofs.class_of.Goals as goal
 
 pub returns : goal.returns
 unfolding class_of_pair
-returns c = let x = c.wide16.ensures.0 in
-    let y = c.wide16-2.ensures.0 in
+returns c = let x = c.from.ensures in
+    let y = c.from-2.ensures in
     (rw (x, y), mod-lt _ {m = 256} (omega arith))

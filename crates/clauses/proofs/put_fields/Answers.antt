@@ -1,18 +1,23 @@
--- Eight numbers, one behind the other.
+-- The numbers below i are written, one behind the other.
+use mathlib.Core.Path.{◌≡◌, refl, ap, ◌∙◌}
+use mathlib.Core.List.{flat_map}
 use native.Mathlib.Omega.{arith}
-use Rattle.cows.specs.Format.{bytes2}
-use Rattle.records.proofs.Put.{and_then}
+use lib.ListN.{length, take}
+use lib.Seq.{take-length}
+use Rattle.records.specs.Rewrites.{put}
+use Rattle.clauses.specs.Parts.{words}
+use Rattle.clauses.proofs.Records.{words_more}
 use Rattle.clauses.proofs.put_fields.Goals as goal
 
-pub overflow_add-at-7 : goal.overflow_add-at-7
-overflow_add-at-7 c = omega (arith, c)
+pub loop-i-init : goal.loop-i-init
+unfolding put flat_map
+loop-i-init c = refl
+
+pub loop-i-preserved : goal.loop-i-preserved
+loop-i-preserved c = words_more _ _ _ _ (omega (arith, c)) c.loop-i.invariant c.put_word.ensures
 
 pub returns : goal.returns
-unfolding bytes2
-returns c = and_then _ _ _ _ _ (omega arith) c.put_word.ensures
-    (and_then _ _ _ _ _ (omega arith) c.put_word-2.ensures
-    (and_then _ _ _ _ _ (omega arith) c.put_word-3.ensures
-    (and_then _ _ _ _ _ (omega arith) c.put_word-4.ensures
-    (and_then _ _ _ _ _ (omega arith) c.put_word-5.ensures
-    (and_then _ _ _ _ _ (omega arith) c.put_word-6.ensures
-    (and_then _ _ _ _ _ (omega arith) c.put_word-7.ensures c.put_word-8.ensures))))))
+returns c = let a = c.args in
+    let n : length a.fields ≡ 8 = omega (arith, c.well_formed) in
+    let m : c.loop-i.i ≡ length a.fields = omega arith in
+    c.loop-i.invariant ∙ ap (λ ns. put a.out.now a.at (words ns)) (ap (λ i. take i a.fields) m ∙ take-length a.fields)

@@ -1,10 +1,13 @@
-use mathlib.Core.Path.{sym, ap, ◌∙◌}
-use Rattle.cows.specs.Basics.{refuse}
-use Rattle.communicate.proofs.Judged.{parties_fit, differ}
+use mathlib.Core.Path.{sym, ◌∙◌}
+use Rattle.plans.proofs.Mapped.{mapped_ok}
+use Rattle.communicate.proofs.Judged.{told_apart}
+use Rattle.std.proofs.lemmas.Result.{err_from_is_err_and}
 use Rattle.communicate.proofs.ask.Goals as goal
 
-pub returns-in-Differs : goal.returns-in-Differs
-returns-in-Differs c t z h = (12, _, ap (refuse 12) c.difference_number.ensures, differ z h _ (sym c.in-Differs.is ∙ parties_fit z h c.fits.ensures))
+pub returns-in_err-l : goal.returns-in_err-l
+returns-in_err-l c t z h =
+    let r = err_from_is_err_and c.from_residual.result c.from_residual.ensures.1 in
+    rw (r.1, r.2) (told_apart z h c.fits.ensures c.map_err.ensures.cases c.in_err-l.was)
 
-pub returns-in-Binds : goal.returns-in-Binds
-returns-in-Binds c t z h = c.ask_matched.ensures t z h (λ q m i j. sym c.in-Binds.is ∙ c.fits.ensures q m i j)
+pub returns : goal.returns
+returns c t z h = c.ask_matched.ensures t z h (λ q m i j. sym (mapped_ok _ c.map_err.result c.fits.result c.map_err.ensures.cases c.in_ok-l.was) ∙ c.fits.ensures q m i j)

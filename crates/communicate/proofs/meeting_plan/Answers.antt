@@ -1,4 +1,3 @@
-use mathlib.Core.Path.{refl}
 use native.Mathlib.Omega.{arith}
 use Rattle.communicate.proofs.Judged.{receive_span, records_left, meeting_planned}
 use Rattle.communicate.proofs.meeting_plan.Goals as goal
@@ -10,4 +9,4 @@ pub overflow_sub-result : goal.overflow_sub-result
 overflow_sub-result c = let p = c.requires in omega (arith, c.left.ensures, records_left p.known.table p.live p.start p.meets)
 
 pub returns : goal.returns
-returns c t b z h f m = meeting_planned z h f m _ _ _ refl refl c.left.ensures refl
+returns c t b z h f m = meeting_planned z h f m _ c.left.ensures

@@ -16,16 +16,13 @@ overflow_add-result c = omega (arith, first_place _ _ c.args.heights.now _ _ c.r
 pub returns-then-c-eq1 : goal.returns-then-c-eq1
 returns-then-c-eq1 c = depth_one _ _ _ _ c.requires.0 c.children-c.ensures.0 _ (c.requires.1 _ (omega arith)) c.if-c-eq1.true
 
-pub bounds-ends-i : goal.bounds-ends-i
-bounds-ends-i c = omega (arith, c.requires.0.end.room)
-
-pub bounds-heights-wide16 : goal.bounds-heights-wide16
-bounds-heights-wide16 c = omega (arith, both_places _ _ c.args.heights.now _ _ c.requires.0 c.children-c.ensures.0 c.requires.1 _ c.if-c-eq0.false c.if-c-eq1.false c.wide16.ensures.0)
+pub bounds-heights-from : goal.bounds-heights-from
+bounds-heights-from c = omega (arith, both_places _ _ c.args.heights.now _ _ c.requires.0 c.children-c.ensures.0 c.requires.1 _ c.if-c-eq0.false c.if-c-eq1.false c.from.ensures)
 
 pub overflow_add-result-2 : goal.overflow_add-result-2
-overflow_add-result-2 c = omega (arith, c.larger.ensures, both_places _ _ c.args.heights.now _ _ c.requires.0 c.children-c.ensures.0 c.requires.1 _ c.if-c-eq0.false c.if-c-eq1.false c.wide16.ensures.0)
+overflow_add-result-2 c = omega (arith, c.max.ensures, both_places _ _ c.args.heights.now _ _ c.requires.0 c.children-c.ensures.0 c.requires.1 _ c.if-c-eq0.false c.if-c-eq1.false c.from.ensures)
 
 pub returns : goal.returns
-returns c = let z = both_places _ _ c.args.heights.now _ _ c.requires.0 c.children-c.ensures.0 c.requires.1 _ c.if-c-eq0.false c.if-c-eq1.false c.wide16.ensures.0 in
-    rw c.larger.ensures
-    (depth_two _ _ _ _ c.requires.0 c.children-c.ensures.0 _ (c.requires.1 _ (omega arith)) c.if-c-eq0.false c.if-c-eq1.false _ c.wide16.ensures.0 _ (c.requires.1 _ (omega arith)))
+returns c = let z = both_places _ _ c.args.heights.now _ _ c.requires.0 c.children-c.ensures.0 c.requires.1 _ c.if-c-eq0.false c.if-c-eq1.false c.from.ensures in
+    rw c.max.ensures
+    (depth_two _ _ _ _ c.requires.0 c.children-c.ensures.0 _ (c.requires.1 _ (omega arith)) c.if-c-eq0.false c.if-c-eq1.false _ c.from.ensures _ (c.requires.1 _ (omega arith)))

@@ -5,9 +5,6 @@ use lib.ListN.{length-set}
 use Rattle.deepest.proofs.Telling.{level_few, first_child, both-children, told_none, told_one, told_two}
 use Rattle.deepest.proofs.tell.Goals as goal
 
-pub bounds-s-i : goal.bounds-s-i
-bounds-s-i c = omega (arith, c.requires.known.whole)
-
 pub returns-then-c-eq0 : goal.returns-then-c-eq0
 returns-then-c-eq0 c = told_none c.requires c.children-c.ensures.0 c.if-c-eq0.true
 
@@ -23,29 +20,26 @@ bounds-sides-l c = omega (arith, first_child c.requires c.children-c.ensures.0 c
 pub returns-then-c-eq1 : goal.returns-then-c-eq1
 returns-then-c-eq1 c = told_one c.requires c.children-c.ensures.0 _ refl c.if-c-eq1.true
 
-pub bounds-ends-l : goal.bounds-ends-l
-bounds-ends-l c = omega (arith, c.requires.known.room)
-
 pub bounds-levels-r : goal.bounds-levels-r
-bounds-levels-r c = simp length-set (omega (arith, both-children c.requires c.children-c.ensures.0 c.if-c-eq0.false c.if-c-eq1.false c.wide16-r.ensures.0))
+bounds-levels-r c = simp length-set (omega (arith, both-children c.requires c.children-c.ensures.0 c.if-c-eq0.false c.if-c-eq1.false c.from-r.ensures))
 
 pub bounds-heights-r : goal.bounds-heights-r
-bounds-heights-r c = omega (arith, both-children c.requires c.children-c.ensures.0 c.if-c-eq0.false c.if-c-eq1.false c.wide16-r.ensures.0)
+bounds-heights-r c = omega (arith, both-children c.requires c.children-c.ensures.0 c.if-c-eq0.false c.if-c-eq1.false c.from-r.ensures)
 
 pub overflow_add-sides : goal.overflow_add-sides
-overflow_add-sides c = omega (arith, level_few c.requires, both-children c.requires c.children-c.ensures.0 c.if-c-eq0.false c.if-c-eq1.false c.wide16-r.ensures.0)
+overflow_add-sides c = omega (arith, level_few c.requires, both-children c.requires c.children-c.ensures.0 c.if-c-eq0.false c.if-c-eq1.false c.from-r.ensures)
 
 pub bounds-sides-l-2 : goal.bounds-sides-l-2
-bounds-sides-l-2 c = omega (arith, both-children c.requires c.children-c.ensures.0 c.if-c-eq0.false c.if-c-eq1.false c.wide16-r.ensures.0)
+bounds-sides-l-2 c = omega (arith, both-children c.requires c.children-c.ensures.0 c.if-c-eq0.false c.if-c-eq1.false c.from-r.ensures)
 
 pub bounds-heights-l : goal.bounds-heights-l
-bounds-heights-l c = omega (arith, both-children c.requires c.children-c.ensures.0 c.if-c-eq0.false c.if-c-eq1.false c.wide16-r.ensures.0)
+bounds-heights-l c = omega (arith, both-children c.requires c.children-c.ensures.0 c.if-c-eq0.false c.if-c-eq1.false c.from-r.ensures)
 
 pub overflow_add-sides-2 : goal.overflow_add-sides-2
-overflow_add-sides-2 c = omega (arith, level_few c.requires, both-children c.requires c.children-c.ensures.0 c.if-c-eq0.false c.if-c-eq1.false c.wide16-r.ensures.0)
+overflow_add-sides-2 c = omega (arith, level_few c.requires, both-children c.requires c.children-c.ensures.0 c.if-c-eq0.false c.if-c-eq1.false c.from-r.ensures)
 
 pub bounds-sides-r : goal.bounds-sides-r
-bounds-sides-r c = simp length-set (omega (arith, both-children c.requires c.children-c.ensures.0 c.if-c-eq0.false c.if-c-eq1.false c.wide16-r.ensures.0))
+bounds-sides-r c = simp length-set (omega (arith, both-children c.requires c.children-c.ensures.0 c.if-c-eq0.false c.if-c-eq1.false c.from-r.ensures))
 
 pub returns : goal.returns
-returns c = told_two c.requires c.children-c.ensures.0 _ _ refl c.if-c-eq0.false c.if-c-eq1.false c.wide16-r.ensures.0
+returns c = told_two c.requires c.children-c.ensures.0 _ _ refl c.if-c-eq0.false c.if-c-eq1.false c.from-r.ensures

@@ -1,4 +1,5 @@
 -- Each call has fewer records left.
+use mathlib.Core.Path.{sym, ◌∙◌}
 use native.Mathlib.Omega.{arith}
 use Rattle.depths.proofs.Deep.{first_standing, second_standing}
 use Rattle.depths.proofs.TooDeep.{deep_here, deep-leaf, deep_one, deep-left, deep_right}
@@ -16,14 +17,14 @@ first_deep-first-requires t c = let q = c.requires in (omega (arith, q.inside), 
 pub returns-then-c-eq1 : goal.returns-then-c-eq1
 returns-then-c-eq1 t c = deep_one _ _ _ _ _ c.requires c.children-c.ensures.0 (omega (arith, c.if-d-gt-MAX_DEPTH.false)) _ c.first_deep-first.ensures c.if-c-eq1.true
 
-pub returns-then-first-n : goal.returns-then-first-n
-returns-then-first-n t c = deep-left _ _ _ _ _ c.requires c.children-c.ensures.0 (omega (arith, c.if-d-gt-MAX_DEPTH.false)) _ c.first_deep-first.ensures c.if-c-eq0.false c.if-c-eq1.false c.if-first-n.true
+pub returns-then-is_some : goal.returns-then-is_some
+returns-then-is_some t c = deep-left _ _ _ _ _ c.requires c.children-c.ensures.0 (omega (arith, c.if-d-gt-MAX_DEPTH.false)) _ c.first_deep-first.ensures c.if-c-eq0.false c.if-c-eq1.false (sym c.is_some.ensures ∙ c.if-is_some.true)
 
 pub bounds-ends-i : goal.bounds-ends-i
 bounds-ends-i t c = omega (arith, c.requires.end.room, c.requires.inside)
 
 pub first_deep-requires : goal.first_deep-requires
-first_deep-requires t c = let (q, l) = second_standing _ _ _ _ c.requires c.children-c.ensures.0 c.if-c-eq0.false c.if-c-eq1.false _ c.wide16.ensures.0 in (omega (arith, q.inside), q)
+first_deep-requires t c = let (q, l) = second_standing _ _ _ _ c.requires c.children-c.ensures.0 c.if-c-eq0.false c.if-c-eq1.false _ c.from.ensures in (omega (arith, q.inside), q)
 
 pub returns : goal.returns
-returns t c = deep_right _ _ _ _ _ c.requires c.children-c.ensures.0 (omega (arith, c.if-d-gt-MAX_DEPTH.false)) _ c.first_deep-first.ensures c.if-c-eq0.false c.if-c-eq1.false c.if-first-n.false _ c.wide16.ensures.0 _ c.first_deep.ensures
+returns t c = deep_right _ _ _ _ _ c.requires c.children-c.ensures.0 (omega (arith, c.if-d-gt-MAX_DEPTH.false)) _ c.first_deep-first.ensures c.if-c-eq0.false c.if-c-eq1.false (sym c.is_some.ensures ∙ c.if-is_some.false) _ c.from.ensures _ c.first_deep.ensures

@@ -11,10 +11,10 @@ returns-then-kind-ne-PARALLEL c t d h = lift_plain _ _ _ _ _ t d h (sym c.floats
 
 pub deeper-requires : goal.deeper-requires
 deeper-requires c = let q = c.requires in
-    rw (c.beside.ensures, c.wide16.ensures.0) (beside_standing _ _ _ _ _ q.term q.atom q.lifting c.if-kind-ne-PARALLEL.false)
+    rw (c.beside.ensures, c.from.ensures) (beside_standing _ _ _ _ _ q.term q.atom q.lifting c.if-kind-ne-PARALLEL.false)
 
 pub returns-then-deeper : goal.returns-then-deeper
-returns-then-deeper c t d h = lift_deep _ _ _ _ _ t d h c.if-kind-ne-PARALLEL.false _ (rw (c.beside.ensures, c.wide16.ensures.0) at c.deeper.ensures) c.if-deeper.true
+returns-then-deeper c t d h = lift_deep _ _ _ _ _ t d h c.if-kind-ne-PARALLEL.false _ (rw (c.beside.ensures, c.from.ensures) at c.deeper.ensures) c.if-deeper.true
 
 pub returns : goal.returns
-returns c t d h = lift_beside _ _ _ _ _ t d h c.if-kind-ne-PARALLEL.false _ (rw (c.beside.ensures, c.wide16.ensures.0) at c.deeper.ensures) c.if-deeper.false
+returns c t d h = lift_beside _ _ _ _ _ t d h c.if-kind-ne-PARALLEL.false _ (rw (c.beside.ensures, c.from.ensures) at c.deeper.ensures) c.if-deeper.false

@@ -15,8 +15,8 @@ second-there : (p q : Option ℕ) → p ≡ none → found_of q ≡ found_of (or
 unfolding or_else
 second-there p q e = rw e
 
-pub returns-in-At : goal.returns-in-At
-returns-in-At c t h m va vb = first-there _ _ _ (found_at _ _ (sym c.in-At.is ∙ c.marked_around.ensures t h m va))
+pub returns-in-Some : goal.returns-in-Some
+returns-in-Some c t h m va vb = first-there _ _ _ (found_at _ _ (sym c.in-Some.is ∙ c.marked_around.ensures t h m va))
 
 pub returns : goal.returns
 returns c t h m va vb = c.marked_around-2.ensures t h m vb ∙ second-there _ _ (found_nothing _ (sym c.in_default.is ∙ c.marked_around.ensures t h m va))

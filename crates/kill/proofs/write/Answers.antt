@@ -20,8 +20,8 @@ overflow_mul-a c = let q = c.requires in omega (arith, head_fits _ _ _ _ _ q, q.
 pub aside_at-places-requires : goal.aside_at-places-requires
 aside_at-places-requires c = aside_clauses (body_asks _ _ _ _ _ c.requires _ (search rules))
 
-pub overflow_sub-s : goal.overflow_sub-s
-overflow_sub-s c = (behind_fits _ _ _ _ _ c.requires c.aside_at-places.ensures).0
+pub overflow_sub-table : goal.overflow_sub-table
+overflow_sub-table c = (behind_fits _ _ _ _ _ c.requires c.aside_at-places.ensures).0
 
 pub copy-requires-2 : goal.copy-requires-2
 copy-requires-2 c = let f = behind_fits _ _ _ _ _ c.requires c.aside_at-places.ensures in (omega arith, omega arith)

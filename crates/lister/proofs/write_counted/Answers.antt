@@ -3,11 +3,8 @@ use native.Mathlib.Omega.{arith}
 use lib.ListN.{length}
 use Rattle.tables.specs.Verdict.{refusal}
 use Rattle.lister.proofs.Listing.{answered_short, answered_same}
-use Rattle.lister.proofs.Writing.{space_counted, counted_all, counted_few, unwritten}
+use Rattle.lister.proofs.Writing.{counted_all, counted_few, unwritten}
 use Rattle.lister.proofs.write_counted.Goals as goal
-
-pub put_meetings-number-requires : goal.put_meetings-number-requires
-put_meetings-number-requires c = let p = c.requires.0 in (p.played, p.atoms, p.senders, space_counted p _ _ c.requires.2)
 
 pub overflow_mul-number : goal.overflow_mul-number
 overflow_mul-number c = let p = c.requires.0 in

@@ -5,4 +5,4 @@ pub returns-then-p-eq0 : goal.returns-then-p-eq0
 returns-then-p-eq0 c = rw (eq-eqb _ _ c.if-p-eq0.true)
 
 pub returns-else-p-eq0 : goal.returns-else-p-eq0
-returns-else-p-eq0 c = rw (ne_eqb _ _ c.if-p-eq0.false) c.wide16.ensures.0
+returns-else-p-eq0 c = rw (ne_eqb _ _ c.if-p-eq0.false) c.from.ensures

@@ -1,6 +1,3 @@
-use mathlib.Core.Path.{◌≡◌}
-use Prim.Native.Nat.{◌-◌, ◌≤◌}
-use lib.ListN.{length}
 use Rattle.cows.specs.Terms.{Term}
 use Rattle.ways.specs.Known.{Table}
 use Rattle.meetings.specs.Meetings.{meetings_of}
@@ -9,7 +6,4 @@ use Rattle.meetings.proofs.Walks.{later_of}
 use Rattle.meetings.proofs.put_meetings.Given as goal
 
 abbrev pub invariant-loop-a : goal.invariant-loop-a
-invariant-loop-a l = (l.a ≤ l.n) × (length l.out ≡ length l.initial.out) × ((t : Term) → Table l.s l.ends t → Listing l.writes l.initial.out l.m (meetings_of t) (later_of t l.a) l.out l.count)
-
-abbrev pub decreases-loop-a : goal.decreases-loop-a
-decreases-loop-a l = l.n - l.a
+invariant-loop-a l = (t : Term) → Table l.x.table.bytes.now l.x.table.ends.now t → Listing l.writes l.initial.out l.m (meetings_of t) (later_of t l.a) l.out l.count

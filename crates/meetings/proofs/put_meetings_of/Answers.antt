@@ -7,43 +7,29 @@ use Rattle.cows.specs.Moves.{Communicate}
 use Rattle.ways.proofs.KnownTables.{table_size}
 use Rattle.meetings.specs.Meetings.{Lists}
 use Rattle.meetings.proofs.Listing.{lists_written, lists_counted, lists_length}
-use Rattle.meetings.proofs.Walks.{steps_all, stepping_start, stepping_few, stepping_end, stepping_tells, stepping_less, stepping_skip, stepping_room, stepping_put}
+use Rattle.meetings.proofs.Walks.{along, steps_all, stepping_start, stepping_few, stepping_end, stepping_tells, stepping_less, stepping_skip, stepping_room, stepping_put}
 use Rattle.meetings.proofs.put_meetings_of.Goals as goal
 use Rattle.meetings.proofs.put_meetings_of.Goals.{then-writes, else-writes}
 
-pub reach_of-x-requires : goal.reach_of-x-requires
-reach_of-x-requires c = let z = c.requires in (z.0.played.known, z.1, z.0.placed)
-
 pub loop-e-init : goal.loop-e-init
-loop-e-init c = let z = c.requires.0 in (refl, steps_all _ _ _ _ _ _ _ _ _ _ _ z.played.known (λ t h. stepping_start _ _ t h _ _ _ _ _ _ z))
-
-pub bounds-next-b : goal.bounds-next-b
-bounds-next-b c = omega (arith, c.requires.0.senders.room)
-
-pub meet-requires : goal.meet-requires
-meet-requires c = let z = c.requires in
-    (omega (arith, z.0.senders.whole, z.0.placed), omega (arith, z.0.senders.whole), omega (arith, z.2.fewest_all), omega (arith, z.2.sent_all))
+loop-e-init c = let z = c.requires in
+    let q = c.class_at.ensures.0 in
+    rw (c.first-e.ensures, q) (refl, steps_all _ _ _ _ _ _ _ _ _ _ _ z.0.played.known (λ t h. stepping_start _ _ t h _ _ _ _ _ _ (along z.0 z.1 refl refl)))
 
 pub loop-e-smaller-then-not-meet : goal.loop-e-smaller-then-not-meet
 loop-e-smaller-then-not-meet c = let k = c.requires.0.played.known in
     let l = c.loop-e in
-    rw c.wide16-e.ensures.0 (stepping_less _ _ k.term k.table _ _ _ _ _ _ l.e _ _ (l.invariant.1.1 k.term k.table) (omega arith))
+    rw c.after-e.ensures (stepping_less _ _ k.term k.table _ _ _ _ _ _ l.e _ _ (l.invariant.1.1 k.term k.table) (omega arith))
 
 pub loop-e-preserved-then-not-meet : goal.loop-e-preserved-then-not-meet
 loop-e-preserved-then-not-meet c = let z = c.requires in
     let l = c.loop-e in (
       l.invariant.0,
-      rw c.wide16-e.ensures.0
+      rw c.after-e.ensures
           (steps_all _ _ _ _ _ _ _ _ _ _ _ z.0.played.known (λ t h.
           stepping_skip _ _ t h _ _ _ _ _ _ l.e _ _ (l.invariant.1.1 t h) (omega arith)
-          (stepping_tells _ _ t h _ _ _ _ _ _ l.e _ _ (l.invariant.1.1 t h) (omega arith) _ _ _ z.2 (c.reach_of-x.ensures t h) _ c.meet.ensures ∙ not-true _ c.if-not-meet.true-raw))),
+          (stepping_tells _ _ t h _ _ _ _ _ _ l.e _ _ (l.invariant.1.1 t h) (omega arith) _ _ _ (z.0.numbers t h) (z.0.places t h) (c.reach_of-reach.ensures t h) _ c.meet.ensures ∙ not-true _ c.if-not-meet.true-raw))),
     )
-
-pub overflow_cast-a : goal.overflow_cast-a
-overflow_cast-a c = let z = c.requires.0 in omega (arith, z.placed, z.played.known.few)
-
-pub overflow_cast-b : goal.overflow_cast-b
-overflow_cast-b c = let z = c.requires.0 in omega (arith, z.played.known.few)
 
 pub overflow_mul-count : goal.overflow_mul-count
 overflow_mul-count c = let z = c.requires in
@@ -56,7 +42,7 @@ put_move-requires c = let z = c.requires in
     let k = z.0.played.known in
     let l = c.loop-e in
     let w = l.invariant.1.1 k.term k.table in
-    let y = stepping_tells _ _ k.term k.table _ _ _ _ _ _ l.e _ _ w (omega arith) _ _ _ z.2 (c.reach_of-x.ensures k.term k.table) _ c.meet.ensures ∙ not-false _ c.if-not-meet.false-raw in
+    let y = stepping_tells _ _ k.term k.table _ _ _ _ _ _ l.e _ _ w (omega arith) _ _ _ (z.0.numbers k.term k.table) (z.0.places k.term k.table) (c.reach_of-reach.ensures k.term k.table) _ c.meet.ensures ∙ not-false _ c.if-not-meet.false-raw in
     omega (arith, stepping_room _ _ k.term k.table _ _ _ _ _ _ l.e _ _ w (omega arith) y, z.2.room k.term k.table c.if-writes.true, l.invariant.0)
 
 pub overflow_add-count : goal.overflow_add-count
@@ -68,7 +54,7 @@ overflow_add-count c = let z = c.requires in
 pub loop-e-smaller : goal.loop-e-smaller
 loop-e-smaller c = let k = c.requires.0.played.known in
     let l = c.loop-e in
-    rw c.wide16-e.ensures.0 (stepping_less _ _ k.term k.table _ _ _ _ _ _ l.e _ _ (l.invariant.1.1 k.term k.table) (omega arith))
+    rw c.after-e.ensures (stepping_less _ _ k.term k.table _ _ _ _ _ _ l.e _ _ (l.invariant.1.1 k.term k.table) (omega arith))
 
 -- a meeting is listed
 pub loop-e-preserved : goal.loop-e-preserved
@@ -79,10 +65,10 @@ loop-e-preserved c = let l = c.loop-e in
       | else-writes w ↦ rw (w.if-writes.false, w.out-is) (lists_counted _ _ _ _)
     ] in (
       lists_length _ _ _ _ one ∙ l.invariant.0,
-      rw c.wide16-e.ensures.0
+      rw c.after-e.ensures
           (steps_all _ _ _ _ _ _ _ _ _ _ _ c.requires.0.played.known (λ t h.
           stepping_put _ _ t h _ _ _ _ _ _ l.e _ _ (l.invariant.1.1 t h) (omega arith)
-          (stepping_tells _ _ t h _ _ _ _ _ _ l.e _ _ (l.invariant.1.1 t h) (omega arith) _ _ _ c.requires.2 (c.reach_of-x.ensures t h) _ c.meet.ensures ∙ not-false _ c.if-not-meet.false-raw) one)),
+          (stepping_tells _ _ t h _ _ _ _ _ _ l.e _ _ (l.invariant.1.1 t h) (omega arith) _ _ _ (c.requires.0.numbers t h) (c.requires.0.places t h) (c.reach_of-reach.ensures t h) _ c.meet.ensures ∙ not-false _ c.if-not-meet.false-raw) one)),
     )
 
 pub returns : goal.returns

@@ -1,7 +1,7 @@
 use Rattle.cows.specs.Basics.{◌>>=◌, need}
 use Rattle.cows.specs.Moves.{successor}
 use Rattle.cows.specs.Step.{proposed}
-use Rattle.moves.proofs.Proposing.{plans, plans_none}
+use Rattle.moves.proofs.Proposing.{plans}
 use Rattle.moves.proofs.judge.Goals as goal
 
 pub returns-in-Kill : goal.returns-in-Kill
@@ -27,7 +27,3 @@ returns-in-Unfold c t h = plans c.in-Unfold.is t _ (c.judge-in-Unfold.ensures t 
 pub returns-in-Extrude : goal.returns-in-Extrude
 unfolding proposed need ◌>>=◌ successor
 returns-in-Extrude c t h = plans c.in-Extrude.is t _ (c.judge-in-Extrude.ensures t h)
-
-pub returns-in-None : goal.returns-in-None
-unfolding proposed need ◌>>=◌ successor
-returns-in-None c t h = plans_none c.in-None.is t _ c.refused.ensures.0

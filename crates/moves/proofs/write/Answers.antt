@@ -2,7 +2,7 @@ use mathlib.Core.Path.{refl}
 use Rattle.cows.specs.Basics.{◌>>=◌, need}
 use Rattle.cows.specs.Moves.{successor}
 use Rattle.cows.specs.Step.{proposed}
-use Rattle.moves.proofs.Proposing.{asked, asked_at, given, given-none}
+use Rattle.moves.proofs.Proposing.{asked, asked_at, given}
 use Rattle.moves.proofs.write.Goals as goal
 
 pub write-requires : goal.write-requires
@@ -52,7 +52,3 @@ returns-in-Unfold c = given c.in-Unfold.is _ _ _ _ c.write-in-Unfold.ensures
 pub returns-in-Extrude : goal.returns-in-Extrude
 unfolding proposed need ◌>>=◌ successor
 returns-in-Extrude c = given c.in-Extrude.is _ _ _ _ c.write-in-Extrude.ensures
-
-pub returns-in-None : goal.returns-in-None
-unfolding proposed need ◌>>=◌ successor
-returns-in-None c = given-none c.in-None.is _ _ _ _

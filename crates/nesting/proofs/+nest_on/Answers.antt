@@ -12,20 +12,14 @@ bounds-s-i t c = let a = c.args in omega (arith, inside a.s.now a.i a.depth c.re
 pub returns-then-kind : goal.returns-then-kind
 returns-then-kind t c = single_read _ _ _ c.requires.0 c.if-i-s.false c.if-kind.true
 
-pub nest_on-left-requires : goal.nest_on-left-requires
-nest_on-left-requires t c = let a = c.args in omega (arith, inside a.s.now a.i a.depth c.requires.0 c.if-i-s.false)
-
-pub returns-in_default : goal.returns-in_default
-returns-in_default t c = left_fault _ _ _ c.requires.0 c.if-i-s.false c.if-kind.false _ _ c.in_default.is c.nest_on-left.ensures
-
 pub nest_on-requires : goal.nest_on-requires
-nest_on-requires t c = let a = c.args in
-    omega (
-      arith,
-      inside a.s.now a.i a.depth c.requires.0 c.if-i-s.false,
-      rw c.in-Behind.is at c.nest_on-left.ensures,
-    )
+nest_on-requires t c = let a = c.args in omega (arith, inside a.s.now a.i a.depth c.requires.0 c.if-i-s.false)
+
+pub returns-in_err-m : goal.returns-in_err-m
+returns-in_err-m t c = left_fault _ _ _ c.requires.0 c.if-i-s.false c.if-kind.false _ _ c.from_residual.ensures.1 c.in_err-m.ensures
+
+pub nest_on-requires-2 : goal.nest_on-requires-2
+nest_on-requires-2 t c = let a = c.args in omega (arith, inside a.s.now a.i a.depth c.requires.0 c.if-i-s.false, c.in_ok-m.ensures)
 
 pub returns : goal.returns
-returns t c = right_read _ _ _ c.requires.0 c.if-i-s.false c.if-kind.false c.nest_on.result _
-    (rw c.in-Behind.is at c.nest_on-left.ensures) c.nest_on.ensures
+returns t c = right_read _ _ _ c.requires.0 c.if-i-s.false c.if-kind.false c.nest_on-2.result _ c.in_ok-m.ensures c.nest_on-2.ensures

@@ -3,4 +3,4 @@ use Rattle.overlaps.proofs.overlap.Goals as goal
 
 pub returns : goal.returns
 unfolding overlap
-returns c = rw (c.wide16.ensures.0, c.wide16-2.ensures.0)
+returns c = rw (c.from.ensures, c.from-2.ensures)

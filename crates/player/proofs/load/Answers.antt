@@ -1,3 +1,4 @@
+use mathlib.Core.Path.{◌∙◌}
 use native.Mathlib.Omega.{arith}
 use Rattle.tables.proofs.Judging.{slice_bytes}
 use Rattle.stepper.proofs.Stepping.{table_read}
@@ -12,4 +13,4 @@ load_between-load-requires c = omega (arith, (c.check_ends-checked.ensures.end c
 
 pub returns : goal.returns
 returns c = let q = table_read _ _ _ (slice_bytes c.args.table.now (λ i. omega (arith, c.shared_slice_known-1.given i))) c.check_ends-checked.ensures c.if-checked-ne0.false in
-    load_read _ _ q _ c.load_between-load.ensures.0
+    c.accepted.ensures ∙ load_read _ _ q _ c.load_between-load.ensures.0

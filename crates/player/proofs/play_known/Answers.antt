@@ -24,4 +24,4 @@ put_last-requires c = let o = c.requires in
 pub returns : goal.returns
 returns c t h = let o = c.requires in
     let e = c.copy.ensures in
-    plays_term _ _ _ _ _ _ o e t h _ _ _ _ _ (c.night-night.ensures t (keeps-first _ _ _ _ _ _ o e t h)) c.put_last.ensures
+    rw c.accepted.ensures (plays_term _ _ _ _ _ _ o e t h _ _ _ _ _ (c.night-night.ensures t (keeps-first _ _ _ _ _ _ o e t h)) c.put_last.ensures)

@@ -23,16 +23,16 @@ word_at-requires c = omega (arith, right_length _ (right_so _ c.right_move.ensur
 
 pub returns-in-0 : goal.returns-in-0
 unfolding six_moves
-returns-in-0 c = kind_read _ (right_so _ c.right_move.ensures c.if-not-right_move.false-raw) _ _ 0 (c.wide16-a.ensures.0 ∙ c.word_at-d.ensures) refl c.in-0.is refl
+returns-in-0 c = kind_read _ (right_so _ c.right_move.ensures c.if-not-right_move.false-raw) _ _ 0 (c.from-a.ensures ∙ c.word_at-d.ensures) refl c.in-0.is refl
 
 pub returns-in-1 : goal.returns-in-1
 unfolding six_moves
-returns-in-1 c = kind_read _ (right_so _ c.right_move.ensures c.if-not-right_move.false-raw) _ _ 1 (c.wide16-a.ensures.0 ∙ c.word_at-d.ensures)
-    (c.wide16.ensures.0 ∙ c.word_at.ensures) c.in-1.is refl
+returns-in-1 c = kind_read _ (right_so _ c.right_move.ensures c.if-not-right_move.false-raw) _ _ 1 (c.from-a.ensures ∙ c.word_at-d.ensures)
+    (c.from.ensures ∙ c.word_at.ensures) c.in-1.is refl
 
 pub returns-in-2 : goal.returns-in-2
 unfolding six_moves
-returns-in-2 c = kind_read _ (right_so _ c.right_move.ensures c.if-not-right_move.false-raw) _ _ 2 (c.wide16-a.ensures.0 ∙ c.word_at-d.ensures) refl c.in-2.is refl
+returns-in-2 c = kind_read _ (right_so _ c.right_move.ensures c.if-not-right_move.false-raw) _ _ 2 (c.from-a.ensures ∙ c.word_at-d.ensures) refl c.in-2.is refl
 
 pub returns-in-3 : goal.returns-in-3
 unfolding six_moves
@@ -40,11 +40,11 @@ returns-in-3 c = kind_read _ (right_so _ c.right_move.ensures c.if-not-right_mov
 
 pub returns-in-4 : goal.returns-in-4
 unfolding six_moves
-returns-in-4 c = kind_read _ (right_so _ c.right_move.ensures c.if-not-right_move.false-raw) _ _ 4 (c.wide16-a.ensures.0 ∙ c.word_at-d.ensures) refl c.in-4.is refl
+returns-in-4 c = kind_read _ (right_so _ c.right_move.ensures c.if-not-right_move.false-raw) _ _ 4 (c.from-a.ensures ∙ c.word_at-d.ensures) refl c.in-4.is refl
 
 pub returns-in-5 : goal.returns-in-5
 unfolding six_moves
-returns-in-5 c = kind_read _ (right_so _ c.right_move.ensures c.if-not-right_move.false-raw) _ _ 5 (c.wide16-a.ensures.0 ∙ c.word_at-d.ensures) refl c.in-5.is refl
+returns-in-5 c = kind_read _ (right_so _ c.right_move.ensures c.if-not-right_move.false-raw) _ _ 5 (c.from-a.ensures ∙ c.word_at-d.ensures) refl c.in-5.is refl
 
 pub returns-in_default : goal.returns-in_default
 unfolding six_moves

@@ -1,19 +1,20 @@
-use borrow.Author.Tests.{eq-eqb, ne_eqb}
+use native.Mathlib.Omega.{arith}
+use borrow.Author.Tests.{ne_eqb}
 use Rattle.rows.specs.Rows.{plain_right}
 use Rattle.rows.proofs.plain_right.Goals as goal
 
-pub returns-then-kind-eq-DELIMITATION : goal.returns-then-kind-eq-DELIMITATION
+pub returns-in-8 : goal.returns-in-8
 unfolding plain_right
-returns-then-kind-eq-DELIMITATION c = rw (eq-eqb _ 8 c.if-kind-eq-DELIMITATION.true)
+returns-in-8 c = rw c.in-8.is
 
-pub returns-then-kind-eq-KILL : goal.returns-then-kind-eq-KILL
+pub returns-in-1 : goal.returns-in-1
 unfolding plain_right
-returns-then-kind-eq-KILL c = rw (ne_eqb _ 8 c.if-kind-eq-DELIMITATION.false, eq-eqb _ 1 c.if-kind-eq-KILL.true)
+returns-in-1 c = rw c.in-1.is
 
-pub returns-then-kind-eq-WAIT : goal.returns-then-kind-eq-WAIT
+pub returns-in-4 : goal.returns-in-4
 unfolding plain_right
-returns-then-kind-eq-WAIT c = rw (ne_eqb _ 8 c.if-kind-eq-DELIMITATION.false, ne_eqb _ 1 c.if-kind-eq-KILL.false, eq-eqb _ 4 c.if-kind-eq-WAIT.true)
+returns-in-4 c = rw c.in-4.is
 
-pub returns : goal.returns
+pub returns-in_default : goal.returns-in_default
 unfolding plain_right
-returns c = rw (ne_eqb _ 8 c.if-kind-eq-DELIMITATION.false, ne_eqb _ 1 c.if-kind-eq-KILL.false, ne_eqb _ 4 c.if-kind-eq-WAIT.false)
+returns-in_default c = rw (ne_eqb c.args.kind 8 (λ e. omega arith), ne_eqb c.args.kind 1 (λ e. omega arith), ne_eqb c.args.kind 4 (λ e. omega arith))

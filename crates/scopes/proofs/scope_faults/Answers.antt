@@ -1,7 +1,7 @@
 use native.Mathlib.Omega.{arith}
 use Prim.Native.Nat.{ℕ}
 use lib.ListN.{length-replicate}
-use Rattle.scopes.proofs.Directory.{blank_new}
+use Rattle.scopes.proofs.Slots.{blank_new}
 use Rattle.scopes.proofs.NextPlace.{ends_of}
 use Rattle.scopes.proofs.scope_faults.Goals as goal
 
@@ -9,7 +9,7 @@ pub enter_all-requires : goal.enter_all-requires
 enter_all-requires c = blank_new 4096 (omega arith)
 
 pub pass-requires : goal.pass-requires
-pass-requires c = (ends_of _ _ c.requires, c.enter_all.ensures.paged)
+pass-requires c = ends_of _ _ c.requires
 
 pub returns-then-enter_all : goal.returns-then-enter_all
 returns-then-enter_all c t h = c.pass.ensures t (record { holds = h; keeps = c.enter_all.ensures.keeps c.if-enter_all.true t h })
@@ -18,7 +18,7 @@ pub enter_all-requires-2 : goal.enter_all-requires-2
 enter_all-requires-2 c = blank_new 65792 (omega arith)
 
 pub pass-requires-2 : goal.pass-requires-2
-pass-requires-2 c = (ends_of _ _ c.requires, c.enter_all-2.ensures.paged)
+pass-requires-2 c = ends_of _ _ c.requires
 
 pub returns : goal.returns
 returns c t h = c.pass-2.ensures t

@@ -1,21 +1,11 @@
--- The records below i are right.
-use mathlib.Core.Path.{refl, sym, ap, ◌∙◌}
-use native.Mathlib.Omega.{arith}
-use Rattle.cows.proofs.Cut.{failing_here, passing_here, none_left}
-use Rattle.records.specs.Answers.{place_or}
+use mathlib.Core.Path.{◌≡◌}
+use mathlib.Core.Bool.{true, false}
+use borrow.Author.Rules.{rules}
+use borrow.Author.Tests.{tests}
+use Rattle.std.proofs.lemmas.Iterator.{first_from_Range}
+use Rattle.scripts.proofs.First.{right_at, first_found}
 use Rattle.scripts.proofs.first_malformed.Goals as goal
 
-pub loop-i-init : goal.loop-i-init
-loop-i-init c = (refl, refl)
-
-pub returns-then-not-record8_right : goal.returns-then-not-record8_right
-returns-then-not-record8_right c = let v = c.loop-i.invariant in
-    sym (ap (place_or _) (v.1 ∙ failing_here 8 _ _ _ _ (omega arith) c.record8_right.ensures c.if-not-record8_right.true-raw))
-
-pub loop-i-preserved : goal.loop-i-preserved
-loop-i-preserved c = let v = c.loop-i.invariant in
-    (v.0, v.1 ∙ passing_here 8 _ _ _ _ (omega arith) c.record8_right.ensures c.if-not-record8_right.false-raw)
-
 pub returns : goal.returns
-returns c = let v = c.loop-i.invariant in
-    v.0 ∙ sym (ap (place_or _) (v.1 ∙ none_left 8 _ _ _ (omega arith)))
+returns c = let s = c.args.s.now in
+    first_found _ _ (first_from_Range _ _ _ _ (λ i. right_at s i ≡ false) (λ i. right_at s i ≡ true) c.find.ensures.ran (λ x q k. search (rules, tests)) (λ x q k. search (rules, tests)))

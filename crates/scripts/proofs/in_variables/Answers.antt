@@ -1,7 +1,7 @@
-use mathlib.Core.Path.{refl}
+use borrow.Author.Rules.{rules}
 use Rattle.cows.specs.Terms.{variable}
 use Rattle.scripts.proofs.in_variables.Goals as goal
 
 pub returns : goal.returns
 unfolding variable
-returns c = refl
+returns c = search rules

@@ -1,3 +1,4 @@
+use native.Mathlib.Omega.{arith}
 use Rattle.spares.proofs.Gathered.{held-call, held_plain}
 use Rattle.spares.proofs.hold_record.Goals as goal
 
@@ -6,4 +7,4 @@ returns-then-s-i-eq-CALL c = held-call _ _ c.if-s-i-eq-CALL.true c.word_at.ensur
     c.hold.ensures c.hold-then-s-i-eq-CALL.ensures c.hold-then-s-i-eq-CALL-2.ensures
 
 pub returns-else-s-i-eq-CALL : goal.returns-else-s-i-eq-CALL
-returns-else-s-i-eq-CALL c = held_plain c.args.s.now c.args.i c.requires.1 c.if-s-i-eq-CALL.false
+returns-else-s-i-eq-CALL c = held_plain c.args.s.now c.args.i (omega (arith, c.well_formed)) c.if-s-i-eq-CALL.false

@@ -1,25 +1,20 @@
--- Every value from v to n has a mark, so n and the marks from n on come to no more than v and those from v on.
-use mathlib.Core.Path.{◌≡◌, ap}
+-- Every value that the search passes has a mark.
+use mathlib.Core.Path.{◌≡◌}
+use mathlib.Core.Bool.{true, false}
+use borrow.Author.Rules.{rules}
+use borrow.Author.Tests.{tests}
 use native.Mathlib.Omega.{arith}
 use lib.ListN.{get_or}
-use Rattle.cows.proofs.Basics.{lt_case}
-use Rattle.spares.proofs.Marks.{total_from}
+use Rattle.std.proofs.lemmas.Iterator.{first_from_Range}
+use Rattle.spares.proofs.Marks.{Searched, spare_found, next_found}
 use Rattle.spares.proofs.next_spare.Goals as goal
+use Rattle.spares.proofs.next_spare.Goals.{After-find}
 
-pub loop-n-init : goal.loop-n-init
-loop-n-init c = (omega arith, omega arith, λ m l k e. omega arith)
+searched : (c : goal.After-find) → Searched c.args.used.now c.args.v c.find.result
+searched c = first_from_Range _ _ _ _ (λ n. get_or c.args.used.now n false ≡ false) (λ n. get_or c.args.used.now n false ≡ true) c.find.ensures.ran (λ x q k. search (rules, tests)) (λ x q k. search (rules, tests))
 
-pub loop-n-preserved : goal.loop-n-preserved
-loop-n-preserved c = let l = c.loop-n in
-    let used = c.args.used.now in
-    let h = rw c.wide16.ensures.0 at c.loop-n-test.true in (
-      omega arith,
-      omega (arith, h, total_from used l.n (omega arith)),
-      λ m k j e. lt_case ⊥ m l.n (λ b. l.invariant.2 m k b e) (λ b. let z : l.n ≡ m = omega arith in omega (arith, h, ap (λ i. get_or used i 0) z)),
-    )
+pub unwrap-requires : goal.unwrap-requires
+unwrap-requires c = spare_found _ _ (omega (arith, c.well_formed)) c.requires _ (searched c)
 
 pub returns : goal.returns
-returns c = let l = c.loop-n in
-    let used = c.args.used.now in
-    let h = rw c.wide16.ensures.0 at c.loop-n-test.false in
-    record { from = omega arith; below = omega arith; free = omega (arith, h); passed = l.invariant.2; few = omega (arith, h, total_from used l.n (omega arith)) }
+returns c = next_found _ _ (omega (arith, c.well_formed)) c.requires _ (rw c.unwrap.ensures at (searched (goal.at.returns c).After-find))

@@ -1,4 +1,4 @@
 use Rattle.tables.proofs.check_ends.Goals as goal
 
 pub returns : goal.returns
-returns c = rw c.answer_of.ensures c.judge_table.ensures
+returns c = rw c.from.ensures c.judge_table.ensures

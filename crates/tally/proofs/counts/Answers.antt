@@ -1,32 +1,27 @@
-use mathlib.Core.Path.{refl}
 use Rattle.cows.specs.Run.{adds}
-use Rattle.tally.proofs.Counting.{counts_by, counts-none}
+use Rattle.tally.proofs.Counting.{counts_by}
 use Rattle.tally.proofs.counts.Goals as goal
 
 pub returns-in-Kill : goal.returns-in-Kill
 unfolding adds
-returns-in-Kill c = counts_by _ c.in-Kill.is refl c.counted.ensures
+returns-in-Kill c = counts_by _ c.in-Kill.is c.counted.ensures
 
 pub returns-in-Communicate : goal.returns-in-Communicate
 unfolding adds
-returns-in-Communicate c = counts_by _ c.in-Communicate.is refl c.counted-in-Communicate.ensures
+returns-in-Communicate c = counts_by _ c.in-Communicate.is c.counted-in-Communicate.ensures
 
 pub returns-in-Timeout : goal.returns-in-Timeout
 unfolding adds
-returns-in-Timeout c = counts_by _ c.in-Timeout.is refl c.counted-in-Timeout.ensures
+returns-in-Timeout c = counts_by _ c.in-Timeout.is c.counted-in-Timeout.ensures
 
 pub returns-in-Elapse : goal.returns-in-Elapse
 unfolding adds
-returns-in-Elapse c = counts_by _ c.in-Elapse.is refl c.counted-in-Elapse.ensures
+returns-in-Elapse c = counts_by _ c.in-Elapse.is c.counted-in-Elapse.ensures
 
 pub returns-in-Unfold : goal.returns-in-Unfold
 unfolding adds
-returns-in-Unfold c = counts_by _ c.in-Unfold.is refl c.counted-in-Unfold.ensures
+returns-in-Unfold c = counts_by _ c.in-Unfold.is c.counted-in-Unfold.ensures
 
 pub returns-in-Extrude : goal.returns-in-Extrude
 unfolding adds
-returns-in-Extrude c = counts_by _ c.in-Extrude.is refl c.counted-in-Extrude.ensures
-
-pub returns-in-None : goal.returns-in-None
-unfolding adds
-returns-in-None c = counts-none _ c.in-None.is
+returns-in-Extrude c = counts_by _ c.in-Extrude.is c.counted-in-Extrude.ensures

@@ -7,50 +7,17 @@ use Rattle.translating.proofs.Asks.{sequence_room, sequence_left, sequence_middl
 use Rattle.translating.proofs.Gives.{act_gives, parallel_gives, sequence_gives, where_gives}
 use Rattle.translating.proofs.+write_write_parallel_write_sequence_write_where.Goals as goal
 
-pub write-overflow_mul-kind : goal.write-overflow_mul-kind
-write-overflow_mul-kind t c = omega (arith, c.well_formed, c.decreases, c.requires.inside)
-
-pub write-bounds-s-at : goal.write-bounds-s-at
-write-bounds-s-at t c = omega (arith, c.well_formed, c.decreases, c.requires.inside)
-
 pub write-write_parallel-requires : goal.write-write_parallel-requires
-write-write_parallel-requires t c = (omega (arith, c.well_formed, c.decreases, c.requires.inside), (c.requires, c.if-kind-eq-PARALLEL.true))
-
-pub write-returns-then-kind-eq-PARALLEL : goal.write-returns-then-kind-eq-PARALLEL
-write-returns-then-kind-eq-PARALLEL t c = c.write_parallel.ensures
+write-write_parallel-requires t c = (omega (arith, c.well_formed, c.decreases, c.requires.inside), (c.requires, c.in-3.is))
 
 pub write-write_sequence-requires : goal.write-write_sequence-requires
-write-write_sequence-requires t c = (omega (arith, c.well_formed, c.decreases, c.requires.inside), (c.requires, c.if-kind-eq-SEQUENCE.true))
-
-pub write-returns-then-kind-eq-SEQUENCE : goal.write-returns-then-kind-eq-SEQUENCE
-write-returns-then-kind-eq-SEQUENCE t c = c.write_sequence.ensures
+write-write_sequence-requires t c = (omega (arith, c.well_formed, c.decreases, c.requires.inside), (c.requires, c.in-2.is))
 
 pub write-write_where-requires : goal.write-write_where-requires
-write-write_where-requires t c = (omega (arith, c.well_formed, c.decreases, c.requires.inside), (c.requires, c.if-kind-eq-WHERE.true))
+write-write_where-requires t c = (omega (arith, c.well_formed, c.decreases, c.requires.inside), (c.requires, c.in-4.is))
 
-pub write-returns-then-kind-eq-WHERE : goal.write-returns-then-kind-eq-WHERE
-write-returns-then-kind-eq-WHERE t c = c.write_where.ensures
-
-pub write-put_act-requires : goal.write-put_act-requires
-write-put_act-requires t c = (omega (arith, c.well_formed, c.decreases, c.requires.inside), c.requires.space)
-
-pub write-overflow_add-result : goal.write-overflow_add-result
-write-overflow_add-result t c = omega (arith, c.well_formed, c.decreases, c.requires.inside)
-
-pub write-overflow_add-result-2 : goal.write-overflow_add-result-2
-write-overflow_add-result-2 t c = omega (arith, c.well_formed, c.decreases, c.requires.space)
-
-pub write-returns : goal.write-returns
-write-returns t c = act_gives (act-kind c.requires c.if-kind-eq-PARALLEL.false c.if-kind-eq-SEQUENCE.false c.if-kind-eq-WHERE.false) c.put_act.ensures
-
-pub write_parallel-put_parallel-requires : goal.write_parallel-put_parallel-requires
-write_parallel-put_parallel-requires t c = c.requires.0.space
-
-pub write_parallel-overflow_add-first : goal.write_parallel-overflow_add-first
-write_parallel-overflow_add-first t c = omega (arith, c.well_formed, c.decreases, c.requires.0.inside)
-
-pub write_parallel-overflow_add-first-2 : goal.write_parallel-overflow_add-first-2
-write_parallel-overflow_add-first-2 t c = omega (arith, c.well_formed, c.decreases, c.requires.0.space)
+pub write-returns-in_default : goal.write-returns-in_default
+write-returns-in_default t c = act_gives (act-kind c.requires (λ e. omega arith) (λ e. omega arith) (λ e. omega arith)) c.put_act.ensures
 
 pub write_parallel-write-left-requires : goal.write_parallel-write-left-requires
 write_parallel-write-left-requires t c = let (f, g, a) = asked-parallel c.requires.1 c.requires.0 in
@@ -64,119 +31,71 @@ write_parallel-write-requires t c = let (f, g, a) = asked-parallel c.requires.1 
 pub write_parallel-returns : goal.write_parallel-returns
 write_parallel-returns t c = parallel_gives c.requires.1 c.put_parallel.ensures c.write-left.ensures c.write.ensures
 
-pub write_sequence-overflow_mul-at : goal.write_sequence-overflow_mul-at
-write_sequence-overflow_mul-at t c = omega (arith, c.well_formed, c.decreases, c.requires.0.inside)
-
-pub write_sequence-overflow_add-at : goal.write_sequence-overflow_add-at
-write_sequence-overflow_add-at t c = omega (arith, c.well_formed, c.decreases, c.requires.0.inside)
-
-pub write_sequence-word_at-x-requires : goal.write_sequence-word_at-x-requires
-write_sequence-word_at-x-requires t c = omega (arith, c.well_formed, c.decreases, c.requires.0.inside)
-
-pub write_sequence-next_spare-p-requires : goal.write_sequence-next_spare-p-requires
-write_sequence-next_spare-p-requires t c = (c.requires.0.marks, omega (arith, c.well_formed, c.decreases, c.requires.0.values))
-
-pub write_sequence-overflow_add-p : goal.write_sequence-overflow_add-p
-write_sequence-overflow_add-p t c = omega (arith, c.next_spare-p.ensures.below)
-
-pub write_sequence-next_spare-o-requires : goal.write_sequence-next_spare-o-requires
-write_sequence-next_spare-o-requires t c = (c.requires.0.marks, omega (arith, c.well_formed, c.decreases, c.requires.0.values, c.next_spare-p.ensures.few, records_pos c.requires.0.expression))
+pub write_sequence-next_endpoint-inner-requires : goal.write_sequence-next_endpoint-inner-requires
+write_sequence-next_endpoint-inner-requires t c = omega (arith, c.well_formed, c.decreases, c.requires.0.values, records_pos c.requires.0.expression)
 
 pub write_sequence-put_sequence_head-requires : goal.write_sequence-put_sequence_head-requires
 write_sequence-put_sequence_head-requires t c = sequence_room (asked_sequence c.requires.1 c.requires.0)
 
-pub write_sequence-overflow_add-first : goal.write_sequence-overflow_add-first
-write_sequence-overflow_add-first t c = omega (arith, c.well_formed, c.decreases, c.requires.0.inside)
-
-pub write_sequence-overflow_add-first-2 : goal.write_sequence-overflow_add-first-2
-write_sequence-overflow_add-first-2 t c = omega (arith, c.well_formed, c.decreases, sequence_room (asked_sequence c.requires.1 c.requires.0))
-
-pub write_sequence-overflow_add-first-3 : goal.write_sequence-overflow_add-first-3
-write_sequence-overflow_add-first-3 t c = omega (arith, c.next_spare-o.ensures.below)
-
 pub write_sequence-write-left-requires : goal.write_sequence-write-left-requires
 write_sequence-write-left-requires t c = let (x, f, g, a) = asked_sequence c.requires.1 c.requires.0 in
-    (omega (arith, c.well_formed, c.decreases, c.requires.0.inside), sequence_left c.next_spare-p.ensures c.next_spare-o.ensures x f g a (search rules))
+    (omega (arith, c.well_formed, c.decreases, c.requires.0.inside), sequence_left c.next_endpoint-inner.ensures.0 c.next_endpoint-inner.ensures.1 x f g a (search rules))
 
 pub write_sequence-put_sequence_middle-requires : goal.write_sequence-put_sequence_middle-requires
 write_sequence-put_sequence_middle-requires t c = let (x, f, g, a) = asked_sequence c.requires.1 c.requires.0 in
-    omega (arith, c.well_formed, c.decreases, sequence_middle_lem c.next_spare-p.ensures c.next_spare-o.ensures x f g a c.write-left.ensures)
+    omega (arith, c.well_formed, c.decreases, sequence_middle_lem c.next_endpoint-inner.ensures.0 c.next_endpoint-inner.ensures.1 x f g a c.write-left.ensures)
 
 pub write_sequence-overflow_add-second : goal.write_sequence-overflow_add-second
 write_sequence-overflow_add-second t c = let (x, f, g, a) = asked_sequence c.requires.1 c.requires.0 in
-    omega (arith, c.well_formed, c.decreases, sequence_middle_lem c.next_spare-p.ensures c.next_spare-o.ensures x f g a c.write-left.ensures)
+    omega (arith, c.well_formed, c.decreases, sequence_middle_lem c.next_endpoint-inner.ensures.0 c.next_endpoint-inner.ensures.1 x f g a c.write-left.ensures)
 
 pub write_sequence-write-requires : goal.write_sequence-write-requires
 write_sequence-write-requires t c = let (x, f, g, a) = asked_sequence c.requires.1 c.requires.0 in
     let w = c.write-left.ensures in
-    (omega (arith, c.well_formed, c.decreases, c.requires.0.inside, w.past), sequence_right c.next_spare-p.ensures c.next_spare-o.ensures x f g a w (search rules))
+    (omega (arith, c.well_formed, c.decreases, c.requires.0.inside, w.past), sequence_right c.next_endpoint-inner.ensures.0 c.next_endpoint-inner.ensures.1 x f g a w (search rules))
 
 pub write_sequence-returns : goal.write_sequence-returns
-write_sequence-returns t c = sequence_gives c.requires.0.start c.next_spare-p.ensures c.next_spare-o.ensures c.word_at-x.ensures c.requires.1 c.put_sequence_head.ensures c.write-left.ensures c.put_sequence_middle.ensures c.write.ensures
+write_sequence-returns t c = sequence_gives c.requires.0.start c.next_endpoint-inner.ensures.0 c.next_endpoint-inner.ensures.1 c.word_at-x.ensures c.requires.1 c.put_sequence_head.ensures c.write-left.ensures c.put_sequence_middle.ensures c.write.ensures
 
-pub write_where-overflow_mul-at : goal.write_where-overflow_mul-at
-write_where-overflow_mul-at t c = omega (arith, c.well_formed, c.decreases, c.requires.0.inside)
-
-pub write_where-overflow_add-at : goal.write_where-overflow_add-at
-write_where-overflow_add-at t c = omega (arith, c.well_formed, c.decreases, c.requires.0.inside)
-
-pub write_where-word_at-x-requires : goal.write_where-word_at-x-requires
-write_where-word_at-x-requires t c = omega (arith, c.well_formed, c.decreases, c.requires.0.inside)
-
-pub write_where-next_spare-p-requires : goal.write_where-next_spare-p-requires
-write_where-next_spare-p-requires t c = (c.requires.0.marks, omega (arith, c.well_formed, c.decreases, c.requires.0.values))
-
-pub write_where-overflow_add-p : goal.write_where-overflow_add-p
-write_where-overflow_add-p t c = omega (arith, c.next_spare-p.ensures.below)
-
-pub write_where-next_spare-o-requires : goal.write_where-next_spare-o-requires
-write_where-next_spare-o-requires t c = (c.requires.0.marks, omega (arith, c.well_formed, c.decreases, c.requires.0.values, c.next_spare-p.ensures.few, records_pos c.requires.0.expression))
+pub write_where-next_endpoint-inner-requires : goal.write_where-next_endpoint-inner-requires
+write_where-next_endpoint-inner-requires t c = omega (arith, c.well_formed, c.decreases, c.requires.0.values, records_pos c.requires.0.expression)
 
 pub write_where-put_where_head-requires : goal.write_where-put_where_head-requires
 write_where-put_where_head-requires t c = where_room (asked_where c.requires.1 c.requires.0)
 
-pub write_where-overflow_add-first : goal.write_where-overflow_add-first
-write_where-overflow_add-first t c = omega (arith, c.well_formed, c.decreases, c.requires.0.inside)
-
-pub write_where-overflow_add-first-2 : goal.write_where-overflow_add-first-2
-write_where-overflow_add-first-2 t c = omega (arith, c.well_formed, c.decreases, where_room (asked_where c.requires.1 c.requires.0))
-
-pub write_where-overflow_add-first-3 : goal.write_where-overflow_add-first-3
-write_where-overflow_add-first-3 t c = omega (arith, c.next_spare-o.ensures.below)
-
 pub write_where-write-left-requires : goal.write_where-write-left-requires
 write_where-write-left-requires t c = let (x, g, f, a) = asked_where c.requires.1 c.requires.0 in
-    (omega (arith, c.well_formed, c.decreases, c.requires.0.inside), where_left c.next_spare-p.ensures c.next_spare-o.ensures x g f a (search rules))
+    (omega (arith, c.well_formed, c.decreases, c.requires.0.inside), where_left c.next_endpoint-inner.ensures.0 c.next_endpoint-inner.ensures.1 x g f a (search rules))
 
 pub write_where-put_where_middle-requires : goal.write_where-put_where_middle-requires
 write_where-put_where_middle-requires t c = let (x, g, f, a) = asked_where c.requires.1 c.requires.0 in
-    let m = where_middle_lem c.next_spare-p.ensures c.next_spare-o.ensures x g f a c.write-left.ensures in
+    let m = where_middle_lem c.next_endpoint-inner.ensures.0 c.next_endpoint-inner.ensures.1 x g f a c.write-left.ensures in
     omega (arith, c.well_formed, c.decreases, m.0)
 
 pub write_where-overflow_add-second : goal.write_where-overflow_add-second
 write_where-overflow_add-second t c = let (x, g, f, a) = asked_where c.requires.1 c.requires.0 in
-    let m = where_middle_lem c.next_spare-p.ensures c.next_spare-o.ensures x g f a c.write-left.ensures in
+    let m = where_middle_lem c.next_endpoint-inner.ensures.0 c.next_endpoint-inner.ensures.1 x g f a c.write-left.ensures in
     omega (arith, c.well_formed, c.decreases, m.0)
 
 pub write_where-overflow_add-second-2 : goal.write_where-overflow_add-second-2
 write_where-overflow_add-second-2 t c = let (x, g, f, a) = asked_where c.requires.1 c.requires.0 in
-    let m = where_middle_lem c.next_spare-p.ensures c.next_spare-o.ensures x g f a c.write-left.ensures in
+    let m = where_middle_lem c.next_endpoint-inner.ensures.0 c.next_endpoint-inner.ensures.1 x g f a c.write-left.ensures in
     omega (arith, c.well_formed, c.decreases, m.1)
 
 pub write_where-write-right-requires : goal.write_where-write-right-requires
 write_where-write-right-requires t c = let (x, g, f, a) = asked_where c.requires.1 c.requires.0 in
     let w = c.write-left.ensures in
-    (omega (arith, c.well_formed, c.decreases, c.requires.0.inside, w.past), where_right c.next_spare-p.ensures c.next_spare-o.ensures x g f a w (search rules))
+    (omega (arith, c.well_formed, c.decreases, c.requires.0.inside, w.past), where_right c.next_endpoint-inner.ensures.0 c.next_endpoint-inner.ensures.1 x g f a w (search rules))
 
 pub write_where-put_where_tail-requires : goal.write_where-put_where_tail-requires
 write_where-put_where_tail-requires t c = let (x, g, f, a) = asked_where c.requires.1 c.requires.0 in
-    omega (arith, c.well_formed, c.decreases, where_tail_lem c.next_spare-p.ensures c.next_spare-o.ensures x g f a c.write-left.ensures c.write-right.ensures)
+    omega (arith, c.well_formed, c.decreases, where_tail_lem c.next_endpoint-inner.ensures.0 c.next_endpoint-inner.ensures.1 x g f a c.write-left.ensures c.write-right.ensures)
 
 pub write_where-overflow_add-result : goal.write_where-overflow_add-result
 write_where-overflow_add-result t c = let (x, g, f, a) = asked_where c.requires.1 c.requires.0 in
-    omega (arith, c.well_formed, c.decreases, where_tail_lem c.next_spare-p.ensures c.next_spare-o.ensures x g f a c.write-left.ensures c.write-right.ensures)
+    omega (arith, c.well_formed, c.decreases, where_tail_lem c.next_endpoint-inner.ensures.0 c.next_endpoint-inner.ensures.1 x g f a c.write-left.ensures c.write-right.ensures)
 
 pub write_where-returns : goal.write_where-returns
 write_where-returns t c = let (x, g, f, a) = asked_where c.requires.1 c.requires.0 in
-    let m = where_middle_lem c.next_spare-p.ensures c.next_spare-o.ensures x g f a c.write-left.ensures in
-    where_gives c.requires.0.start c.next_spare-p.ensures c.next_spare-o.ensures c.word_at-x.ensures c.requires.1 c.requires.0.first c.put_where_head.ensures c.write-left.ensures (omega (arith, m.1)) c.put_where_middle.ensures c.write-right.ensures c.put_where_tail.ensures
+    let m = where_middle_lem c.next_endpoint-inner.ensures.0 c.next_endpoint-inner.ensures.1 x g f a c.write-left.ensures in
+    where_gives c.requires.0.start c.next_endpoint-inner.ensures.0 c.next_endpoint-inner.ensures.1 c.word_at-x.ensures c.requires.1 c.requires.0.first c.put_where_head.ensures c.write-left.ensures (omega (arith, m.1)) c.put_where_middle.ensures c.write-right.ensures c.put_where_tail.ensures

@@ -27,4 +27,4 @@ write_translation-requires c = let k = c.requires in (k, λ e h. omega (arith, c
 
 pub returns : goal.returns
 returns c e h = let (x, y, z) = c.measure-extent.ensures.is e (whole_at e h.is) in
-    written_answers e _ _ (known_few c.requires e h) _ _ (rw (y, z) at c.if-extent.false) (rw y at c.if-out-extent.false) (c.write_translation.ensures e h) _ y
+    rw c.accepted.ensures (written_answers e _ _ (known_few c.requires e h) _ _ (rw (y, z) at c.if-extent.false) (rw y at c.if-out-extent.false) (c.write_translation.ensures e h) _ y)

@@ -1,6 +1,6 @@
 use mathlib.Core.Path.{◌≡◌}
 use mathlib.Core.List.{List, ◌++◌}
-use Prim.Native.Nat.{ℕ, ◌*◌, ◌-◌, ◌≤◌}
+use Prim.Native.Nat.{ℕ, ◌*◌, ◌≤◌}
 use lib.ListN.{length, drop}
 use Rattle.cows.specs.Terms.{Term}
 use Rattle.cows.specs.Format.{encode}
@@ -10,8 +10,5 @@ use Rattle.elapse.proofs.Listing.{lowered}
 use Rattle.elapse.proofs.waits.lower_listed.Given as goal
 
 abbrev pub invariant-loop-i : goal.invariant-loop-i
-invariant-loop-i l = (l.i ≤ l.w) × (2 * l.w ≤ length l.list) × (length l.t ≡ length l.initial.t)
+invariant-loop-i l = (2 * l.w ≤ length l.list) × (length l.t ≡ length l.initial.t)
     × ((u : Term) (rest : List ℕ) → l.initial.t ≡ encode u ++ rest → Lists l.list l.w (wait_places u) → lowered l.d l.t (drop l.i (wait_places u)) ≡ encode (elapse l.d u) ++ rest)
-
-abbrev pub decreases-loop-i : goal.decreases-loop-i
-decreases-loop-i l = l.w - l.i

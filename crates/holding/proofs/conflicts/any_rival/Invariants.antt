@@ -6,6 +6,3 @@ use Rattle.holding.proofs.conflicts.any_rival.Given as goal
 
 abbrev pub invariant-loop-i : goal.invariant-loop-i
 invariant-loop-i l = l.any ≡ false → (j : ℕ) → l.from ≤ j → j < l.i → rival_at l.s l.b j ≡ false
-
-abbrev pub decreases-loop-i : goal.decreases-loop-i
-decreases-loop-i l = l.to - l.i

@@ -9,4 +9,4 @@ pub returns-in_default : goal.returns-in_default
 returns-in_default c t m h p k z = receive_tests _ t _ _ m h p c.if-s-i-ne-RECEIVE.false _ (λ q x. sym c.in_default.is ∙ c.fits_closed.ensures q m x k z)
 
 pub returns : goal.returns
-returns c t m h p k z = receive_tests _ t _ _ m h p c.if-s-i-ne-RECEIVE.false _ (λ q x. sym c.in-Binds.is ∙ c.fits_closed.ensures q m x k z)
+returns c t m h p k z = receive_tests _ t _ _ m h p c.if-s-i-ne-RECEIVE.false _ (λ q x. sym c.in-Ok.is ∙ c.fits_closed.ensures q m x k z)

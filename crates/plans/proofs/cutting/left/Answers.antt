@@ -1,4 +1,4 @@
 use Rattle.plans.proofs.cutting.left.Goals as goal
 
 pub returns : goal.returns
-returns c = rw (c.wide16.ensures.0, c.wide16-2.ensures.0)
+returns c = rw (c.from.ensures, c.from-2.ensures)

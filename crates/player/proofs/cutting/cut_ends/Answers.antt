@@ -12,16 +12,16 @@ pub overflow_sub-middle : goal.overflow_sub-middle
 overflow_sub-middle c = omega (arith, c.requires.span)
 
 pub lower_around-requires : goal.lower_around-requires
-lower_around-requires c = cut_around _ _ _ _ c.requires c.wide16-body.ensures.0 c.wide16.ensures.0
+lower_around-requires c = cut_around _ _ _ _ c.requires c.from-body.ensures c.from.ensures
 
 pub lower_ends-requires : goal.lower_ends-requires
-lower_ends-requires c = cut-within _ _ _ _ c.requires c.wide16-body.ensures.0 c.wide16.ensures.0 c.lower_around.ensures c.ends-1.given
+lower_ends-requires c = cut-within _ _ _ _ c.requires c.from-body.ensures c.from.ensures c.lower_around.ensures c.ends-1.given
 
 pub overflow_sub-n : goal.overflow_sub-n
-overflow_sub-n c = cut_fits _ c.args.n _ _ c.requires c.wide16-body.ensures.0 c.wide16.ensures.0
+overflow_sub-n c = cut_fits _ c.args.n _ _ c.requires c.from-body.ensures c.from.ensures
 
 pub lower_ends-requires-2 : goal.lower_ends-requires-2
-lower_ends-requires-2 c = cut-behind _ _ _ _ c.requires c.wide16-body.ensures.0 c.wide16.ensures.0 c.lower_around.ensures c.ends-1.given c.lower_ends.ensures c.ends-2-1.given
+lower_ends-requires-2 c = cut-behind _ _ _ _ c.requires c.from-body.ensures c.from.ensures c.lower_around.ensures c.ends-1.given c.lower_ends.ensures c.ends-2-1.given
 
 pub returns : goal.returns
-returns c = cut_done _ _ _ _ c.requires c.wide16-body.ensures.0 c.wide16.ensures.0 c.lower_around.ensures c.ends-1.given c.lower_ends.ensures c.ends-2-1.given c.lower_ends-2.ensures
+returns c = cut_done _ _ _ _ c.requires c.from-body.ensures c.from.ensures c.lower_around.ensures c.ends-1.given c.lower_ends.ensures c.ends-2-1.given c.lower_ends-2.ensures

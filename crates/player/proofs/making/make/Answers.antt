@@ -1,8 +1,14 @@
-use mathlib.Core.Path.{sym, ◌∙◌}
+use mathlib.Core.Path.{◌≡◌, sym, ◌∙◌}
+use mathlib.Core.Bool.{cond}
+use Prim.Native.Nat.{◌+◌}
+use lib.Dec.{eqb}
+use borrow.Author.Rules.{rules}
+use Rattle.std.specs.Prelude.{None}
 use native.Mathlib.Omega.{arith}
 use lib.Seq.{length-take-le}
 use Rattle.player.proofs.Turning.{held_few}
 use Rattle.player.proofs.Successors.{make_inside, makes_there, time-asked, makes_time, float-inside, float_ends, makes_float, cut-asked, makes_cut, meeting-asked, makes_met}
+use Rattle.ways.proofs.KnownTables.{well_formed}
 use Rattle.player.proofs.making.make.Goals as goal
 
 pub count_waits-w-requires : goal.count_waits-w-requires
@@ -20,11 +26,13 @@ lift_in-requires c = let (b, _, i) = float-inside _ _ _ _ _ _ _ c.requires _ c.i
 pub lift_ends-requires : goal.lift_ends-requires
 lift_ends-requires c = float_ends _ _ _ _ _ _ _ c.requires _ c.in-Extrude.is
 
-pub overflow_add-result : goal.overflow_add-result
-overflow_add-result c = record { fits = omega (arith, float_ends _ _ _ _ _ _ _ c.requires _ c.in-Extrude.is) }
+pub overflow_add-right_above : goal.overflow_add-right_above
+overflow_add-right_above c = record { fits = omega (arith, float_ends _ _ _ _ _ _ _ c.requires _ c.in-Extrude.is) }
 
 pub returns-in-Extrude : goal.returns-in-Extrude
-returns-in-Extrude c = makes_float _ _ _ _ _ _ _ c.requires _ c.in-Extrude.is _ _ c.lift_in.ensures c.lift_ends.ensures (omega (arith, c.ends-1))
+returns-in-Extrude c =
+    let e : c.filter.result ≡ cond (eqb c.in-Extrude.a (c.args.from + 1)) c.args.kept.waits None = search rules in
+    rw e (makes_float _ _ _ _ _ _ _ c.requires _ c.in-Extrude.is _ _ c.lift_in.ensures c.lift_ends.ensures (omega (arith, c.ends-1)))
 
 pub overflow_mul-size : goal.overflow_mul-size
 overflow_mul-size c = omega (arith, make_inside _ _ _ _ _ _ _ c.requires)
@@ -32,11 +40,14 @@ overflow_mul-size c = omega (arith, make_inside _ _ _ _ _ _ _ c.requires)
 pub overflow_mul-after : goal.overflow_mul-after
 overflow_mul-after c = omega (arith, make_inside _ _ _ _ _ _ _ c.requires)
 
-pub slice_bounds-write-end : goal.slice_bounds-write-end
-slice_bounds-write-end c = omega (arith, c.requires.inside)
+pub slice_bounds-table-end : goal.slice_bounds-table-end
+slice_bounds-table-end c = omega (arith, c.requires.inside)
 
-pub slice_bounds-write-end-2 : goal.slice_bounds-write-end-2
-slice_bounds-write-end-2 c = sym (length-take-le _ _ c.requires.inside)
+pub slice_bounds-table-end-2 : goal.slice_bounds-table-end-2
+slice_bounds-table-end-2 c = sym (length-take-le _ _ c.requires.inside)
+
+pub invariant_of-table : goal.invariant_of-table
+invariant_of-table c = record { known = well_formed c.requires.asks.known }
 
 pub write-requires : goal.write-requires
 write-requires c = c.requires.asks

@@ -3,7 +3,7 @@ use Rattle.player.proofs.Playing.{opening, playing_ready, playing_next, playing_
 use Rattle.player.proofs.nights.night.Goals as goal
 
 pub loop-i-init : goal.loop-i-init
-loop-i-init c = opening _ _ _ _ _ _ _ c.requires _ c.zeros-t.ensures
+loop-i-init c = opening _ _ _ _ _ _ _ c.requires _ c.default-t.ensures
 
 pub record_move-kept-requires : goal.record_move-kept-requires
 record_move-kept-requires c = (playing_ready _ _ _ _ _ _ _ c.requires _ _ _ _ _ _ _ c.loop-i.invariant c.loop-i-test.true, c.loop-i.invariant.small)

@@ -1,11 +1,8 @@
-use mathlib.Core.Path.{refl, ap, ◌∙◌}
-use native.Mathlib.Omega.{arith}
-use lib.ListN.{drop, length-drop}
-use lib.Seq.{length-take-le}
-use Rattle.records.specs.Rewrites.{put}
-use Rattle.records.proofs.Put.{put_all}
+use mathlib.Core.Path.{◌∙◌}
+use Rattle.records.proofs.Put.{put_range, range_bytes}
 use Rattle.records.proofs.copying.copy_record.Goals as goal
 
 pub returns : goal.returns
 returns c = let z = c.args in
-    c.copy-2.ensures ∙ ap (put z.dst.now z.to) (put_all _ _ 16 refl (length-take-le 16 (drop z.from z.src.now) (omega (arith, length-drop z.from z.src.now))) c.copy.ensures)
+    let (e, l) = range_bytes z.src.now z.from 16 c.requires.0 in
+    put_range _ _ 16 _ _ c.requires.1 l (c.copy_from_slice-2.ensures.after ∙ (c.copy_from_slice.ensures.after ∙ e))

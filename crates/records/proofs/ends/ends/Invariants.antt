@@ -6,6 +6,3 @@ use Rattle.records.proofs.ends.ends.Given as goal
 
 abbrev pub invariant-loop-i : goal.invariant-loop-i
 invariant-loop-i l = (l.n ≡ length l.s / 16) × (l.i ≤ l.n) × (length l.out ≡ length l.initial.out) × EndsFrom l.s l.out l.i × (l.top ≡ get_or l.out l.i 0)
-
-abbrev pub decreases-loop-i : goal.decreases-loop-i
-decreases-loop-i l = l.i

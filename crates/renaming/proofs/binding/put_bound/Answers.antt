@@ -11,52 +11,35 @@ use Rattle.renaming.proofs.binding.put_bound.Goals as goal
 
 pub put_nil-requires : goal.put_nil-requires
 unfolding put
-put_nil-requires c = room_nil _ _ _ _ _ _ _ _ _ c.if-i-b.true c.requires.1
-
-pub overflow_add-result : goal.overflow_add-result
-unfolding put
-overflow_add-result c = let l = room_nil _ _ _ _ _ _ _ _ _ c.if-i-b.true c.requires.1 in omega arith
+put_nil-requires c = room_nil _ _ _ _ _ _ c.if-i-b.true c.requires.1
 
 pub returns-then-i-b : goal.returns-then-i-b
 unfolding put
-returns-then-i-b c = rw (bound-nil _ _ _ _ _ _ _ c.if-i-b.true) (c.put_nil.ensures, rw (length_record16 (basic nil)))
+returns-then-i-b c = rw (bound-nil _ _ _ _ c.if-i-b.true) (c.put_nil.ensures, rw (length_record16 (basic nil)))
 
 pub copy_record-requires : goal.copy_record-requires
 unfolding put
 copy_record-requires c = let p = c.requires in
-    (omega arith, let l = room_kept _ _ _ _ _ _ _ _ _ p.0 c.if-i-b.false (closed-goes _ _ _ _ _ _ (sym c.closed.ensures ∙ c.if-closed.true)) p.1 in omega arith)
-
-pub overflow_add-result-then-closed : goal.overflow_add-result-then-closed
-unfolding put
-overflow_add-result-then-closed c = let p = c.requires in
-    let l = room_kept _ _ _ _ _ _ _ _ _ p.0 c.if-i-b.false (closed-goes _ _ _ _ _ _ (sym c.closed.ensures ∙ c.if-closed.true)) p.1 in
-    omega arith
+    (omega arith, let l = room_kept _ _ _ _ _ _ p.0 c.if-i-b.false (closed-goes _ _ _ (sym c.closed.ensures ∙ c.if-closed.true)) p.1 in omega arith)
 
 pub returns-then-closed : goal.returns-then-closed
 unfolding put
 returns-then-closed c = let z = sym c.closed.ensures ∙ c.if-closed.true in
     let a = c.args in
     let l = c.requires.0 in
-    rw (bound-kept _ _ _ _ _ _ _ c.if-i-b.false (closed-goes _ _ _ _ _ _ z), ← closed_stays _ _ _ _ _ _ z, record_same a.s.now (16 * a.i) l (λ j. omega (arith, c.shared_slice_known-1.given j)))
+    rw (bound-kept _ _ _ _ c.if-i-b.false (closed-goes _ _ _ z), ← closed_stays _ _ _ z, record_same a.s.now (16 * a.i) l (λ j. omega (arith, c.shared_slice_known-1.given j)))
     (c.copy_record.ensures, rw (length_piece _ _ l))
 
-pub returns-then-delimits_taken : goal.returns-then-delimits_taken
+pub returns-then-removes : goal.returns-then-removes
 unfolding put
-returns-then-delimits_taken c = rw (bound-gone _ _ _ _ _ _ _ c.if-i-b.false (sym c.delimits_taken.ensures ∙ c.if-delimits_taken.true)) (refl, omega arith)
+returns-then-removes c = rw (bound-gone _ _ _ _ c.if-i-b.false (sym c.removes.ensures ∙ c.if-removes.true)) (refl, omega arith)
 
-pub put_images-requires : goal.put_images-requires
+pub put_mapped-requires : goal.put_mapped-requires
 unfolding put
-put_images-requires c = let p = c.requires in
-    (p.0, room_kept _ _ _ _ _ _ _ _ _ p.0 c.if-i-b.false (sym c.delimits_taken.ensures ∙ c.if-delimits_taken.false) p.1)
-
-pub overflow_add-result-2 : goal.overflow_add-result-2
-unfolding put
-overflow_add-result-2 c = let p = c.requires in
-    let g = sym c.delimits_taken.ensures ∙ c.if-delimits_taken.false in
-    let l = room_kept _ _ _ _ _ _ _ _ _ p.0 c.if-i-b.false g p.1 in
-    omega arith
+put_mapped-requires c = let p = c.requires in
+    (p.0, room_kept _ _ _ _ _ _ p.0 c.if-i-b.false (sym c.removes.ensures ∙ c.if-removes.false) p.1)
 
 pub returns : goal.returns
 unfolding put
-returns c = rw (bound-kept _ _ _ _ _ _ _ c.if-i-b.false (sym c.delimits_taken.ensures ∙ c.if-delimits_taken.false))
-    (c.put_images.ensures, rw (length-map_record _ _ _ c.requires.0))
+returns c = rw (bound-kept _ _ _ _ c.if-i-b.false (sym c.removes.ensures ∙ c.if-removes.false))
+    (c.put_mapped.ensures, rw (length-map_record _ _ _ c.requires.0))

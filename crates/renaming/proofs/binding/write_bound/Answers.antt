@@ -1,10 +1,6 @@
-use mathlib.Core.Path.{refl}
 use native.Mathlib.Omega.{arith}
-use Rattle.renaming.proofs.Across.{writing_start, writing_room, writing_turn, writing_end}
+use Rattle.renaming.proofs.Across.{writing_room, writing_turn, writing_end}
 use Rattle.renaming.proofs.binding.write_bound.Goals as goal
-
-pub loop-i-init : goal.loop-i-init
-loop-i-init c = writing_start _ _ _ _ _ _ refl
 
 pub put_bound-next-requires : goal.put_bound-next-requires
 put_bound-next-requires c = (omega arith, writing_room _ _ _ _ _ _ _ _ _ c.loop-i.invariant c.requires.1 c.loop-i-test.true)

@@ -1,15 +1,11 @@
-use mathlib.Core.Path.{sym, ◌∙◌}
-use Rattle.cows.proofs.Basics.{never}
+use mathlib.Core.Path.{◌∙◌}
 use Rattle.renaming.specs.Names.{delimited}
 use Rattle.renaming.proofs.Across.{across-end}
 use Rattle.renaming.proofs.Choosing.{next_other}
 use Rattle.renaming.proofs.names.delimits.Goals as goal
 
-pub returns-then-s-i-eq8 : goal.returns-then-s-i-eq8
-returns-then-s-i-eq8 c e = never (sym e)
-
 pub loop-i-preserved : goal.loop-i-preserved
-loop-i-preserved c = c.loop-i.invariant ∙ next_other _ _ _ c.loop-i-test.true c.if-s-i-eq8.false
+loop-i-preserved c = c.loop-i.invariant ∙ next_other _ _ _ c.loop-i-test.true c.if-s-i-eq-DELIMITATION.false
 
 pub returns : goal.returns
 returns c e = c.loop-i.invariant ∙ across-end delimited _ _ _ c.loop-i-test.false

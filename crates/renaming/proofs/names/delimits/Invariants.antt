@@ -7,6 +7,3 @@ use Rattle.renaming.proofs.names.delimits.Given as goal
 -- what is delimited from place i on is all
 abbrev pub invariant-loop-i : goal.invariant-loop-i
 invariant-loop-i l = across delimited l.s l.from (l.to - l.from) ≡ across delimited l.s l.i (l.to - l.i)
-
-abbrev pub decreases-loop-i : goal.decreases-loop-i
-decreases-loop-i l = l.to - l.i

@@ -1,21 +1,17 @@
-use native.Mathlib.Omega.{arith}
-use Rattle.renaming.proofs.Occurring.{five_fit, five_entered}
+use mathlib.Core.Path.{sym, ◌∙◌}
+use borrow.Author.Tests.{ltb-true}
+use Rattle.cows.proofs.Basics.{and_true}
+use Rattle.renaming.proofs.Occurring.{every-drop, entered-drop, entered-none}
 use Rattle.renaming.proofs.names.enter_all.Goals as goal
 
 pub enter-requires : goal.enter-requires
-enter-requires c = (five_fit _ _ _ _ _ _ c.requires).0
+enter-requires c = let v = c.loop-a.invariant in
+    rw v.0 (ltb-true _ _ (and_true _ _ (sym (every-drop _ _ _ c.loop-a-test.true) ∙ v.1)).0)
 
-pub enter-requires-2 : goal.enter-requires-2
-enter-requires-2 c = omega (arith, (five_fit _ _ _ _ _ _ c.requires).1, c.enter.auto.names)
-
-pub enter-requires-3 : goal.enter-requires-3
-enter-requires-3 c = omega (arith, (five_fit _ _ _ _ _ _ c.requires).2, c.enter.auto.names, c.enter-2.auto.names)
-
-pub enter-requires-4 : goal.enter-requires-4
-enter-requires-4 c = omega (arith, (five_fit _ _ _ _ _ _ c.requires).3, c.enter.auto.names, c.enter-2.auto.names, c.enter-3.auto.names)
-
-pub enter-requires-5 : goal.enter-requires-5
-enter-requires-5 c = omega (arith, (five_fit _ _ _ _ _ _ c.requires).4, c.enter.auto.names, c.enter-2.auto.names, c.enter-3.auto.names, c.enter-4.auto.names)
+pub loop-a-preserved : goal.loop-a-preserved
+loop-a-preserved c = let v = c.loop-a.invariant in
+    (c.enter.auto.names ∙ v.0, (and_true _ _ (sym (every-drop _ _ _ c.loop-a-test.true) ∙ v.1)).1, rw c.enter.ensures (sym (entered-drop _ _ _ c.loop-a-test.true) ∙ v.2))
 
 pub returns : goal.returns
-returns c = five_entered _ _ _ _ _ _ c.enter.ensures c.enter-2.ensures c.enter-3.ensures c.enter-4.ensures c.enter-5.ensures
+returns c = let v = c.loop-a.invariant in
+    record { fit = sym c.if-not-all_fit.false ∙ c.all_fit.ensures; left = λ e. sym (entered-none _ _ _ c.loop-a-test.false) ∙ v.2 }

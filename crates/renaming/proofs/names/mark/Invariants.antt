@@ -1,12 +1,8 @@
-use mathlib.Core.Path.{◌≡◌}
-use Prim.Native.Nat.{◌-◌, ◌/◌, ◌≤◌}
+use Prim.Native.Nat.{◌/◌}
 use lib.ListN.{length}
 use Rattle.renaming.proofs.Occurring.{Marking-on}
 use Rattle.renaming.proofs.names.mark.Given as goal
 
 -- what is entered from place i on is all that is left to enter
 abbrev pub invariant-loop-i : goal.invariant-loop-i
-invariant-loop-i l = (l.n ≡ length l.s / 16) × (l.i ≤ l.n) × Marking-on l.s l.initial.names l.names l.n l.i
-
-abbrev pub decreases-loop-i : goal.decreases-loop-i
-decreases-loop-i l = l.n - l.i
+invariant-loop-i l = Marking-on l.s l.initial.names l.names (length l.s / 16) l.i

@@ -16,31 +16,31 @@ nil_at-requires t c = let r = c.requires in record { rewritable = as_asks _ gone
 pub returns-then-a-at : goal.returns-then-a-at
 returns-then-a-at t c = as_gives _ gone _ (aside_here _) c.nil_at.ensures (λ t y. search rules)
 
-pub aside_at-first-requires : goal.aside_at-first-requires
-aside_at-first-requires t c = let r = c.requires in (search rules, way_first_asks r.rewritable r.place_of (search rules) (search rules) (search rules) (search rules))
+pub aside_at-next-requires : goal.aside_at-next-requires
+aside_at-next-requires t c = let r = c.requires in (search rules, way_first_asks r.rewritable r.place_of (search rules) (search rules) (search rules) (search rules))
 
 pub halt_at-requires : goal.halt_at-requires
 halt_at-requires t c = let r = c.requires in
-    by_clauses (halt_second_asks r.rewritable r.place_of (search rules) (search rules) c.aside_at-first.ensures (search rules) (search rules) (search rules))
+    by_clauses (halt_second_asks r.rewritable r.place_of (search rules) (search rules) c.aside_at-next.ensures (search rules) (search rules) (search rules))
 
 pub returns-then-children-eq2 : goal.returns-then-children-eq2
 returns-then-children-eq2 t c = let r = c.requires in
-    way_first-both r.rewritable r.place_of (search rules) (search rules) c.aside_at-first.ensures (search rules) (search rules)
+    way_first-both r.rewritable r.place_of (search rules) (search rules) c.aside_at-next.ensures (search rules) (search rules)
     c.copy_record.ensures c.halt_at.ensures
 
 pub returns-then-a-end_at : goal.returns-then-a-end_at
 returns-then-a-end_at t c = let r = c.requires in
-    way_first_one r.rewritable r.place_of (search rules) (search rules) c.aside_at-first.ensures (search rules) (search rules)
+    way_first_one r.rewritable r.place_of (search rules) (search rules) c.aside_at-next.ensures (search rules) (search rules)
     c.copy_record.ensures
 
-pub halt_at-first-requires : goal.halt_at-first-requires
-halt_at-first-requires t c = let r = c.requires in by_clauses (halt-first_asks r.rewritable r.place_of (search rules) (search rules) (search rules) (search rules))
+pub halt_at-next-requires : goal.halt_at-next-requires
+halt_at-next-requires t c = let r = c.requires in by_clauses (halt-first_asks r.rewritable r.place_of (search rules) (search rules) (search rules) (search rules))
 
 pub aside_at-requires : goal.aside_at-requires
 aside_at-requires t c = let r = c.requires in
-    (search rules, way_second_asks r.rewritable r.place_of (search rules) (search rules) c.halt_at-first.ensures (search rules) (search rules))
+    (search rules, way_second_asks r.rewritable r.place_of (search rules) (search rules) c.halt_at-next.ensures (search rules) (search rules))
 
 pub returns : goal.returns
 returns t c = let r = c.requires in
-    way_second_both r.rewritable r.place_of (search rules) (search rules) c.halt_at-first.ensures (search rules)
+    way_second_both r.rewritable r.place_of (search rules) (search rules) c.halt_at-next.ensures (search rules)
     c.copy_record.ensures c.aside_at.ensures

@@ -21,23 +21,23 @@ copy_term-requires t c = let r = c.requires in record { rewritable = as_asks hal
 pub returns-then-kind-eq-PROTECTION : goal.returns-then-kind-eq-PROTECTION
 returns-then-kind-eq-PROTECTION t c = as_gives halt unchanged Kept halt-kept (search rules) (kept_at (search rules))
 
-pub halt_at-first-requires : goal.halt_at-first-requires
-halt_at-first-requires t c = let r = c.requires in
+pub halt_at-next-requires : goal.halt_at-next-requires
+halt_at-next-requires t c = let r = c.requires in
     (search rules, first_child halt halt halt Through halt_step r.rewritable r.aligned (through_at (search rules) (search rules)) (children-some _ (search rules)) (search rules) (search rules))
 
 pub halt_at-requires : goal.halt_at-requires
 halt_at-requires t c = let r = c.requires in (
   search rules,
-  second_child halt halt halt Through halt_step r.rewritable r.aligned (through_at (search rules) (search rules)) (children-some _ (search rules)) c.halt_at-first.ensures (search rules)
+  second_child halt halt halt Through halt_step r.rewritable r.aligned (through_at (search rules) (search rules)) (children-some _ (search rules)) c.halt_at-next.ensures (search rules)
       (search rules) (search rules),
 )
 
 pub returns-then-children-eq2 : goal.returns-then-children-eq2
 returns-then-children-eq2 t c = let r = c.requires in
-    two_children halt halt halt Through halt_step r.rewritable r.aligned (through_at (search rules) (search rules)) (children-some _ (search rules)) c.halt_at-first.ensures (search rules)
+    two_children halt halt halt Through halt_step r.rewritable r.aligned (through_at (search rules) (search rules)) (children-some _ (search rules)) c.halt_at-next.ensures (search rules)
     (search rules) c.copy_record.ensures c.halt_at.ensures
 
 pub returns : goal.returns
 returns t c = let r = c.requires in
-    one_child halt halt halt Through halt_step r.rewritable r.aligned (through_at (search rules) (search rules)) (children-some _ (search rules)) c.halt_at-first.ensures (search rules) (search rules)
+    one_child halt halt halt Through halt_step r.rewritable r.aligned (through_at (search rules) (search rules)) (children-some _ (search rules)) c.halt_at-next.ensures (search rules) (search rules)
     c.copy_record.ensures

@@ -1,10 +1,8 @@
-use mathlib.Core.Path.{◌∙◌}
-use native.Mathlib.Omega.{arith}
-use Rattle.stepper.proofs.Moved.{fitting-not, fitting_so}
+use Rattle.std.proofs.lemmas.Result.{err_from_is_err_and}
+use Rattle.stepper.proofs.Moved.{fitting_not}
 use Rattle.stepper.proofs.answering.fitting.Goals as goal
 
-pub returns-then-room-n : goal.returns-then-room-n
-returns-then-room-n c = c.refusal.ensures ∙ fitting-not c.args.room c.args.n (omega arith)
-
-pub returns : goal.returns
-returns c = fitting_so c.args.room c.args.n (omega arith)
+pub returns-in_err-plan : goal.returns-in_err-plan
+returns-in_err-plan c =
+    let r = err_from_is_err_and c.from_residual.result c.from_residual.ensures.1 in
+    rw (r.1, r.2) (fitting_not _ _ c.map_err.ensures.cases c.in_err-plan.was)

@@ -1,10 +1,9 @@
 use native.Mathlib.Omega.{arith}
 use Prim.Native.Nat.{◌*◌}
+use Rattle.std.proofs.lemmas.Option.{IfSome_then}
 use Rattle.ranges.proofs.FieldRanges.{ranged-kind}
+use Rattle.tables.proofs.Passing.{shape_sound}
 use Rattle.tables.proofs.quick.sound.Goals as goal
-
-pub returns-then-not-fields_right : goal.returns-then-not-fields_right
-returns-then-not-fields_right c h = absurd (h (omega arith))
 
 pub shape_of-requires : goal.shape_of-requires
 shape_of-requires c = let x = c.requires in
@@ -19,10 +18,6 @@ shape_of-requires c = let x = c.requires in
     }
 
 pub returns : goal.returns
-returns c h = let s = c.shape_of.ensures h in
-    record {
-      fields = c.fields_right.ensures c.if-not-fields_right.false;
-      whole = s.whole;
-      low = s.low;
-      lists = record { end = s.end; delimitations = s.mark; marks_room = omega (arith, c.requires.1.marks_room, c.shape_of.auto.marks); uses = s.user; users_room = omega (arith, c.requires.1.users_room, c.shape_of.auto.users) };
-    }
+returns c = let l = c.requires.1 in
+    IfSome_then _ c.shape_of.ensures
+    (λ h. shape_sound _ _ _ _ (omega (arith, l.marks_room, c.shape_of.auto.marks)) (omega (arith, l.users_room, c.shape_of.auto.users)) (c.fields_right.ensures c.if-not-fields_right.false) h.height h.marks h.users)

@@ -1,9 +1,0 @@
-use native.Mathlib.Omega.{arith}
-use Rattle.renaming.proofs.Copies.{blank_new}
-use Rattle.renaming.proofs.copy_middle.Goals as goal
-
-pub copy_by-requires : goal.copy_by-requires
-copy_by-requires c = let p = c.requires in (p.0, p.1, blank_new _ 8192 (omega arith) (omega (arith, p.2)))
-
-pub returns : goal.returns
-returns c = c.copy_by.ensures.1

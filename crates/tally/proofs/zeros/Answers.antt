@@ -1,6 +1,0 @@
-use Rattle.cows.specs.Run.{no_tally}
-use Rattle.tally.proofs.zeros.Goals as goal
-
-pub returns : goal.returns
-unfolding no_tally
-returns c = c.counted.ensures
