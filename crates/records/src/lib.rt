@@ -9,7 +9,6 @@ pub mod limits;
 ghost use Rattle.std.specs.Prelude.{◌≡◌, ◌==◌, ◌+◌, ◌-◌, ◌<◌, ◌≤◌, eqb, length};
 ghost use Rattle.std.specs.Cmp.Rules.{comparing};
 ghost use Rattle.std.specs.Ordering.{on};
-ghost use Rattle.std.proofs.Common.{rules};
 ghost use Rattle.cows.specs.Limits.{first_label};
 ghost use Rattle.cows.specs.Kinds.{children_of};
 ghost use Rattle.cows.specs.Format.{word};
@@ -86,7 +85,7 @@ impl From<Atom> for u16 {
 impl PartialEq for Atom {
     ghost eq = { on number_of ◌==◌ };
 
-    ghost laws = { Prim.search (comparing, rules) };
+    ghost laws = { Prim.search comparing };
 
     fn eq(&self, other: &Atom) -> bool {
         u16::from(*self) == u16::from(*other)
@@ -94,7 +93,7 @@ impl PartialEq for Atom {
 }
 
 impl Eq for Atom {
-    ghost laws = { Prim.search (comparing, rules) };
+    ghost laws = { Prim.search comparing };
 }
 
 pub fn is_variable(a: Atom) -> bool
