@@ -1,8 +1,8 @@
 -- Matching by four slots of which those that are not used are 0 (specs/Matching) is matching of the tuples (cows, specs/Moves).
 use mathlib.Core.Path.{◌≡◌, refl, sym, ap, ◌∙◌}
-use mathlib.Core.Bool.{Bool, true, false, cond, not, ◌&&◌, ◌||◌}
+use mathlib.Core.Bool.{Bool, true, false, cond, ◌&&◌, ◌||◌}
 use mathlib.Core.List.{List, [], ◌∷◌}
-use Prim.Native.Nat.{ℕ, zero, suc, ◌+◌, ◌*◌, ◌≤◌, ◌<◌}
+use Prim.Native.Nat.{ℕ, zero, suc, ◌+◌, ◌*◌, ◌≤◌}
 use native.Mathlib.Omega.{arith}
 use lib.Dec.{eqb}
 use lib.ListN.{length, get_or}
@@ -17,7 +17,7 @@ use Rattle.records.specs.Atoms.{closed_at}
 use Rattle.matching.specs.declared.Difference.TheVariants.{Slot}
 use Rattle.std.specs.Prelude as rust
 use Rattle.matching.specs.declared.Difference.{Difference}
-use Rattle.std.specs.Prelude.{Some, None, Ok, Err, position}
+use Rattle.std.specs.Prelude.{Ok, Err}
 use Rattle.matching.specs.Matching.{difference_of, mismatch_of, fit_of, agree, first_unlike, slots_of, slots_at, ActionAt, slot_test}
 
 -- So many variables more; k slots from the n-th on, w in the pattern and v in the message.
@@ -149,18 +149,3 @@ module _ (s : List ℕ) (a b : ℕ) (q m : Action) (h : ActionAt s a q) (k : Act
     slots_so e =
         let l = eqb-true _ _ (and_true ends_same count_same (and_true closed _ e).1).1 in
         slots_same (sym h.count ∙ (l ∙ k.count)) ∙ rw (fit_tests, ← c) (ap fit_of (tests_pass closed ends_same count_same (match 0 q.tuple m.tuple) e))
-
--- the first of four slots that does not agree is told, and where all do, how many variables there are
-pub apart_told : (w x y z : Bool) (n i : ℕ) → Some i ≡ position not (w ∷ x ∷ y ∷ z ∷ []) → (i < 4) × (Err (Slot i) ≡ slots_of w x y z n)
-apart_told false x y z n i e = let k : i ≡ 0 = cc in (omega arith, rw k)
-apart_told true false y z n i e = let k : i ≡ 1 = cc in (omega arith, rw k)
-apart_told true true false z n i e = let k : i ≡ 2 = cc in (omega arith, rw k)
-apart_told true true true false n i e = let k : i ≡ 3 = cc in (omega arith, rw k)
-apart_told true true true true n i e = absurd (cc)
-
-pub none_apart : (w x y z : Bool) (n : ℕ) → None ≡ position not (w ∷ x ∷ y ∷ z ∷ []) → Ok n ≡ slots_of w x y z n
-none_apart false x y z n e = absurd (cc)
-none_apart true false y z n e = absurd (cc)
-none_apart true true false z n e = absurd (cc)
-none_apart true true true false n e = absurd (cc)
-none_apart true true true true n e = refl

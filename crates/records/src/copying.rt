@@ -9,12 +9,15 @@ ghost use Rattle.records.specs.Rewrites.{put, Passes, Rewritable, Rewrites, unch
 #[derive(Clone, Copy)]
 pub struct Places(pub usize, pub usize);
 
-// Copies `len` bytes of src from byte `from` on into dst from byte `to` on.
+// Copies `len` bytes of src from byte `from` on into dst from byte `to` on. A loop, which is made memcpy: `copy_from_slice` between slices of any length is made
+// memmove, a name that the archive for C would need from outside.
 pub fn copy(src: &[u8], from: usize, len: usize, dst: &mut [u8], to: usize)
     requires { (from + len ≤ length src.now) × (to + len ≤ length dst.old) }
     ensures { dst.new ≡ put dst.old to (take len (drop from src.now)) }
 {
-    dst[to..to + len].copy_from_slice(&src[from..from + len]);
+    for i in 0..len {
+        dst[to + i] = src[from + i];
+    }
 }
 
 // Copies the record at byte `from` of src to byte `to` of dst. It is read whole before it is written, and so moved at once.

@@ -56,8 +56,8 @@ impl Bindings {
 impl AtomMap for Bindings {
     ghost map = { λ ts. image_of_all ts.0 };
 
-    fn map(&self, a: u16) -> u16 {
-        u16::from(self.image(Atom::from(a)))
+    fn map(&self, a: u16) -> Atom {
+        self.image(Atom::from(a))
     }
 }
 

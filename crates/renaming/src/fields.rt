@@ -1,29 +1,30 @@
 // Records whose atoms change: kind, tuple count and interval are copied, the six fields for atoms are written anew.
 ghost use Rattle.std.specs.Prelude.{◌≡◌, ℕ, ◌+◌, ◌-◌, ◌*◌, ◌<◌, ◌≤◌, length, take, drop};
+ghost use Rattle.records.specs.Atoms.{number_of};
 ghost use Rattle.records.specs.Rewrites.{put};
 ghost use Rattle.renaming.specs.Mapped.{map_record, mapped, named};
 
 use crate::names::name_of;
 use records::copying::{copy, put_word};
-use records::word_at;
+use records::{Atom, word_at};
 
-// What stands for an atom, of which both are told by their numbers.
+// What stands for the atom of a number: an atom, told by its number too.
 pub trait AtomMap {
     ghost map: { Self → ℕ → ℕ };
 
-    fn map(&self, a: u16) -> u16
-        ensures { result ≡ map self.now a };
+    fn map(&self, a: u16) -> Atom
+        ensures { number_of result ≡ map self.now a };
 }
 
-// The names that were chosen.
+// The names that were chosen: numbers, each classified when it is written.
 #[derive(Clone, Copy)]
 struct Names<'a>(&'a [u16]);
 
 impl<'a> AtomMap for Names<'a> {
     ghost map = { λ n. named n.0.now };
 
-    fn map(&self, a: u16) -> u16 {
-        name_of(self.0, a)
+    fn map(&self, a: u16) -> Atom {
+        Atom::from(name_of(self.0, a))
     }
 }
 
@@ -34,7 +35,11 @@ pub fn put_mapped<M: AtomMap>(s: &[u8], i: usize, m: &M, dst: &mut [u8], at: usi
 {
     copy(s, 16 * i, 2, dst, at);
     for k in 1..7 {
-        put_word(m.map(word_at(s, 16 * i + 2 * k)), dst, at + 2 * k);
+        put_word(
+            u16::from(m.map(word_at(s, 16 * i + 2 * k))),
+            dst,
+            at + 2 * k,
+        );
     }
     copy(s, 16 * i + 14, 2, dst, at + 14);
 }
