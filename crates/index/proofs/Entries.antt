@@ -7,7 +7,7 @@ use Prim.Native.Nat.{ℕ, zero, suc, ◌+◌, ◌*◌, ◌-◌, ◌/◌, ◌%◌
 use native.Mathlib.Omega.{arith}
 use native.Mathlib.Nat.{zero-add}
 use lib.Dec.{leb, ltb, eqb}
-use lib.ListN.{length, get_or, set, replicate, length-replicate}
+use lib.ListN.{length, get_or, set, replicate, length-set, length-replicate}
 use lib.Seq.{get_or-set_same, get_or-set_other}
 use borrow.Author.Count.{below_more}
 use borrow.Author.Tests.{ltb-true, leb-true, eqb-true, eqb-false, not-true, ne_eqb, eq-eqb}
@@ -31,24 +31,28 @@ use Rattle.scopes.proofs.Uses.{place_inside, kind_here, delimitation_is, delimit
 use Rattle.ranges.specs.Lists.{Listed}
 use Rattle.ranges.specs.Ranges.{pattern_right}
 use Rattle.ranges.proofs.Lists.{listed_all}
-use Rattle.index.specs.Index.{slot_of, entry_of, Entering, OnlyEntries, HasEntry, Entered, fault_of, fault_by, Clear, Fine, UsesRight, TableLists, ScopesRight}
+use Rattle.index.specs.Index.{slot_of, entry_of, Entering, OnlyEntries, HasEntry, Entered, fault_of, fault_by, Clear, Fine, UsesRight, TableLists, BlankIndex, ScopesRight}
 use Rattle.index.proofs.Bounds.{entry_atom, entry_large, entry_same, entry_clear}
 
--- an index that is cleared, and in which slot 0 has the number by which 0 is right everywhere
-pub ready : (s ends marks users : List ℕ) (n : ℕ) → 0 < n → TableLists s ends marks users → Entering s ends marks (set (replicate n 0) 0 32767)
-ready s ends marks users n some r = record {
+pub cleared : (k shift mask : ℕ) → shift < 64 → mask < k → BlankIndex (replicate k 0) shift mask
+cleared k shift mask small room = record { slots = record { small = small; room = rw (length-replicate {A = ℕ} k 0) room }; empty = get_d_zeros k }
+
+-- a blank index in which slot 0 has the number by which 0 is right everywhere
+pub ready : (s ends marks users index : List ℕ) (shift mask : ℕ) → TableLists s ends marks users → BlankIndex index shift mask → Entering s ends marks (set index 0 32767) shift mask
+ready s ends marks users index shift mask r b = record {
   end = r.end;
   inside = r.delimitations.inside;
   kinds = λ q l.
       let k = get_or s (16 * get_or marks q 0) 0 in
       let (x, y) = and_true (leb 8 k) (leb k 8) (r.delimitations.only q l) in
       omega (arith, leb-true 8 k x, leb-true k 8 y);
-  free = λ p. eq_case (get_or (set (replicate n 0) 0 32767) p 0 < 65536) p 0 (λ z. rw (z, get_or-set_same {A = ℕ} (replicate n 0) 0 32767 0 (rw (length-replicate {A = ℕ} n 0) some)) (omega arith))
-      (λ z. rw (get_or-set_other {A = ℕ} (replicate n 0) 0 p 32767 0 z, get_d_zeros n p) (omega arith));
+  slots = record { small = b.slots.small; room = rw (length-set index 0 32767) b.slots.room };
+  free = λ p. eq_case (get_or (set index 0 32767) p 0 < 65536) p 0 (λ z. rw (z, get_or-set_same index 0 32767 0 (omega (arith, b.slots.room))) (omega arith))
+      (λ z. rw (get_or-set_other index 0 p 32767 0 z, b.empty p) (omega arith));
 }
 
 -- Entering: the start, and a turn, by the code's numbers, in which the delimitation at place i of the list is entered in slot p as v.
-module _ (s ends marks index₀ : List ℕ) (shift mask : ℕ) (r : Entering s ends marks index₀) where
+module _ (s ends marks index₀ : List ℕ) (shift mask : ℕ) (r : Entering s ends marks index₀ shift mask) where
   pub enter-none : Entered s ends marks 0 index₀ shift mask
   enter-none = record { only = λ p l. absurd (omega (arith, r.free p)); all = λ q l. absurd (omega arith) }
 

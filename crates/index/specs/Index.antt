@@ -11,6 +11,11 @@ use Rattle.records.specs.Ends.{EndsFrom}
 use Rattle.ranges.specs.Lists.{Listed, Inside}
 use Rattle.ranges.specs.Ranges.{pattern_right}
 
+-- every atom has a slot in the index
+pub record Slots (index : List ℕ) (shift mask : ℕ) : Type 0 where
+  pub small : shift < 64
+  pub room : mask < length index
+
 -- the slot of an atom, at most mask: its low bits, and above shift also which set it is of
 unfoldable pub slot_of : ℕ → ℕ → ℕ → ℕ
 slot_of shift mask a = bit_and (bit_xor a ((a / 2 ^ 14 * 2 ^ shift) % 2 ^ 64)) mask
@@ -19,15 +24,12 @@ slot_of shift mask a = bit_and (bit_xor a ((a / 2 ^ 14 * 2 ^ shift) % 2 ^ 64)) m
 unfoldable pub entry_of : List ℕ → List ℕ → ℕ → ℕ
 entry_of s ends d = 32768 + d + 65536 * (32768 - get_or ends d 0) + 4294967296 * word s (16 * d + 2)
 
--- How large an index may be, and from which bit on a slot in it may depend on the set of the atom.
-abbrev pub Spread : (slots shift : ℕ) → Type 0
-Spread slots shift = (0 < slots) × (slots ≤ 65536) × (shift < 64)
-
 -- Delimitations to enter, at the places of a list, and an index with none.
-pub record Entering (s ends marks index : List ℕ) : Type 0 where
+pub record Entering (s ends marks index : List ℕ) (shift mask : ℕ) : Type 0 where
   pub end : EndsFrom s ends 0
   pub inside : Inside s marks
   pub kinds : (q : ℕ) → q < length marks → get_or s (16 * get_or marks q 0) 0 ≡ 8
+  pub slots : Slots index shift mask
   pub free : (p : ℕ) → get_or index p 0 < 65536
 
 -- a number of 65,536 or more in the index is the entry of a delimitation; the delimitation at place d has its entry
@@ -69,6 +71,11 @@ pub record TableLists (s ends marks users : List ℕ) : Type 0 where
   pub end : EndsFrom s ends 0
   pub delimitations : Listed s 8 8 marks (length s / 16) (length marks)
   pub uses : Listed s 1 3 users (length s / 16) (length users)
+
+-- an index with nothing in it
+pub record BlankIndex (index : List ℕ) (shift mask : ℕ) : Type 0 where
+  pub slots : Slots index shift mask
+  pub empty : (p : ℕ) → get_or index p 0 ≡ 0
 
 -- What the quick test of scopes shows, if its answer is true, of the term whose table the bytes are: refusals 6 and 7 do not apply.
 abbrev pub ScopesRight : Term → Type 0

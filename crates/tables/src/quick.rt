@@ -2,7 +2,7 @@
 // cleared first.
 ghost use Rattle.std.specs.Prelude.{◌≡◌, IfSome, true, ◌+◌, ◌/◌, ◌<◌, ◌≤◌, min, length, take};
 ghost use Rattle.cows.specs.Limits.{max_depth};
-ghost use Rattle.index.specs.Index.{Spread};
+ghost use Rattle.index.specs.Index.{BlankIndex};
 ghost use Rattle.tables.specs.Verdict.{WholeRecords};
 ghost use Rattle.tables.specs.Quick.{Lent, Sound, Passes};
 
@@ -26,21 +26,33 @@ fn sound(
     shape_of(s, ends, stack, marks, users)
 }
 
-// Scopes and patterns by an index of N slots, and the guards of choices by the table reader.
-fn scoped<const N: usize>(
+// Scopes and patterns by the index that is lent, and the guards of choices by the table reader. Not inlined: it is one code for every index (`slot` of crate index).
+#[inline(never)]
+fn scoped(
     s: &[u8],
     ends: &[u16],
     marks: &[u16],
     users: &[u16],
+    slots: &mut [u64],
     shift: usize,
+    mask: usize,
 ) -> bool
-    requires { WholeRecords s.now × Sound s.now ends.now marks.now users.now × Spread N shift }
+    requires { WholeRecords s.now × Sound s.now ends.now marks.now users.now × BlankIndex slots.old shift mask }
     ensures { result ≡ true → Passes s.now ends.now }
 {
-    if !index::indexed_right::<N>(s, ends, marks, users, shift) {
+    if !index::indexed_right(s, ends, marks, users, slots, shift, mask) {
         return false;
     }
     readers::read_on(s, ends, 0).is_ok()
+}
+
+// The same by an index of 8,192 entries.
+fn scoped_wide(s: &[u8], ends: &[u16], marks: &[u16], users: &[u16], shift: usize) -> bool
+    requires { WholeRecords s.now × Sound s.now ends.now marks.now users.now × (shift < 64) }
+    ensures { result ≡ true → Passes s.now ends.now }
+{
+    let mut slots = [0u64; 8192];
+    scoped(s, ends, marks, users, &mut slots, shift, 8191)
 }
 
 // Tables of few records, by a stack, lists and an index of these sizes. Not inlined, so that its arrays stand in no other's frame.
@@ -52,7 +64,7 @@ fn few_right<const STACK: usize, const LIST: usize, const SLOTS: usize>(
 ) -> bool
     requires whole { WholeRecords s.now × (length s.now / 16 + 1 < length ends.old) }
     requires room { (min (length s.now / 16) max_depth + 1 < STACK) × (STACK ≤ 65536) × (length s.now / 16 < LIST) × (LIST ≤ 65536) }
-    requires slots { Spread SLOTS shift }
+    requires slots { (0 < SLOTS) × (SLOTS ≤ 65536) × (shift < 64) }
     ensures { result ≡ true → Passes s.now ends.new }
 {
     let mut stack = [0u32; STACK];
@@ -61,7 +73,16 @@ fn few_right<const STACK: usize, const LIST: usize, const SLOTS: usize>(
     let Some(shape) = sound(s, ends, &mut stack, &mut marks, &mut users) else {
         return false;
     };
-    scoped::<SLOTS>(s, ends, &marks[..shape.marks], &users[..shape.users], shift)
+    let mut slots = [0u64; SLOTS];
+    scoped(
+        s,
+        ends,
+        &marks[..shape.marks],
+        &users[..shape.users],
+        &mut slots,
+        shift,
+        SLOTS - 1,
+    )
 }
 
 // Tables of any number of records: where the index gives up, a wide one is taken, with the atoms spread in one way and then in another. Not inlined either.
@@ -78,9 +99,10 @@ fn most_right(s: &[u8], ends: &mut [u16]) -> bool
     };
     let delimitations = &marks[..shape.marks];
     let uses = &users[..shape.users];
-    scoped::<2048>(s, ends, delimitations, uses, 9)
-        || scoped::<8192>(s, ends, delimitations, uses, 11)
-        || scoped::<8192>(s, ends, delimitations, uses, 2)
+    let mut slots = [0u64; 2048];
+    scoped(s, ends, delimitations, uses, &mut slots, 9, 2047)
+        || scoped_wide(s, ends, delimitations, uses, 11)
+        || scoped_wide(s, ends, delimitations, uses, 2)
 }
 
 // Tables of up to 32 records, of up to 256, and of any number: what the test of a small one does not accept is left to the next larger.
