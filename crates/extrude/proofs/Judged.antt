@@ -34,15 +34,15 @@ use Rattle.depths.specs.Depths.{Standing}
 use Rattle.ways.proofs.KnownTables.{table_size, table_ended}
 use Rattle.depths.proofs.Deep.{standing}
 use Rattle.std.specs.Prelude as rust
-use Rattle.std.specs.Prelude.{Ok, Err}
 use Rattle.plans.specs.declared.Refusal.{Refusal}
+use Rattle.plans.specs.declared.Plan.{Plan}
 use Rattle.plans.specs.declared.Refusal.TheVariants.{Stuck, Large}
 use Rattle.cows.specs.Within.{Right}
 use Rattle.cows.proofs.Sets.{in-values, in-variables, in_labels, value-range, variable-range, label-range, set_case}
 use Rattle.records.specs.Atoms.{class_of}
-use Rattle.plans.specs.Plans.{refusal_of, result_of, limited, Allowed, Asks}
+use Rattle.plans.specs.Plans.{Allowed, Refused, Planned, Asks}
 use Rattle.extrude.specs.Extruding.{is_label, beside_of, lift_at, Lifting, Liftable, Lifts, lifted}
-use Rattle.plans.proofs.Planning.{within_limits, absent}
+use Rattle.plans.proofs.Planning.{within_limits, planned_refused, planned_allowed, planned_large, absent}
 use Rattle.plans.proofs.Joining.{length_part}
 
 -- behind a prefix all goes deeper by one
@@ -106,9 +106,9 @@ module _ (s ends : List ℕ) (a p k : ℕ) (t : Term) (d : ℕ) (h : Lifting s e
   unfolding fitting on_kind
   fitting_at = ap fitting way_is ∙ ap floats_over (sym (plug-kind f (sub t a)) ∙ sym (holds_kind s t p h.table.holds at.0 ∙ ap kind_of at.1))
 
-  pub lift_stuck : floats_over (get_or s (16 * p) 0) ≡ false → refusal_of (Stuck a) ≡ limited (lift_at d t a)
-  unfolding limited lift_at ◌>>=◌ ◌>>◌ forbid place_if
-  lift_stuck e = rw (fitting_at, e)
+  pub lift_stuck : floats_over (get_or s (16 * p) 0) ≡ false → Refused (lift_at d t a) p (Stuck a)
+  unfolding lift_at ◌>>◌ forbid place_if
+  lift_stuck e = planned_refused (Stuck a) (rw (fitting_at, e))
 
   -- the successor
   abbrev new : Term
@@ -162,16 +162,15 @@ module _ (s ends : List ℕ) (a p k : ℕ) (t : Term) (d : ℕ) (h : Lifting s e
   old_shallow : k + depth (plug f (sub t a)) ≤ 257
   old_shallow = omega (arith, level, depth_part w (plug f (sub t a)), ap depth old, h.table.within.shallow)
 
-  lift_allowed : floats_over (get_or s (16 * p) 0) ≡ true → over_limits (after_extrude d t a) ≡ false → accept (length s / 16) ≡ limited (lift_at d t a)
-  unfolding limited lift_at ◌>>=◌ ◌>>◌ forbid place_if
-  lift_allowed e o = rw (fitting_at, e, o, lift_size)
+  lifts : floats_over (get_or s (16 * p) 0) ≡ true → lift_at d t a ≡ accept (after_extrude d t a)
+  unfolding lift_at ◌>>◌ forbid place_if
+  lifts e = rw (fitting_at, e)
 
-  lift_large : floats_over (get_or s (16 * p) 0) ≡ true → over_limits (after_extrude d t a) ≡ true → refusal_of Large ≡ limited (lift_at d t a)
-  unfolding limited lift_at ◌>>=◌ ◌>>◌ forbid place_if
-  lift_large e o = rw (fitting_at, e, o)
+  lift_allowed : floats_over (get_or s (16 * p) 0) ≡ true → over_limits (after_extrude d t a) ≡ false → Allowed (lift_at d t a) p (record { records = length s / 16; from = p })
+  lift_allowed e o = planned_allowed (after_extrude d t a) (lifts e) _ o (sym lift_size) refl
 
   -- above it a prefix: no record goes deeper
-  pub lift_plain : floats_over (get_or s (16 * p) 0) ≡ true → get_or s (16 * p) 0 ≢ 6 → accept (length s / 16) ≡ limited (lift_at d t a)
+  pub lift_plain : floats_over (get_or s (16 * p) 0) ≡ true → get_or s (16 * p) 0 ≢ 6 → Allowed (lift_at d t a) p (record { records = length s / 16; from = p })
   lift_plain e n =
       let z = holds_kind s t p h.table.holds at.0 ∙ ap kind_of at.1 in
       let q = plain_depth f (sub t a) body (λ y. n (z ∙ y)) (rw z at e) depth_here in
@@ -209,11 +208,11 @@ module _ (s ends : List ℕ) (a p k : ℕ) (t : Term) (d : ℕ) (h : Lifting s e
     fits : floats_over (get_or s (16 * p) 0) ≡ true
     fits = rw e (unfold open_kinds in refl)
 
-    pub lift_beside : b ≡ false → accept (length s / 16) ≡ limited (lift_at d t a)
+    pub lift_beside : b ≡ false → Allowed (lift_at d t a) p (record { records = length s / 16; from = p })
     lift_beside l = lift_allowed fits (shallow_enough (omega (arith, ltb-false (255 - k) _ (sym beside-deep ∙ l), (sibling e).deep body, (sibling e).deep (sub t a), old_shallow, depth_here)))
 
-    pub lift_deep : b ≡ true → refusal_of Large ≡ limited (lift_at d t a)
-    lift_deep l = lift_large fits (too_deep_lem (omega (arith, ltb-true (255 - k) _ (sym beside-deep ∙ l), (sibling e).deep body)))
+    pub lift_deep : b ≡ true → Refused (lift_at d t a) p (Large p)
+    lift_deep l = planned_large (after_extrude d t a) (lifts fits) (too_deep_lem (omega (arith, ltb-true (255 - k) _ (sym beside-deep ∙ l), (sibling e).deep body)))
 
 -- Which of the three sets an atom is of, by its class.
 pub class_label : (d : ℕ) → atom d ≡ true → is_label (class_of d) ≡ label d
@@ -295,12 +294,8 @@ module _ (s : List ℕ) (t : Term) (a k : ℕ) (h : LiveAt s t a 8) (count : k �
     lift_is = rw (delimitation-wanted, sym label_read ∙ (or_false (is_label (class_of (word s (16 * a + 2)))) (eqb k 0) e).0)
 
     -- judged as the record above it tells
-    module _ {j : rust.Result ℕ Refusal} (q : result_of j ≡ limited (lift_at d t a)) where
-      pub lift_planned : {n : ℕ} → j ≡ Ok n → Allowed (extrude_at t a) (parent_of (way_to t a)) (record { records = n; from = p })
-      lift_planned e = record { judged = sym (ap result_of e) ∙ (q ∙ ap limited (sym lift_is)); place_is = at }
-
-      pub lift_refused : {r : Refusal} → j ≡ Err r → refusal_of r ≡ limited (extrude_at t a)
-      lift_refused e = sym (ap result_of e) ∙ (q ∙ ap limited (sym lift_is))
+    pub lift_planned : (j : rust.Result Plan Refusal) → Planned (lift_at d t a) p j → Planned (extrude_at t a) (parent_of (way_to t a)) j
+    lift_planned j q = subst (λ m. Planned m (parent_of (way_to t a)) j) (sym lift_is) (subst (λ n. Planned (lift_at d t a) n j) at q)
 
     pub live_below : length s / 16 + 1 < length ends → k < 256 → Liftable s ends a p k
     live_below m n = record {

@@ -10,7 +10,7 @@ ghost use Rattle.cows.specs.Moves.{extrude_at};
 ghost use Rattle.records.specs.Rewrites.{put};
 ghost use Rattle.ways.specs.TermOf.{TermOf};
 ghost use Rattle.ways.specs.Ways.{parent_of};
-ghost use Rattle.plans.specs.Plans.{result_of, limited, Planned, Asks, Gives};
+ghost use Rattle.plans.specs.Plans.{Planned, Asks, Gives};
 ghost use Rattle.extrude.specs.Extruding.{is_label, beside_of, lift_at, Lifting, Liftable, Lifts, lifted, raised, LiftsEnds, EndsLifted};
 
 use depths::deeper;
@@ -40,24 +40,27 @@ fn beside(p: usize, a: usize, end: usize) -> usize
     if a == p + 1 { end } else { p + 1 }
 }
 
-// The delimitation at place a and the record above it at place p change places, if they may; k records are on the way to a.
-fn judge_above(s: &[u8], ends: &[u16], a: usize, p: usize, k: usize) -> Result<usize, Refusal>
+// The delimitation at place a and the record above it at place p, the place of the plan, change places, if they may; k records are on the way to a.
+fn judge_above(s: &[u8], ends: &[u16], a: usize, p: usize, k: usize) -> Result<Plan, Refusal>
     requires { Liftable s.now ends.now a p k }
-    ensures { (t : Term) (d : ℕ) → Lifting s.now ends.now a p k t d → result_of result ≡ limited (lift_at d t a) }
+    ensures { (t : Term) (d : ℕ) → Lifting s.now ends.now a p k t d → Planned (lift_at d t a) p result }
 {
     let kind = s[16 * p];
     if !floats_over(kind) {
         return Err(Refusal::Stuck(a));
     }
-    let n = s.len() / 16;
+    let plan = Plan {
+        records: s.len() / 16,
+        from: p,
+    };
     if kind != kinds::PARALLEL {
-        return Ok(n);
+        return Ok(plan);
     }
     let room = limits::MAX_DEPTH - 1 - k;
     if deeper(s, ends, beside(p, a, usize::from(ends[a])), room) {
-        return Err(Refusal::Large);
+        return Err(Refusal::Large(p));
     }
-    Ok(n)
+    Ok(plan)
 }
 
 // The move on the delimitation at place a; the place of its plan is the record above.
@@ -70,9 +73,7 @@ pub fn judge(table: KnownTable, a: usize) -> Result<Plan, Refusal>
     if is_label(atom_at(table.bytes, 16 * a + 2)) | (place.above == 0) {
         return Err(Refusal::Stuck(a));
     }
-    let p = place.parent;
-    let records = judge_above(table.bytes, table.ends, a, p, place.above)?;
-    Ok(Plan { records, from: p })
+    judge_above(table.bytes, table.ends, a, place.parent, place.above)
 }
 
 // The record at place a goes before those from place p on.

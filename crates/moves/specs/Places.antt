@@ -1,5 +1,6 @@
 -- The place of a move's plan, from which on the table changes.
-use Rattle.std.specs.Prelude.{ℕ}
+use Rattle.std.specs.Prelude as rust
+use Rattle.std.specs.Prelude.{Some, None, ℕ}
 use Rattle.cows.specs.Terms.{Term}
 use Rattle.cows.specs.Places.{way_to}
 use Rattle.ways.specs.Ways.{start_of, parent_of}
@@ -15,3 +16,8 @@ plan_place (Timeout a) t = start_of a (way_to t a)
 plan_place (Elapse d) t = 0
 plan_place (Unfold a) t = a
 plan_place (Extrude a) t = parent_of (way_to t a)
+
+-- the same of a move as it was read; none has no place, and 0 stands for it
+abbrev pub read_place : rust.Option Move → Term → ℕ
+read_place None t = 0
+read_place (Some m) t = plan_place m t

@@ -7,9 +7,9 @@ ghost use Rattle.cows.specs.Moves.{kill_at};
 ghost use Rattle.cows.specs.Step.{proposed};
 ghost use Rattle.ways.specs.TermOf.{TermOf};
 ghost use Rattle.plans.specs.Plans.{Planned, Asks, Gives};
-ghost use Rattle.proposals.specs.Proposals.{move_of};
+ghost use Rattle.proposals.specs.Proposals.{move_of, read_as};
 ghost use Rattle.kill.specs.Killing.{kill_scope};
-ghost use Rattle.moves.specs.Places.{plan_place};
+ghost use Rattle.moves.specs.Places.{plan_place, read_place};
 
 use plans::{Plan, Refusal};
 use proposals::Move;
@@ -23,7 +23,7 @@ fn judge_kill(table: KnownTable, a: usize) -> Result<Plan, Refusal>
 }
 
 // A move on a known table is judged: whether it is allowed, how many records its successor has, and from which place on the table changes.
-pub fn judge(table: KnownTable, m: Move) -> Result<Plan, Refusal>
+fn judge_move(table: KnownTable, m: Move) -> Result<Plan, Refusal>
     ensures { (t : Term) → TermOf table.entry t → Planned (proposed (some (move_of m)) t) (plan_place m t) result }
 {
     match m {
@@ -33,6 +33,16 @@ pub fn judge(table: KnownTable, m: Move) -> Result<Plan, Refusal>
         Move::Elapse(d) => elapse::judge(table.bytes, d),
         Move::Unfold(a) => unfold::judge(table, a),
         Move::Extrude(a) => extrude::judge(table, a),
+    }
+}
+
+// The same of a move as it was read: bytes that are none are refused.
+pub fn judge(table: KnownTable, m: Option<Move>) -> Result<Plan, Refusal>
+    ensures { (t : Term) → TermOf table.entry t → Planned (proposed (read_as m) t) (read_place m t) result }
+{
+    match m {
+        None => Err(Refusal::Unread),
+        Some(m) => judge_move(table, m),
     }
 }
 

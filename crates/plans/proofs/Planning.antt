@@ -20,7 +20,20 @@ use Rattle.ways.proofs.KnownTables.{one_table}
 use Rattle.plans.specs.declared.Plan.{Plan}
 use Rattle.plans.specs.declared.Refusal.{Refusal}
 use Rattle.plans.specs.declared.Refusal.TheVariants.{Unread, Absent, Differs, Apart, Held, Looser, Unripe, Timeless, Stuck, Large}
-use Rattle.plans.specs.Plans.{refusal_of, limited, Allowed, Asks, Gives}
+use Rattle.plans.specs.Plans.{refusal_of, limited, Allowed, Refused, Asks, Gives}
+
+-- no refusal is accepted
+pub never_accepts : {A : Type 0} (r : Refusal) (x : A) → ◌≡◌ {A = Result A} (refusal_of r) (accept x) → ⊥
+never_accepts Unread x e = absurd cc
+never_accepts (Absent p) x e = absurd cc
+never_accepts (Differs p) x e = absurd cc
+never_accepts (Apart p) x e = absurd cc
+never_accepts (Held p) x e = absurd cc
+never_accepts (Looser p) x e = absurd cc
+never_accepts (Unripe p) x e = absurd cc
+never_accepts Timeless x e = absurd cc
+never_accepts (Stuck p) x e = absurd cc
+never_accepts (Large p) x e = absurd cc
 
 -- a refused move
 limited_refusal : (r : Refusal) → refusal_of r ≡ limited (refusal_of r)
@@ -34,10 +47,10 @@ limited_refusal (Looser p) = refl
 limited_refusal (Unripe p) = refl
 limited_refusal Timeless = refl
 limited_refusal (Stuck p) = refl
-limited_refusal Large = refl
+limited_refusal (Large p) = refl
 
-pub planned_refused : {m : Result Term} (r : Refusal) → m ≡ refusal_of r → refusal_of r ≡ limited m
-planned_refused r e = limited_refusal r ∙ ap limited (sym e)
+pub planned_refused : {m : Result Term} {place : ℕ} (r : Refusal) → m ≡ refusal_of r → Refused m place r
+planned_refused r e = record { judged = limited_refusal r ∙ ap limited (sym e); place_is = λ s k. absurd (never_accepts r s (sym e ∙ k)) }
 
 -- an allowed move: its successor keeps the limits, and has as many records as the plan says
 pub within_limits : (s : Term) → size s ≤ 2048 → depth s ≤ 256 → over_limits s ≡ false
@@ -50,9 +63,9 @@ module _ {m : Result Term} (s : Term) (k : m ≡ accept s) where
   planned_allowed p o e f = record { judged = rw (k, o, e); place_is = f }
 
   -- 20: a move whose successor is over the limits
-  pub planned_large : over_limits s ≡ true → refusal_of Large ≡ limited m
+  pub planned_large : {place : ℕ} → over_limits s ≡ true → Refused m place (Large place)
   unfolding limited ◌>>=◌ ◌>>◌ forbid place_if
-  planned_large o = rw (k, o)
+  planned_large o = record { judged = rw (k, o); place_is = λ _ _. refl }
 
 -- 11: no live record of the kind
 pub absent : {A : Type 0} (look : Term → Option A) (kind : ℕ) → ((s : Term) (x : A) → look s ≡ some x → kind_of s ≡ kind)

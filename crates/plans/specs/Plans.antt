@@ -23,7 +23,7 @@ refusal_of (Looser p) = refuse 15 p
 refusal_of (Unripe p) = refuse 16 p
 refusal_of Timeless = refuse 17 0
 refusal_of (Stuck p) = refuse 18 p
-refusal_of Large = refuse 20 0
+refusal_of (Large p) = refuse 20 0
 
 -- the number of records of the successor, or the refusal
 abbrev pub result_of : rust.Result ℕ Refusal → Result ℕ
@@ -42,10 +42,15 @@ pub record Allowed (m : Result Term) (place : ℕ) (p : Plan) : Type 0 where
   pub judged : accept p.records ≡ limited m
   pub place_is : p.from ≡ place
 
+-- The refusal of a move is that of its result; where its successor is over the limits, it has the place from which on the table would change.
+pub record Refused (m : Result Term) (place : ℕ) (r : Refusal) : Type 0 where
+  pub judged : refusal_of r ≡ limited m
+  pub place_is : (s : Term) → m ≡ accept s → r ≡ Large place
+
 -- What judging a move gives: its plan, or the refusal.
 abbrev pub Planned : Result Term → ℕ → rust.Result Plan Refusal → Type 0
 Planned m place (Ok p) = Allowed m place p
-Planned m place (Err r) = refusal_of r ≡ limited m
+Planned m place (Err r) = Refused m place r
 
 -- What writing asks: the move m is allowed on the table, its plan's place is at hand, and the output has room.
 pub record Asks (m : Term → Result Term) (place : Term → ℕ) (s ends : List ℕ) (from : ℕ) (out : List ℕ) : Type 0 where

@@ -3,7 +3,8 @@
 
 pub mod cutting;
 
-// Why a move is refused, with the place that is told, or of `Differs` the number of what differs: the refusals 10 to 18, and 20.
+// Why a move is refused, with the place that is told, or of `Differs` the number of what differs: the refusals 10 to 18, and 20. Of 20 no place is told; `Large` has
+// the one from which on the table would change.
 #[derive(Clone, Copy, Debug, PartialEq, Eq)]
 pub enum Refusal {
     Unread,
@@ -15,7 +16,7 @@ pub enum Refusal {
     Unripe(usize),
     Timeless,
     Stuck(usize),
-    Large,
+    Large(usize),
 }
 
 // An allowed move: how many records its successor has, and from which place on the table changes.

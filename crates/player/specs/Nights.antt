@@ -12,7 +12,6 @@ use Rattle.cows.specs.Run as meaning
 use Rattle.cows.specs.Cut.{pieces}
 use Rattle.records.specs.Rewrites.{put}
 use Rattle.ways.specs.Known.{Known}
-use Rattle.tables.specs.declared.Reply as code
 use Rattle.tables.specs.Verdict.{refusal, accepted}
 use Rattle.stepper.specs.Replies.{reply_of}
 use Rattle.tally.specs.declared.Tally.{Tally}

@@ -55,11 +55,11 @@ fn judged(table: KnownTable, m: Option<Move>) -> Result<Tried, Reply>
     let Some(m) = m else {
         return Err(refused(Refusal::Unread));
     };
-    let plan = fitting(moves::judge(table, m), limits::MAX_BYTES)?;
+    let plan = fitting(moves::judge(table, Some(m)), limits::MAX_BYTES)?;
     Ok(Tried {
         m,
         plan,
-        counts: tally::counts(m, copied(table, m)),
+        counts: tally::counts(Some(m), copied(table, m)),
     })
 }
 
@@ -75,25 +75,25 @@ fn turn(kept: Kept, t: &mut [u8], ends: &mut [u16], bytes: &[u8], to: &mut [u8])
         bytes: &t[..size],
         ends,
     };
+    // Laid out ahead of the judgement: made behind it, it is copied at once, and waits for the bytes between its parts, a quarter of a refused move.
+    let mut next = Next {
+        reply: accepted(n),
+        kept,
+        counts: Tally::default(),
+    };
     match judged(table, m) {
-        Err(reply) => Next {
-            reply: Reply {
-                records: n,
-                ..reply
-            },
-            kept,
-            counts: Tally::default(),
-        },
+        Err(reply) => {
+            next.reply.answer = reply.answer;
+            next.reply.place = reply.place;
+        }
         Ok(tried) => {
             let plan = tried.plan;
-            let then = make(kept, t, ends, tried.m, plan.from, plan.records, to);
-            Next {
-                reply: accepted(plan.records),
-                kept: then,
-                counts: tried.counts,
-            }
+            next.kept = make(kept, t, ends, tried.m, plan.from, plan.records, to);
+            next.reply.records = plan.records;
+            next.counts = tried.counts;
         }
     }
+    next
 }
 
 // A move on the table that is kept in one of the buffers.

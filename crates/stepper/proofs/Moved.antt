@@ -47,7 +47,7 @@ fitting_refused room (Looser p) = (refl, λ z. omega arith)
 fitting_refused room (Unripe p) = (refl, λ z. omega arith)
 fitting_refused room Timeless = (refl, λ z. omega arith)
 fitting_refused room (Stuck p) = (refl, λ z. omega arith)
-fitting_refused room Large = (refl, λ z. omega arith)
+fitting_refused room (Large p) = (refl, λ z. omega arith)
 
 pub fitting_not : (judged : rust.Result Plan Refusal) (room : ℕ) {m : rust.Result Plan Reply} {r : Reply} → MappedErr (λ e y. y ≡ reply_of (reply_to (refusal_of e))) m judged → m ≡ Err r → Fitting judged room (Err r)
 fitting_not judged room {m} {r} k e =
@@ -103,7 +103,7 @@ module _ (m : Result Term) (place : ℕ) (judged : rust.Result Plan Refusal) (pl
     where
       go : (j : rust.Result Plan Refusal) → Planned m place j → records_of j ≡ limited m
       go (Ok p) h = h.judged
-      go (Err r) h = h
+      go (Err r) h = h.judged
 
   pub reply_planned : {r : Reply} (room : ℕ) → r ≡ reply_in room (records_of judged) → r ≡ reply_of (reply_to (m >>= fitted room))
   reply_planned room e = e ∙ (ap (reply_in room) same_judged ∙ reply_fitted room m)

@@ -22,7 +22,7 @@ pub fn refused(why: Refusal) -> Reply
         Refusal::Unripe(p) => refusal(16, p),
         Refusal::Timeless => refusal(17, 0),
         Refusal::Stuck(p) => refusal(18, p),
-        Refusal::Large => refusal(20, 0),
+        Refusal::Large(_) => refusal(20, 0),
     }
 }
 

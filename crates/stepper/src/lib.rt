@@ -26,7 +26,7 @@ pub fn step_known(table: KnownTable, m: Option<Move>, out: &mut [u8]) -> Reply
     let Some(m) = m else {
         return refused(Refusal::Unread);
     };
-    match fitting(moves::judge(table, m), out.len()) {
+    match fitting(moves::judge(table, Some(m)), out.len()) {
         Err(reply) => reply,
         Ok(plan) => {
             moves::write(table, m, plan.from, out);

@@ -20,25 +20,11 @@ use Rattle.ways.proofs.Starts.{scope_at}
 use Rattle.std.specs.Prelude as rust
 use Rattle.std.specs.Prelude.{Ok, Err}
 use Rattle.plans.specs.declared.Refusal.{Refusal}
-use Rattle.plans.specs.declared.Refusal.TheVariants.{Unread, Absent, Differs, Apart, Held, Looser, Unripe, Timeless, Stuck, Large}
 use Rattle.plans.specs.declared.Plan.{Plan}
-use Rattle.plans.specs.Plans.{refusal_of, limited, Allowed, Planned}
-use Rattle.plans.proofs.Planning.{within_limits}
+use Rattle.plans.specs.Plans.{limited, Allowed, Planned}
+use Rattle.plans.proofs.Planning.{never_accepts, within_limits}
 use Rattle.kill.specs.Killing.{kill_scope}
 use Rattle.kill.proofs.Left.{has_scope, scope_place}
-
--- no refusal is a number of records
-refuses : (r : Refusal) (n : ℕ) → refusal_of r ≡ accept n → ⊥
-refuses Unread n e = not-both e
-refuses (Absent p) n e = not-both e
-refuses (Differs p) n e = not-both e
-refuses (Apart p) n e = not-both e
-refuses (Held p) n e = not-both e
-refuses (Looser p) n e = not-both e
-refuses (Unripe p) n e = not-both e
-refuses Timeless n e = not-both e
-refuses (Stuck p) n e = not-both e
-refuses Large n e = not-both e
 
 module _ (t : Term) (w : Within t) (a : ℕ) where
   -- the single move
@@ -75,4 +61,4 @@ module _ (t : Term) (w : Within t) (a : ℕ) where
   -- one that is refused
   pub else_dead : (j : rust.Result Plan Refusal) → Planned (kill_at t a) (kill_scope t a) j → ((p : Plan) → j ≡ Ok p → ⊥) → wanted kills t a ≡ refuse 11 a
   else_dead (Ok p) h k = absurd (k p refl)
-  else_dead (Err r) h k = ⊎_elim (λ l. absurd (refuses r _ (h ∙ limited-live l))) (λ d. d) (live_or t a)
+  else_dead (Err r) h k = ⊎_elim (λ l. absurd (never_accepts r _ (h.judged ∙ limited-live l))) (λ d. d) (live_or t a)

@@ -2,8 +2,10 @@
 #![tactic(auto)]
 
 ghost use Rattle.std.specs.Prelude.{◌≡◌};
+ghost use mathlib.Core.Option.{some};
+ghost use Rattle.cows.specs.Moves as meaning;
 ghost use Rattle.cows.specs.Run.{counted, no_tally, adds};
-ghost use Rattle.proposals.specs.Proposals.{move_of};
+ghost use Rattle.proposals.specs.Proposals.{move_of, read_as};
 ghost use Rattle.tally.specs.Counted.{tally_of, sum_of, SumsFit};
 
 use proposals::Move;
@@ -40,7 +42,7 @@ impl Default for Tally {
 }
 
 // What an accepted move counts that copies a load.
-pub fn counts(m: Move, load: u32) -> Tally
+fn counts_of(m: Move, load: u32) -> Tally
     ensures { result ≡ tally_of (adds load (move_of m)) }
 {
     match m {
@@ -50,6 +52,16 @@ pub fn counts(m: Move, load: u32) -> Tally
         Move::Elapse(_) => counted(0, 0, 0, load),
         Move::Unfold(_) => counted(0, 0, 0, load),
         Move::Extrude(_) => counted(0, 0, 0, load),
+    }
+}
+
+// The same of a move as it was read: what is none counts nothing.
+pub fn counts(m: Option<Move>, load: u32) -> Tally
+    ensures { (v : meaning.Move) → read_as m ≡ some v → result ≡ tally_of (adds load v) }
+{
+    match m {
+        Some(m) => counts_of(m, load),
+        None => Tally::default(),
     }
 }
 

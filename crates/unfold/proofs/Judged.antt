@@ -39,7 +39,7 @@ use Rattle.depths.proofs.Deep.{standing}
 use Rattle.renaming.specs.Names.{Body}
 use Rattle.renaming.proofs.Copies.{within-body}
 use Rattle.plans.specs.declared.Refusal.TheVariants.{Large}
-use Rattle.plans.specs.Plans.{refusal_of, limited, Allowed, Asks}
+use Rattle.plans.specs.Plans.{Allowed, Refused, Asks}
 use Rattle.plans.proofs.Planning.{within_limits, planned_allowed, planned_large, absent}
 
 -- a copy has as many records as the body, and is as deep
@@ -158,7 +158,7 @@ module _ (s : List ℕ) (t : Term) (a : ℕ) (h : LiveAt s t a 9) where
         let shallow = unfold_shallow t a h.inside replication_at z.within (omega (arith, short, ltb-false (255 - k) _ (sym deep_is ∙ y))) in
         planned_allowed (after_unfold t a) unfolds _ (within_limits (after_unfold t a) small shallow) size_is refl
 
-    pub unfold_large : (ltb 2048 n || b) ≡ true → refusal_of Large ≡ limited (unfold_at t a)
+    pub unfold_large : (ltb 2048 n || b) ≡ true → Refused (unfold_at t a) a (Large a)
     unfolding over_limits
     unfold_large o =
         planned_large (after_unfold t a) unfolds

@@ -26,7 +26,7 @@ pub fn judge(table: KnownTable, a: usize) -> Result<Plan, Refusal>
     let size = table.bytes.len() / 16 + (usize::from(table.ends[a]) - a);
     let room = limits::MAX_DEPTH - 1 - place.above;
     if (limits::MAX_RECORDS < size) | deeper(table.bytes, table.ends, a, room) {
-        return Err(Refusal::Large);
+        return Err(Refusal::Large(a));
     }
     Ok(Plan {
         records: size,

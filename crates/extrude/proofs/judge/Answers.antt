@@ -1,9 +1,8 @@
 use native.Mathlib.Omega.{arith}
 use Rattle.ways.proofs.KnownTables.{known_of, way_short, none-live, found-live, found_inside, found_above, found_parent}
-use Rattle.std.proofs.lemmas.Result.{err_from_is_err_and}
 use Rattle.plans.specs.declared.Refusal.TheVariants.{Absent, Stuck}
 use Rattle.plans.proofs.Planning.{planned_refused}
-use Rattle.extrude.proofs.Judged.{no-delimitation, stuck, live_lifting, lift_planned, lift_refused, live_below}
+use Rattle.extrude.proofs.Judged.{no-delimitation, stuck, live_lifting, lift_planned, live_below}
 use Rattle.extrude.proofs.judge.Goals as goal
 
 pub returns-in_default : goal.returns-in_default
@@ -31,19 +30,10 @@ judge_above-requires c = let q = (known_of c.args.table.known) in
     (rw (c.is_label.ensures, c.atom_at.ensures) at c.if-is_label-place.false) q.room
     (omega (arith, n, way_short q.term c.args.a q.table.within.shallow))
 
-pub returns-in_err-records : goal.returns-in_err-records
-returns-in_err-records c t h = let f = c.place_at.ensures in
-    let d = found-live f c.in-Some.is h in
-    let n = found_above f c.in-Some.is h in
-    let p = found_parent f c.in-Some.is h in
-    let e = rw (c.is_label.ensures, c.atom_at.ensures) at c.if-is_label-place.false in
-    let r = err_from_is_err_and c.from_residual.result c.from_residual.ensures.1 in
-    rw (r.1, r.2) (lift_refused _ t _ _ d n _ h _ p e (c.judge_above.ensures t _ (live_lifting _ t _ _ d n _ h _ p e)) c.in_err-records.was)
-
 pub returns : goal.returns
 returns c t h = let f = c.place_at.ensures in
     let d = found-live f c.in-Some.is h in
     let n = found_above f c.in-Some.is h in
     let p = found_parent f c.in-Some.is h in
     let e = rw (c.is_label.ensures, c.atom_at.ensures) at c.if-is_label-place.false in
-    lift_planned _ t _ _ d n _ h _ p e (c.judge_above.ensures t _ (live_lifting _ t _ _ d n _ h _ p e)) c.in_ok-records.was
+    lift_planned _ t _ _ d n _ h _ p e _ (c.judge_above.ensures t _ (live_lifting _ t _ _ d n _ h _ p e))

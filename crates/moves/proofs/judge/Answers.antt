@@ -1,29 +1,16 @@
+use mathlib.Core.Path.{refl, sym, subst}
 use Rattle.cows.specs.Basics.{◌>>=◌, need}
-use Rattle.cows.specs.Moves.{successor}
 use Rattle.cows.specs.Step.{proposed}
-use Rattle.moves.proofs.Proposing.{plans}
+use Rattle.proposals.specs.Proposals.{read_as}
+use Rattle.plans.specs.declared.Refusal.TheVariants.{Unread}
+use Rattle.plans.specs.Plans.{Planned}
+use Rattle.plans.proofs.Planning.{planned_refused}
+use Rattle.moves.specs.Places.{read_place}
 use Rattle.moves.proofs.judge.Goals as goal
 
-pub returns-in-Kill : goal.returns-in-Kill
-unfolding proposed need ◌>>=◌ successor
-returns-in-Kill c t h = plans c.in-Kill.is t _ (c.judge_kill.ensures t h)
+pub returns-in-None : goal.returns-in-None
+unfolding proposed need ◌>>=◌
+returns-in-None c t h = rw c.in-None.is (planned_refused Unread refl)
 
-pub returns-in-Communicate : goal.returns-in-Communicate
-unfolding proposed need ◌>>=◌ successor
-returns-in-Communicate c t h = plans c.in-Communicate.is t _ (c.judge.ensures t h)
-
-pub returns-in-Timeout : goal.returns-in-Timeout
-unfolding proposed need ◌>>=◌ successor
-returns-in-Timeout c t h = plans c.in-Timeout.is t _ (c.judge-in-Timeout.ensures t h)
-
-pub returns-in-Elapse : goal.returns-in-Elapse
-unfolding proposed need ◌>>=◌ successor
-returns-in-Elapse c t h = plans c.in-Elapse.is t _ (c.judge-in-Elapse.ensures _ t h)
-
-pub returns-in-Unfold : goal.returns-in-Unfold
-unfolding proposed need ◌>>=◌ successor
-returns-in-Unfold c t h = plans c.in-Unfold.is t _ (c.judge-in-Unfold.ensures t h)
-
-pub returns-in-Extrude : goal.returns-in-Extrude
-unfolding proposed need ◌>>=◌ successor
-returns-in-Extrude c t h = plans c.in-Extrude.is t _ (c.judge-in-Extrude.ensures t h)
+pub returns-in-Some : goal.returns-in-Some
+returns-in-Some c t h = subst (λ x. Planned (proposed (read_as x) t) (read_place x t) c.judge_move.result) (sym c.in-Some.is) (c.judge_move.ensures t h)

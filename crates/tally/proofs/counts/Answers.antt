@@ -1,27 +1,12 @@
+use mathlib.Core.Path.{sym, ap, ◌∙◌}
 use Rattle.cows.specs.Run.{adds}
-use Rattle.tally.proofs.Counting.{counts_by}
+use Rattle.cows.proofs.Basics.{same_some}
+use Rattle.proposals.specs.Proposals.{read_as}
+use Rattle.tally.specs.Counted.{tally_of}
 use Rattle.tally.proofs.counts.Goals as goal
 
-pub returns-in-Kill : goal.returns-in-Kill
-unfolding adds
-returns-in-Kill c = counts_by _ c.in-Kill.is c.counted.ensures
+pub returns-in-Some : goal.returns-in-Some
+returns-in-Some c v e = c.counts_of.ensures ∙ ap (λ x. tally_of (adds c.args.load x)) (same_some (sym (ap read_as c.in-Some.is) ∙ e))
 
-pub returns-in-Communicate : goal.returns-in-Communicate
-unfolding adds
-returns-in-Communicate c = counts_by _ c.in-Communicate.is c.counted-in-Communicate.ensures
-
-pub returns-in-Timeout : goal.returns-in-Timeout
-unfolding adds
-returns-in-Timeout c = counts_by _ c.in-Timeout.is c.counted-in-Timeout.ensures
-
-pub returns-in-Elapse : goal.returns-in-Elapse
-unfolding adds
-returns-in-Elapse c = counts_by _ c.in-Elapse.is c.counted-in-Elapse.ensures
-
-pub returns-in-Unfold : goal.returns-in-Unfold
-unfolding adds
-returns-in-Unfold c = counts_by _ c.in-Unfold.is c.counted-in-Unfold.ensures
-
-pub returns-in-Extrude : goal.returns-in-Extrude
-unfolding adds
-returns-in-Extrude c = counts_by _ c.in-Extrude.is c.counted-in-Extrude.ensures
+pub returns-in-None : goal.returns-in-None
+returns-in-None c v e = let z = sym (ap read_as c.in-None.is) ∙ e in absurd cc

@@ -1,5 +1,4 @@
-use mathlib.Core.Path.{refl, sym, ap, ◌∙◌}
-use mathlib.Core.Option.{some}
+use mathlib.Core.Path.{refl}
 use Rattle.std.proofs.lemmas.Result.{err_from_is_err_and}
 use Rattle.player.proofs.Turning.{refusal_replies, plan_replies, plan_asks, plan_accepts, unread, judged_refused, judged_accepted}
 use Rattle.ways.proofs.KnownTables.{known_of}
@@ -22,6 +21,6 @@ returns c = let k = c.copied.ensures in
     let f = c.in_ok-plan.ensures in
     record {
       read = c.in-Some.is;
-      judged = λ q h. judged_accepted q _ _ _ (plan_replies c.in-Some.m _ c.judge.ensures c.in_ok-plan.plan f q h) _ _ refl refl (k.is q.table h) k.few c.counts.ensures;
+      judged = λ q h. judged_accepted q _ _ _ (plan_replies c.in-Some.m _ c.judge.ensures c.in_ok-plan.plan f q h) _ _ refl refl (k.is q.table h) k.few (c.counts.ensures _ refl);
       asks = plan_asks c.in-Some.m _ c.judge.ensures c.in_ok-plan.plan f (known_of c.args.table.known);
     }

@@ -20,11 +20,11 @@ pub invariant_of-table : goal.invariant_of-table
 invariant_of-table c = record { known = well_formed (turn_known _ _ _ _ c.requires) }
 
 pub returns-in-Err : goal.returns-in-Err
-returns-in-Err c = moved c.read_move-m.ensures (turned_refused _ _ _ _ c.requires c.read_move-m.result c.in-Err.reply c.in-Err.ensures c.default.ensures)
+returns-in-Err c = moved c.read_move-m.ensures (rw c.accepted.ensures (turned_refused c.args.kept _ _ _ c.requires c.read_move-m.result c.in-Err.reply c.in-Err.ensures c.default.ensures))
 
-pub make-then-requires : goal.make-then-requires
-make-then-requires c = can_make _ _ _ _ c.requires c.read_move-m.result _ c.in-Ok.ensures
+pub make-next-requires : goal.make-next-requires
+make-next-requires c = can_make c.args.kept _ _ _ c.requires c.read_move-m.result _ c.in-Ok.ensures
 
 pub returns-in-Ok : goal.returns-in-Ok
 returns-in-Ok c = moved (sym (ap read_as c.in-Ok.ensures.read) ∙ c.read_move-m.ensures)
-    (rw c.accepted.ensures (turned_made _ _ _ _ c.requires c.read_move-m.result _ c.in-Ok.ensures _ _ _ _ (omega (arith, c.t-1)) (omega (arith, c.ends-1)) (omega (arith, c.to-1)) c.make-then.ensures))
+    (rw c.accepted.ensures (turned_made c.args.kept _ _ _ c.requires c.read_move-m.result _ c.in-Ok.ensures _ _ _ _ (omega (arith, c.t-1)) (omega (arith, c.ends-1)) (omega (arith, c.to-1)) c.make-next.ensures))
