@@ -13,7 +13,7 @@
 // Its line has the reply, the tally, and of the output what a step's line has.
 #![tactic(auto)]
 
-ghost use Rattle.std.specs.Prelude.{◌≤◌, ◌<◌, length};
+ghost use Rattle.std.specs.Prelude.{◌≡◌, ◌≢◌, ℕ, ◌≤◌, ◌<◌, ◌++◌, length, slice_index};
 
 use std::io;
 use std::io::{BufWriter, Read, Write};
@@ -32,16 +32,20 @@ const SMALL: usize = 4096;
 // What each byte of an output is before.
 const BEFORE: u8 = 0xaa;
 
+// The hexadecimal digits.
+static DIGITS: [u8; 16] = *b"0123456789abcdef";
+
 // The most positions of a joint step that are read.
 const MOST_PLACES: usize = 16;
 
-// What stands ahead of the first byte b and what stands behind it; all and nothing where there is none.
+// What stands ahead of the first byte b, and the rest from that byte on; all and nothing where there is none.
 fn cut(text: &[u8], b: u8) -> (&[u8], &[u8])
-    ensures first { length result.0.now ≤ length text.now }
-    ensures shorter { 0 < length text.now → length result.1.now < length text.now }
+    ensures whole { result.0.now ++ result.1.now ≡ text.now }
+    ensures before { (k : ℕ) → k < length result.0.now → slice_index result.0.now k ≢ b }
+    ensures found { 0 < length result.1.now → slice_index result.1.now 0 ≡ b }
 {
     match text.iter().position(|c| *c == b) {
-        Some(i) => (&text[..i], &text[i + 1..]),
+        Some(i) => (&text[..i], &text[i..]),
         None => (text, &[]),
     }
 }
@@ -143,13 +147,13 @@ fn spell(words: &[u8], table: &mut [u8], unit: usize) -> usize
     len
 }
 
-// The positions that words have in decimal, and how many there are.
+// The positions that words have in decimal, each behind a blank, and how many there are: an empty word is 0.
 fn spell_positions(words: &[u8], places: &mut [u16]) -> usize
     ensures { result ≤ length places.old }
 {
     let mut n = 0;
-    for word in words.split(|b| *b == b' ') {
-        if n == places.len() || word.is_empty() {
+    for word in words.split(|b| *b == b' ').skip(1) {
+        if n == places.len() {
             return n;
         }
         places[n] = atom(word);
@@ -170,11 +174,12 @@ fn print_tally(lines: &mut impl Write, t: Tally) -> io::Result<()> {
     )
 }
 
-// The first 64 bytes in hexadecimal, or all where there are fewer.
+// The first 64 bytes in hexadecimal, or all where there are fewer. Digit by digit: `{b:02x}` takes a line of a short case twice the time.
 fn print_first(lines: &mut impl Write, bytes: &[u8]) -> io::Result<()> {
-    write!(lines, " ")?;
+    lines.write_all(b" ")?;
     for b in bytes.iter().take(64) {
-        write!(lines, "{b:02x}")?;
+        let pair = [DIGITS[usize::from(*b / 16)], DIGITS[usize::from(*b % 16)]];
+        lines.write_all(&pair)?;
     }
     Ok(())
 }
@@ -230,7 +235,9 @@ fn run_step(lines: &mut impl Write, args: &[u8], table: &[u8], out: &mut [u8]) -
 fn run_play(lines: &mut impl Write, args: &[u8], table: &[u8], out: &mut [u8]) -> io::Result<()> {
     let mut moves = [0u8; LARGE];
     let mut replies = [0u8; LARGE];
-    let (room, rest) = cut(args, b' ');
+    let (room, [_, rest @ ..]) = cut(args, b' ') else {
+        return Ok(());
+    };
     let (slots, words) = cut(rest, b' ');
     let got = spell(words, &mut moves, 6);
     let (Some(out), Some(replies)) = (
@@ -262,7 +269,9 @@ fn run_translation(
     script: &[u8],
     out: &mut [u8],
 ) -> io::Result<()> {
-    let (partner, rest) = cut(args, b' ');
+    let (partner, [_, rest @ ..]) = cut(args, b' ') else {
+        return Ok(());
+    };
     let (operation, room) = cut(rest, b' ');
     let partner = atom(partner);
     let operation = atom(operation);
@@ -276,7 +285,9 @@ fn run_translation(
 
 // Ticks: the two readings, and the output's length.
 fn run_ticks(lines: &mut impl Write, args: &[u8], table: &[u8], out: &mut [u8]) -> io::Result<()> {
-    let (earlier, rest) = cut(args, b' ');
+    let (earlier, [_, rest @ ..]) = cut(args, b' ') else {
+        return Ok(());
+    };
     let (later, room) = cut(rest, b' ');
     let earlier = reading(earlier);
     let later = reading(later);
@@ -302,28 +313,28 @@ fn run_joint(lines: &mut impl Write, args: &[u8], table: &[u8], out: &mut [u8]) 
     })
 }
 
-// What a line asks of its table: what stands behind the > says it, and a line without one asks for a check.
+// What a line asks of its table: what stands behind its > says it, and a line that ends there or has none asks for a check.
 fn run_table(lines: &mut impl Write, order: &[u8], table: &[u8], out: &mut [u8]) -> io::Result<()> {
     match order {
-        [] => print_reply(lines, tables::check(table)),
-        [b' ', args @ ..] => run_step(lines, args, table, out),
-        [b'#', ..] => print_reply(lines, player::load(table)),
-        [b'?', args @ ..] => run_open(lines, args, table, out),
-        [b'!', _, args @ ..] => run_translation(lines, args, table, out),
-        [b'@', _, args @ ..] => run_ticks(lines, args, table, out),
-        [b'&', _, args @ ..] => run_joint(lines, args, table, out),
-        [_, _, args @ ..] => run_play(lines, args, table, out),
-        [_] => Ok(()),
+        [] | [_] => print_reply(lines, tables::check(table)),
+        [_, b' ', args @ ..] => run_step(lines, args, table, out),
+        [_, b'#', ..] => print_reply(lines, player::load(table)),
+        [_, b'?', args @ ..] => run_open(lines, args, table, out),
+        [_, b'!', _, args @ ..] => run_translation(lines, args, table, out),
+        [_, b'@', _, args @ ..] => run_ticks(lines, args, table, out),
+        [_, b'&', _, args @ ..] => run_joint(lines, args, table, out),
+        [_, _, _, args @ ..] => run_play(lines, args, table, out),
+        [_, _] => Ok(()),
     }
 }
 
 // One case: a line.
 fn run(lines: &mut impl Write, line: &[u8], table: &mut [u8], out: &mut [u8]) -> io::Result<()> {
-    let (spelt, order) = cut(line, b'>');
-    let (name, words) = cut(spelt, b' ');
+    let (name, rest) = cut(line, b' ');
+    let (words, order) = cut(rest, b'>');
     // How many bytes xN repeats: a script's record has 8, a table's 16.
     let unit = match order {
-        [b'!', ..] => 8,
+        [_, b'!', ..] => 8,
         _ => 16,
     };
     let len = spell(words, table, unit);
@@ -343,7 +354,10 @@ fn run_all(
     while !rest.is_empty() {
         let (line, behind) = cut(rest, b'\n');
         run(lines, line, table, out)?;
-        rest = behind;
+        rest = match behind {
+            [_, rest @ ..] => rest,
+            [] => behind,
+        };
     }
     Ok(())
 }
