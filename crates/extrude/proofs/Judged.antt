@@ -289,7 +289,8 @@ module _ (s : List ℕ) (t : Term) (a k : ℕ) (h : LiveAt s t a 8) (count : k �
           stands = delimitation_at.1;
         }
 
-    lift_is : extrude_at t a ≡ lift_at d t a
+    -- the move is what the record above it allows
+    pub lift_is : extrude_at t a ≡ lift_at d t a
     unfolding extrude_at lift_at ◌>>=◌
     lift_is = rw (delimitation-wanted, sym label_read ∙ (or_false (is_label (class_of (word s (16 * a + 2)))) (eqb k 0) e).0)
 

@@ -28,7 +28,7 @@ use Rattle.records.proofs.StandsIn.{holds_size}
 use Rattle.scopes.specs.Scopes.{open_use, strays}
 use Rattle.scopes.proofs.NextPlace.{ends_of}
 use Rattle.scopes.proofs.Uses.{place_inside, kind_here, delimitation_is, delimitation_here, endpoint_here, kill_here, none_used}
-use Rattle.ranges.specs.Lists.{Listed}
+use Rattle.ranges.specs.Lists.{Listed, Inside}
 use Rattle.ranges.specs.Ranges.{pattern_right}
 use Rattle.ranges.proofs.Lists.{listed_all}
 use Rattle.index.specs.Index.{slot_of, entry_of, Entering, OnlyEntries, HasEntry, Entered, fault_of, fault_by, Clear, Fine, UsesRight, TableLists, BlankIndex, ScopesRight}
@@ -51,11 +51,13 @@ ready s ends marks users index shift mask r b = record {
       (λ z. rw (get_or-set_other index 0 p 32767 0 z, b.empty p) (omega arith));
 }
 
--- Entering: the start, and a turn, by the code's numbers, in which the delimitation at place i of the list is entered in slot p as v.
-module _ (s ends marks index₀ : List ℕ) (shift mask : ℕ) (r : Entering s ends marks index₀ shift mask) where
-  pub enter-none : Entered s ends marks 0 index₀ shift mask
-  enter-none = record { only = λ p l. absurd (omega (arith, r.free p)); all = λ q l. absurd (omega arith) }
+-- Entering: at the start nothing is entered
+pub enter-none : (s ends marks index₀ : List ℕ) (shift mask : ℕ) → ((p : ℕ) → get_or index₀ p 0 < 65536) → Entered s ends marks 0 index₀ shift mask
+enter-none s ends marks index₀ shift mask free = record { only = λ p l. absurd (omega (arith, free p)); all = λ q l. absurd (omega arith) }
 
+-- and a turn, by the code's numbers, in which the delimitation at place i of the list is entered in slot p as v
+module _ (s ends marks : List ℕ) (shift mask : ℕ) (end : EndsFrom s ends 0) (inside : Inside s marks)
+    (kinds : (q : ℕ) → q < length marks → get_or s (16 * get_or marks q 0) 0 ≡ 8) where
   pub enter-turn : (index : List ℕ) (i p a w x v : ℕ) → i < length marks → p < length index → get_or index p 0 < 65536 → w ≡ get_or marks i 0 → x ≡ get_or marks i 0 → a ≡ word s (16 * w + 2) → p ≡ slot_of shift mask a
       → v ≡ 32768 + get_or marks i 0 + 65536 * (32768 - get_or ends x 0) + 4294967296 * a → Entered s ends marks i index shift mask → Entered s ends marks (i + 1) (set index p v) shift mask
   unfolding entry_of
@@ -64,12 +66,12 @@ module _ (s ends marks index₀ : List ℕ) (shift mask : ℕ) (r : Entering s e
       let same = get_or-set_same index p v 0 n in
       let entry : v ≡ entry_of s ends d = rw (ea, ew, ex) at ev in
       record {
-        only = λ q h. eq_case _ q p (λ z. (d, r.inside i l, r.kinds i l, rw z (same ∙ entry)))
+        only = λ q h. eq_case _ q p (λ z. (d, inside i l, kinds i l, rw z (same ∙ entry)))
             (λ z. let o = get_or-set_other index p q v 0 z in let (x, y, k, f) = e.only q (rw o at h) in (x, y, k, o ∙ f));
         all = below_more (λ q. HasEntry s ends (set index p v) shift mask (get_or marks q 0)) i
             (λ q h.
             let f = e.all q h in
-            get_or-set_other index p _ v 0 (λ z. omega (arith, ap (λ x. get_or index x 0) z, f, entry_large s ends (get_or marks q 0) r.end (r.inside q (omega arith)))) ∙ f)
+            get_or-set_other index p _ v 0 (λ z. omega (arith, ap (λ x. get_or index x 0) z, f, entry_large s ends (get_or marks q 0) end (inside q (omega arith)))) ∙ f)
             (let z : slot_of shift mask (word s (16 * d + 2)) ≡ p = rw (ea, ew) at (sym ep) in rw z (same ∙ entry));
       }
 

@@ -3,7 +3,7 @@ ghost use Rattle.std.specs.Prelude.{◌≡◌, ◌+◌, ◌-◌, ◌*◌, ◌<�
 ghost use Rattle.records.specs.Rewrites.{put};
 ghost use Rattle.renaming.specs.Bound.{first_image, takes_atom, image_atom, image_of_all, goes, record_bound, bound_records, Unchanged};
 
-use crate::fields::{AtomMap, put_mapped};
+use crate::fields::{AtomMap, ClassedMap, put_classed};
 use records::copying::{copy, copy_record, put_nil};
 use records::{Atom, Binding, Variable, atom_at, closed, image, kinds, takes_variable};
 
@@ -53,11 +53,19 @@ impl Bindings {
     }
 }
 
+impl ClassedMap for Bindings {
+    ghost map = { λ ts. image_of_all ts.0 };
+
+    fn classed(&self, a: u16) -> Atom {
+        self.image(Atom::from(a))
+    }
+}
+
 impl AtomMap for Bindings {
     ghost map = { λ ts. image_of_all ts.0 };
 
-    fn map(&self, a: u16) -> Atom {
-        self.image(Atom::from(a))
+    fn map(&self, a: u16) -> u16 {
+        u16::from(self.classed(a))
     }
 }
 
@@ -77,7 +85,7 @@ fn put_bound(s: &[u8], i: usize, b: usize, taken: &Bindings, dst: &mut [u8], at:
     if taken.removes(s, i) {
         return at;
     }
-    put_mapped(s, i, taken, dst, at);
+    put_classed(s, i, taken, dst, at);
     at + 16
 }
 

@@ -4,6 +4,8 @@
 pub mod binding;
 pub mod fields;
 pub mod names;
+#[cfg(test)]
+mod tests;
 
 ghost use Rattle.std.specs.Prelude.{◌≡◌, true, ◌+◌, ◌-◌, ◌*◌, ◌/◌, ◌<◌, ◌≤◌, length};
 ghost use Rattle.cows.specs.Terms.{Term};

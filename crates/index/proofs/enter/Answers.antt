@@ -11,7 +11,7 @@ entry-requires c = let p = c.requires in omega (arith, ends_small _ _ _ p.end (p
 pub loop-d-preserved : goal.loop-d-preserved
 loop-d-preserved c = let o = c.loop-d in (
   length-set o.slots _ _ ∙ o.invariant.0,
-  enter-turn _ _ _ _ _ _ c.requires o.slots _ _ _ _ _ _ (omega arith) (omega (arith, c.slot-p.ensures.inside, o.invariant.0, c.requires.slots.room)) (omega (arith, c.if-slots-p-gt65535.false))
+  enter-turn _ _ _ _ _ c.requires.end c.requires.inside c.requires.kinds o.slots _ _ _ _ _ _ (omega arith) (omega (arith, c.slot-p.ensures.inside, o.invariant.0, c.requires.slots.room)) (omega (arith, c.if-slots-p-gt65535.false))
       c.from.ensures c.from-in-loop-d.ensures c.word_at-a.ensures c.slot-p.ensures.is c.entry.ensures o.invariant.1,
 )
 

@@ -34,12 +34,12 @@ pub returns-then-removes : goal.returns-then-removes
 unfolding put
 returns-then-removes c = rw (bound-gone _ _ _ _ c.if-i-b.false (sym c.removes.ensures ∙ c.if-removes.true)) (refl, omega arith)
 
-pub put_mapped-requires : goal.put_mapped-requires
+pub put_classed-requires : goal.put_classed-requires
 unfolding put
-put_mapped-requires c = let p = c.requires in
+put_classed-requires c = let p = c.requires in
     (p.0, room_kept _ _ _ _ _ _ p.0 c.if-i-b.false (sym c.removes.ensures ∙ c.if-removes.false) p.1)
 
 pub returns : goal.returns
 unfolding put
 returns c = rw (bound-kept _ _ _ _ c.if-i-b.false (sym c.removes.ensures ∙ c.if-removes.false))
-    (c.put_mapped.ensures, rw (length-map_record _ _ _ c.requires.0))
+    (c.put_classed.ensures, rw (length-map_record _ _ _ c.requires.0))

@@ -9,7 +9,7 @@ pub loop-i-preserved : goal.loop-i-preserved
 loop-i-preserved c = let v = c.loop-i.invariant in
     let z = c.args in
     let n = length-map_record (named z.names.now) z.s.now (16 * c.loop-i.i) (omega arith) in
-    (omega arith, omega arith, writing_turn _ _ _ _ _ _ _ _ _ v.2 c.loop-i-test.true c.put_mapped.auto.dst c.put_mapped.ensures (omega arith))
+    (omega arith, omega arith, writing_turn _ _ _ _ _ _ _ _ _ v.2 c.loop-i-test.true c.put_classed.auto.dst c.put_classed.ensures (omega arith))
 
 pub returns : goal.returns
 returns c = (writing_end _ _ _ _ _ _ _ _ _ c.loop-i.invariant.2 c.loop-i-test.false).0
